@@ -41,7 +41,7 @@ Row = Dict[str, Any]
 PATIENCE = 2.0  # seconds for one process: then it counts as one that can't be read
 MOST = 65536  # bytes of memory, or descriptors of a set, that are read at most
 KERNEL_THREAD = 0x00200000
-KCMP_FILE, KCMP_FILES, KCMP_EPOLL = 0, 2, 7
+KCMP_FILE, KCMP_VM, KCMP_FILES, KCMP_EPOLL = 0, 1, 2, 7
 LIBC = ctypes.CDLL(None, use_errno=True)
 MAY_NOT = "it is of another user, or may not be traced" if os.geteuid() else "not even root may trace it"
 STACKS = [["eu-stack", "-i", "-s", "-p", "{}"], ["gdb", "-p", "{}", "-batch", "-ex", "thread apply all bt"]]
@@ -63,10 +63,27 @@ SHARED = " io_uring_enter 426 clone3 435 openat2 437 epoll_pwait2 441 futex_wait
 READS, WRITES = 1, 4  # POLLIN and POLLOUT
 ONESHOT = 1 << 30  # of epoll: a file that is seen once
 CARRIES, RING = "scm_fds:", "UserFiles:"  # how many files are on their way through a socket, or kept by an io_uring
+IPC = {"semop": "sem", "semtimedop": "sem", "msgsnd": "msg", "msgrcv": "msg"}  # of System V
+GETPID, NO_KEY = 11, 0
+SHELLS = ("ash", "bash", "dash", "sh")
+AT_START = re.compile(r"(^|\0)(BASH_ENV|BASH_FUNC_[^=]*)=")  # what brings a shell more text
+# What may set a trap in a script: the word, a text that is brought in, or a command that stands in a variable.
+TRAPPING = re.compile(r"\b(trap|source|eval|builtin|command|enable)\b|(^|[\s;&|({!`])\.[ \t]|"
+                      r"(^|[;&|({!`]|\b(then|do|else|elif|if|while|until|time)\b)\s*(\w+=\S*\s+)*[$`]", re.M)
+SIGNALS = "sigmask:"  # which signals a descriptor of them takes
+NO_KEYS = ("lock:", CARRIES, RING, SIGNALS)  # what of a descriptor doesn't tell its file from others
+FILE = "file"
+MAPPING = re.compile(r"^([0-9a-f]+)-([0-9a-f]+) ...([ps]) [0-9a-f]+ ([0-9a-f]+:[0-9a-f]+) (\d+) *(.*)$", re.M)
+DELETED = " (deleted)"
+NAMELESS = re.compile(r"/(dev/zero|memfd:.*) \(deleted\)")  # memory that never had a name
+SEGMENT = re.compile(r"/SYSV[0-9a-f]{8} \(deleted\)")  # memory of System V
+DESTROYED = 0o1000  # SHM_DEST: a segment that goes with the last one who has it
 PRIVATE, TID = 128, 0x3FFFFFFF  # the flag of a futex of one process alone; the bits of an owner in its word
 MAPPED = "0" * 16 + "FFFF0000"  # how an address of IPv4 begins among those of IPv6
 AT_FIRST = ("read", "write", "pread64", "pwrite64", "readv", "writev", "preadv", "pwritev", "recvfrom", "recvmsg",
-            "recvmmsg", "sendto", "sendmsg", "sendmmsg", "vmsplice", "accept", "accept4", "connect", "flock", "fcntl")
+            "recvmmsg", "sendto", "sendmsg", "sendmmsg", "vmsplice", "accept", "accept4", "connect", "flock", "fcntl",
+            "mq_timedsend", "mq_timedreceive")
+QUEUES = ("mq_timedsend", "mq_timedreceive")
 PAIRS = {"sendfile": (1, 0), "splice": (0, 2), "tee": (0, 1)}  # which arguments are descriptors: from, to
 EPOLLS = ("epoll_wait", "epoll_pwait", "epoll_pwait2")
 
@@ -167,7 +184,7 @@ def set_of(call: str, args: List[int], memory: Memory) -> Optional[List[List[int
     if call in PAIRS:
         source, target = PAIRS[call]
         return [[int32(args[source]), READS], [int32(args[target]), WRITES]]
-    way = WRITES if call.startswith(("write", "pwrite", "send")) else READS
+    way = WRITES if call.startswith(("write", "pwrite", "send", "mq_timedsend")) else READS
     return [[int32(args[0]), way]] if call in AT_FIRST else None
 
 
@@ -218,6 +235,11 @@ def besides(call: str, args: List[int], memory: Memory) -> Row:
     if call == "fcntl":
         data = memory.read(args[2], 24)
         return {"range": list(struct.unpack("=hhxxxxqq", data))} if len(data) == 24 else {}
+    if call in IPC:
+        return ipc_of(IPC[call], int32(args[0]), memory.folder)
+    if call == "rt_sigtimedwait":
+        data = memory.read(args[0], 8)
+        return {"mask": f"{int.from_bytes(data, sys.byteorder):x}"} if len(data) == 8 else {}
     if call in ("sendmsg", "sendmmsg"):
         return {"addressed": call == "sendmmsg" or memory.read(args[1], 8) != bytes(8)}
     if call in ("open", "openat", "openat2"):
@@ -228,6 +250,26 @@ def besides(call: str, args: List[int], memory: Memory) -> Row:
         path = {"path": memory.text(args[1] + 2) or "@" + memory.text(args[1] + 3)} if is_unix else {}
         return {"family": family, **path}
     return {}
+
+
+def ipc_of(kind: str, number: int, folder: str) -> Row:
+    """Returns the key of a set of semaphores, or of a queue of messages, who has used it last, and when it was made, or
+    changed since."""
+    if try_link(f"{folder}/ns/ipc") != try_link("/proc/self/ns/ipc"):
+        return {}
+    rows = (line.split() for line in try_lines(f"/proc/sysvipc/{kind}")[1:])
+    row = next((words for words in rows if int(words[1]) == number), None)
+    if row is None:
+        return {}
+    users = [int(it) for it in row[5:7]] if kind == "msg" else [
+        LIBC.semctl(number, at, GETPID) for at in range(min(int(row[3]), MOST))]
+    return {"key": int(row[0]), "users": sorted({it for it in users if it > 0}), "changed": ticks_of(int(row[-1]))}
+
+
+def ticks_of(moment: int) -> int:
+    """Returns a time of the clock as the kernel counts when a process began."""
+    booted = next((int(line.split()[1]) for line in try_lines("/proc/stat") if line.startswith("btime ")), 0)
+    return (moment - booted) * os.sysconf("SC_CLK_TCK")
 
 
 # A process
@@ -249,7 +291,8 @@ class Machine:
             return row
         if row["state"] in "ZX" and len(os.listdir(f"/proc/{pid}/task")) == 1:
             return {**row, "fds": {}, "threads": [{"tid": pid, "state": row["state"]}]}
-        living = f"/proc/{pid}" if row["state"] not in "ZX" else f"/proc/{pid}/task/{living_thread(pid)}"
+        row["living"] = pid if row["state"] not in "ZX" else living_thread(pid)
+        living = f"/proc/{pid}" if row["living"] == pid else f"/proc/{pid}/task/{row['living']}"
         memory = Memory(living)
         try:
             row["net"], row["exe"] = try_link(f"{living}/ns/net")[5:-1], try_link(f"{living}/exe")
@@ -257,6 +300,7 @@ class Machine:
             row["timers"] = bool(try_slurp(f"/proc/{pid}/timers"))
             row["threads"] = list(self.threads(pid, memory))
             row.update(runtime_of(living, row))
+            row.update(traps_of(living, row))
             row.update(aio_of(living, row))
             if any(has_own_files(living, it["tid"]) for it in row["threads"] if it["state"] not in "ZX"):
                 row["unreadable"] = "a thread of it has descriptors of its own"
@@ -273,8 +317,9 @@ class Machine:
         if int(words[6]) & KERNEL_THREAD:
             return None
         command = try_slurp(f"/proc/{pid}/cmdline").rstrip("\0").replace("\0", " ")
-        row: Row = {"pid": pid, "ppid": int(words[1]), "group": int(words[2]), "start": int(words[19]),
-                    "state": words[0], "comm": head.partition("(")[2], "command": command[:500]}
+        row: Row = {"pid": pid, "ppid": int(words[1]), "group": int(words[2]), "session": int(words[3]),
+                    "start": int(words[19]), "state": words[0], "comm": head.partition("(")[2],
+                    "command": command[:500]}
         status = slurp(f"/proc/{pid}/status")
         row.update({name: field(status, name) for name in ("TracerPid", "SigCgt", "SigIgn")})
         row.update({name: field(status, name) for name in ("NSpid", "NSpgid") if "\t" in field(status, name)})
@@ -286,7 +331,7 @@ class Machine:
         row = self.base(os.getpid())
         assert row is not None
         files = {fd: it for fd, it in self.descriptors("/proc/self") if fd in "012"}
-        return {**row, "fds": files, "threads": [{"tid": os.getpid(), "state": "R"}]}
+        return {**row, "fds": files, "threads": [{"tid": os.getpid(), "state": "R"}], "collects": True}
 
     def descriptors(self, folder: str) -> Iterator[Tuple[str, List[str]]]:
         """Yields each descriptor: what it is, how it is open, and what more tells its file from others."""
@@ -299,11 +344,11 @@ class Machine:
                 if target == "anon_inode:[eventpoll]":
                     self.epolls.append(Descriptor(folder, int(fd), it))
                 elif target.startswith(("anon_inode:[", "pidfd:[")):
-                    more = lines_of(f"{folder}/fdinfo/{fd}", ("eventfd-id:", "Pid:", "it_value:", RING))
+                    more = lines_of(f"{folder}/fdinfo/{fd}", ("eventfd-id:", "Pid:", "it_value:", RING, SIGNALS))
                     it += [line for line in more if line != f"{RING} 0"]
                 elif target.startswith("socket:["):
                     it += [line for line in lines_of(f"{folder}/fdinfo/{fd}", (CARRIES,)) if line != f"{CARRIES} 0"]
-                elif target.startswith("/") and not target.startswith(("/dev/", "/proc/", "/sys/")):
+                elif target.startswith("/") and not target.startswith(("/proc/", "/sys/")):
                     self.add_file(Descriptor(folder, int(fd), it), os.stat(path))
                 yield fd, it
 
@@ -316,15 +361,40 @@ class Machine:
 
     def add_locks(self, rows: List[Row]) -> None:
         """Adds the locks of each file at whose lock a thread waits, to all that have it open."""
+        for them in self.waited(rows, ("flock", "fcntl"), "file"):
+            for it in them:
+                with contextlib.suppress(OSError):
+                    it.words += lines_of(f"{it.folder}/fdinfo/{it.fd}", ("lock:",))
+            name_open_files(them)
+
+    def add_queues(self, rows: List[Row]) -> None:
+        """Tells the queues of messages at which threads wait from others, for all that have them open."""
+        for _ in self.waited(rows, QUEUES, "queue"):
+            pass
+
+    def waited(self, rows: List[Row], calls: Tuple[str, ...], kind: str) -> Iterator[List["Descriptor"]]:
+        """Yields the descriptors of each file at which a thread waits in one of some calls, once these are told."""
         waited = {id(row["fds"].get(str(fd))) for row in rows for thread in row.get("threads", ())
-                  if thread.get("call") in ("flock", "fcntl") for fd, _ in thread["set"]}
+                  if thread.get("call") in calls for fd, _ in thread["set"]}
         for (device, number), them in self.files.items():
             if any(id(it.words) in waited for it in them):
                 for it in them:
-                    it.words.append(f"file {device:x}:{number}")
-                    with contextlib.suppress(OSError):
-                        it.words += lines_of(f"{it.folder}/fdinfo/{it.fd}", ("lock:",))
-                name_open_files(them)
+                    it.words.append(f"{kind} {device:x}:{number}")
+                yield them
+
+    def add_memory(self, rows: List[Row]) -> None:
+        """Adds of each thread at a futex which memory that is of, and who has this too: it alone may wake the thread.
+        """
+        names = {row["pid"]: {*names_of_memory(row)} for row in rows if "threads" in row}
+        wanted = {name for some in names.values() for name in some}
+        for row in rows if wanted else ():
+            for name in wanted & shared_memory(row.get("living", row["pid"])):
+                row.get("fds", {})[name] = ["memory", "rw", name]
+        for (device, number), them in self.files.items():
+            name = f"memory {os.major(device):02x}:{os.minor(device):02x} {number}"
+            if name in wanted:  # (who has it open may map it)
+                for it in them:
+                    it.words.append(name)
 
     def threads(self, pid: int, memory: Memory) -> Iterator[Row]:
         for tid in os.listdir(f"/proc/{pid}/task"):
@@ -337,7 +407,7 @@ class Machine:
         status = slurp(f"{folder}/status")
         row: Row = {"tid": tid, "state": field(status, "State")[:1]}
         pending = int(field(status, "SigPnd"), 16) | int(field(status, "ShdPnd"), 16)
-        row["pending"] = bool(pending & ~int(field(status, "SigBlk"), 16))
+        row["pending"] = bool(pending & ~int(field(status, "SigBlk"), 16)) or field(status, "CoreDumping") == "1"
         numbers = field(status, "NSpid").split()
         if numbers[1:]:
             row["inner"] = int(numbers[-1])  # its number in its own container
@@ -359,6 +429,69 @@ class Machine:
         row["wchan"] = try_slurp(f"{folder}/wchan")
         row["counts"] = [int(field(it, "voluntary_ctxt_switches")) for it in (status, slurp(f"{folder}/status"))]
         return row
+
+
+def names_of_memory(row: Row) -> Iterator[str]:
+    """Notes of each thread of a process at a futex which memory that is of. Yields what several processes may have."""
+    maps: Optional[List[Tuple[int, int, str]]] = None
+    for thread in row["threads"]:
+        if thread.get("call") == "futex":
+            address, is_own = int(thread["args"][0], 16), int(thread["args"][1], 16) & PRIVATE
+            maps = mappings(row["living"]) if maps is None and not is_own else maps
+            name = "" if is_own else next((name for first, last, name in maps or () if first <= address < last), FILE)
+            if name != FILE:
+                thread["memory"] = name
+                yield from filter(None, [name])
+
+
+def mappings(pid: int) -> List[Tuple[int, int, str]]:
+    """Returns where memory of a process begins and ends, with a name of what other processes may have too. Who has a
+    file isn't known, as anybody may open it, and pages of it are shared too where a process has it for itself."""
+    try:
+        found = MAPPING.findall(whole(f"/proc/{pid}/maps"))
+    except OSError:
+        return []
+    return [(int(first, 16), int(last, 16), "" if (way, number) == ("p", "0") else
+             f"memory {device} {number}" if way == "s" and is_nameless(pid, f"{first}-{last}", path, int(number))
+             else FILE) for first, last, way, device, number, path in found]
+
+
+def is_nameless(pid: int, place: str, path: str, number: int) -> bool:
+    """Whether nobody can open what a process has mapped by a name. One name may be gone and another one still be there:
+    so it is with a semaphore that `sem_open` has made. Memory of System V anybody may attach by its number or key until
+    it is destroyed."""
+    if SEGMENT.fullmatch(path):
+        return is_destroyed(pid, number)
+    with contextlib.suppress(OSError):
+        return bool(NAMELESS.fullmatch(path)) or (
+            path.endswith(DELETED) and os.stat(f"/proc/{pid}/map_files/{place}").st_nlink == 0)
+    return False
+
+
+def is_destroyed(pid: int, number: int) -> bool:
+    """Whether a segment of System V that a process has is destroyed. The number of its file is that of the segment."""
+    if try_link(f"/proc/{pid}/ns/ipc") != try_link("/proc/self/ns/ipc"):
+        return False
+    rows = (line.split() for line in try_lines("/proc/sysvipc/shm")[1:])
+    return any(int(words[1]) == number and int(words[2], 8) & DESTROYED for words in rows)
+
+
+def shared_memory(pid: int) -> Set[str]:
+    """Returns the names of the memory of a process that others may have too."""
+    return {name for _, _, name in mappings(pid)} - {"", FILE}
+
+
+def add_kin(rows: List[Row]) -> None:
+    """Adds to each process with a thread at a futex those that have all its memory, as one that was made by vfork. They
+    run the same program. Where the kernel doesn't say so, nothing is known of any."""
+    programs: Dict[str, List[Row]] = {}
+    for row in rows:
+        programs.setdefault(row.get("exe", ""), []).append(row)
+    for row in rows:
+        pid = row.get("living", 0)
+        if any("memory" in it for it in row.get("threads", ())) and kcmp(pid, pid, KCMP_VM) == 0:
+            row["kin"] = [it["pid"] for it in programs[row["exe"]]
+                          if it is not row and kcmp(pid, it.get("living", 0), KCMP_VM) == 0]
 
 
 def living_thread(pid: int) -> int:
@@ -408,9 +541,8 @@ def name_open_files(them: List[Descriptor]) -> None:
 
 
 def aio_of(folder: str, row: Row) -> Row:
-    """Returns whether requests of a process (io_submit) may make the kernel write to an eventfd at which it waits."""
-    waited = {str(fd) for thread in row["threads"] for fd, *_ in thread.get("set", ())}
-    if not any(it[0] == "anon_inode:[eventfd]" for fd, it in row["fds"].items() if fd in waited):
+    """Returns whether requests of a process (io_submit) may make the kernel write to an eventfd that it has."""
+    if not any(it[0] == "anon_inode:[eventfd]" for it in row["fds"].values()):
         return {}
     return {"aio": True} if "/[aio]" in whole(f"{folder}/maps") else {}
 
@@ -427,6 +559,36 @@ def runtime_of(folder: str, row: Row) -> Row:
         with open(f"{folder}/exe", "rb") as file:
             return {"runtime": "go"} if b"\0Go\0\0" in file.read(8192) else {}
     return {}
+
+
+def traps_of(folder: str, row: Row) -> Row:
+    """Returns whether a shell may have a `trap`: whether its script or its command line has that word, or one that
+    brings in other text. Where it has read more than these, that isn't known."""
+    words = slurp(f"{folder}/cmdline").rstrip("\0").split("\0")
+    if row["exe"].rpartition("/")[2] not in SHELLS or has_read_more(words, whole(f"{folder}/environ")):
+        return {}
+    first = next((at for at, word in enumerate(words[1:], 1) if not word.startswith("-")), 0)
+    if any("c" in word and not word.startswith("--") for word in words[1:first]):
+        return {"traps": has_trap("\n".join(words))}
+    # Its script stays open at one of two descriptors.
+    there = [row["fds"][fd][0] for fd in ("255", "10") if fd in row["fds"]]
+    path = next((it for it in there if first and os.path.basename(it) == os.path.basename(words[first])), "")
+    with contextlib.suppress(OSError):
+        if path and stat.S_ISREG(os.stat(f"{folder}/root{path}").st_mode):
+            text = slurp(f"{folder}/root{path}")
+            return {"traps": len(text.encode()) >= MOST or has_trap("\n".join([*words, text]))}
+    return {}
+
+
+def has_read_more(words: List[str], environment: str) -> bool:
+    """Whether a shell has read files at its start, as at a login, or has been given functions."""
+    options = [word for word in words[1:] if word.startswith("-")]
+    is_told = any(re.match(r"-[a-zA-Z]*[il]|--(login|rcfile|init-file)", word) for word in options)
+    return is_told or words[0].startswith("-") or AT_START.search(environment) is not None
+
+
+def has_trap(text: str) -> bool:
+    return TRAPPING.search(re.sub(r"\\\n|[\\'\"]", "", text)) is not None
 
 
 class Reader:
@@ -599,6 +761,9 @@ class Reading:
         machine = Machine()
         rows = [*read_all(machine, pids), machine.itself()]
         machine.add_locks(rows)
+        machine.add_queues(rows)
+        machine.add_memory(rows)
+        add_kin(rows)
         name_open_files(machine.epolls)
         self.rows = {row["pid"]: row for row in rows}
         self.sockets = Sockets(rows)
@@ -625,6 +790,25 @@ class Reading:
                 left += self.children.get(pid, ())
         return found
 
+    def rows_of(self, pids: Iterable[int]) -> List[Row]:
+        return [self.rows[pid] for pid in pids if pid in self.rows]
+
+    def top(self, row: Row) -> int:
+        """Returns the highest process above one whose session or program is that of the one below it."""
+        while True:
+            above = self.rows.get(row["ppid"], {})
+            if not any(row.get(name, "") == above.get(name) for name in ("session", "exe")):
+                return int(row["pid"])
+            row = above
+
+    def later_branches(self, pid: int) -> Set[int]:
+        """Returns the children of those above a process that began after it: one may be an orphan of those below it."""
+        start, found = self.rows[pid]["start"], set()
+        while pid in self.rows:
+            pid = self.rows[pid]["ppid"]
+            found |= {it for it in self.children.get(pid, ()) if self.rows[it].get("start", start) >= start}
+        return found
+
     def carriers(self) -> Set[int]:
         """Returns the processes that may have a file which no descriptor shows: on its way, or used by an io_uring."""
         return {row["pid"] for row in self.rows.values() if any(map(may_carry, row.get("fds", {}).values()))}
@@ -634,9 +818,12 @@ class Reading:
         row = self.rows.get(pid)
         if row is None:
             return set()
-        found = self.children.get(pid, set()) | {int(row.get("TracerPid", "0"))}
+        found = self.children.get(pid, set()) | {int(row.get("TracerPid", "0")), *row.get("kin", ())}
         for thread in row.get("threads", ()):
             found = found | self.threads.get(owner_of(thread), set())
+            if thread.get("key") == NO_KEY:
+                tops = {self.top(it) for it in [row, *self.rows_of(thread["users"])]}
+                found = found | self.tree(tops.union(*map(self.later_branches, tops)))
             for key in self.keys_of_wait(row, thread):
                 found = found | self.holders.get(key, set())
         return found
@@ -653,6 +840,8 @@ class Reading:
             yield from keys_of_file(it)
         if thread.get("call") in EPOLLS:
             yield from keys_of_file(row["fds"].get(str(int32(int(thread["args"][0], 16))), ()))
+        if thread.get("memory"):
+            yield thread["memory"]
         if thread.get("call") == "connect":
             for inode in self.sockets.names.get((row["net"], thread.get("path", "")), ()):
                 yield f"socket:[{inode}]"
@@ -679,7 +868,7 @@ class Reading:
         yield from ({**row, "command": "", "apart": True} for row in missing)
         for row in rows:
             wanted = {fd for thread in row.get("threads", ()) for fd, *_ in thread.get("set", ())}
-            files = {fd: it for fd, it in row.get("fds", {}).items() if int(fd) in wanted or is_shared(it)}
+            files = {fd: it for fd, it in row.get("fds", {}).items() if is_shared(it) or int(fd) in wanted}
             yield {**row, "fds": files} if "fds" in row else row
         for inode in sorted(numbers & self.sockets.rows.keys()):
             yield {"socket": inode, **self.sockets.rows[inode]}
@@ -696,7 +885,7 @@ def keys_of(row: Row) -> Iterator[str]:
 
 
 def keys_of_file(it: Sequence[str]) -> Iterator[str]:
-    yield from (more for more in it[2:] if not more.startswith(("lock:", CARRIES, RING)))
+    yield from (more for more in it[2:] if not more.startswith(NO_KEYS))
     if it and it[0].startswith(("pipe:[", "socket:[")):
         yield it[0]
 

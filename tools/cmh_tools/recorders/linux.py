@@ -20,14 +20,14 @@ from .linux_stacks import BARRIER, STACK, add_stacks, ends_of_futex, hint, meeti
 from .linux_text import ENDED as GONE
 from .linux_text import READS, WRITES, Machine, Owner, Row, Thread, readings_of, rows_of
 from .linux_unread import Branches
-from .linux_waits import (ACCEPTS, CONNECTS, EPOLLS, FIFO, FILES, FOR_SIGNALS, FORKS, FRONT, GROUP, MOVES, OPENS, PIPE,
-                          READ, REMOTE, RESTS, SETS, SIGCHLD, SIGINT, SLEEPS, SUSPENDS, UNTIMED, WRITE, Ends, choice_of,
-                          ends_of, ends_of_connect, ends_of_set, ends_of_wait, has_limit, int32, note_of, only_sleeps,
-                          threads_of, timed_parents)
+from .linux_waits import (ACCEPTS, CONNECTS, ENDING, EPOLLS, FIFO, FILES, FOR_SIGNALS, FORKS, FRONT, GROUP, IPC,
+                          KEYLESS, MEMORY, MOVES, OPENS, PIPE, QUEUE, QUEUES, READ, REMOTE, RESTS, SETS, SIGCHLD,
+                          SIGINT, SLEEPS, SUSPENDS, TRAPS, UNTIMED, WRITE, Ends, choice_of, ends_of, ends_of_connect,
+                          ends_of_ipc, ends_of_set, ends_of_signals, ends_of_wait, has_limit, int32, is_shell, note_of,
+                          only_sleeps, threads_of, timed_parents)
 
 SIGNALS_OF_KERNEL = {14: "SIGALRM", 29: "SIGIO"}  # which come unseen: an alarm, an event at a descriptor
 NO_FACT = ", and no fact on its place decides that"
-ENDING = (1, 2, 3, 13, 15, SIGCHLD)  # the end of a child, and signals that end a process, which nobody kills
 OWN_THREADS = ("erlang", "go", "jvm", "mpi")  # whose runtimes have threads that are none of the job's
 SIGNALS, OUTSIDE, ABOVE, MADE = "signals", "outside", "above", "made"
 UNREADABLE = "unreadable"  # the frame of a process that can't be read, by which facts decide it
@@ -87,6 +87,11 @@ class LinuxRecorder(Recorder):
         ABOVE: Premise("nobody from whom a process descends ends it", timer_above),
         PIPE: Premise("nobody opens a pipe anew by its name in /proc, as /proc/PID/fd/1"),
         FIFO: Premise("nobody else opens the FIFO"),
+        QUEUE: Premise("nobody else opens the queue of messages"),
+        TRAPS: Premise("a `trap` of a shell stands in its script"),
+        MEMORY: Premise("nobody else maps memory that some processes share"),
+        KEYLESS: Premise("a set of semaphores or a queue of messages without a key is used by those alone that descend "
+                         "from the one that made it, which is of the session or the program of one who uses it"),
         GROUP: Premise("no other child joins the group for which one waits"),
         FRONT: Premise("a shell has started in the background who ignores SIGINT, and waits for the one that doesn't"),
         RESTS: Premise("the program `sleep` only sleeps: it neither reads, writes nor unlocks what it has inherited"),
@@ -188,6 +193,7 @@ class LinuxRecorder(Recorder):
             ends.why, ends.runs, more["count"] = ends.why or "it woke while it was read", "", None
         more["operation"] = thread.call if ends.operation.endswith(" of") else ends.operation or thread.call
         more["note"] = whole_note(thread, ends)
+        ends.premises += [TRAPS] if reaps_alone(thread) and not ends.runs else []
         because = [premise(it) for it in ends.premises]
         if ends.runs and system_of(thread) in OWN_THREADS and (LIMIT in ends.premises or thread.call in EPOLLS):
             ends.why, ends.runs = f"it waits for all of its runtime{hint(thread)}", ""
@@ -197,6 +203,7 @@ class LinuxRecorder(Recorder):
         if ends.operation == BARRIER:
             more.update(is_collective=True, meeting=meeting_of(thread), proposal="all")
         if ends.why:
+            more.update(self.bound_of(thread, moment, ends))
             return unknown(name, ends.why, **{"proposal": "outside" if thread.call in FOR_SIGNALS else "any", **more})
         because += [SYSTEM, premise(SIGNALS), premise(ABOVE)]
         because += [premise(OUTSIDE)] if self.outside == "container" and not ends.is_exact else []
@@ -209,6 +216,19 @@ class LinuxRecorder(Recorder):
                                            (it in self.unseen or not ends.is_exact)]
         make = waits_for_all if ends.needs_all or ends.choice else waits_for_any
         return make(name, whom, because, **more)
+
+    def bound_of(self, thread: Thread, moment: Computer, ends: Ends) -> Dict[str, Any]:
+        """Returns who may end a wait at most, where that is known and not which of them does, and on what that rests.
+        """
+        if ends.bound is None or signal_of(thread, moment) or timer_above(thread, moment):
+            return {}
+        strangers = [] if ends.is_exact else self.strangers(thread, moment)
+        more = [] if ends.is_exact else [*ends.premises, *([OUTSIDE] if self.outside == "container" else []),
+                                         *([MADE] if len(strangers) < len(self.unread) else [])]
+        others = timed_parents(moment.machine, thread.owner)
+        others += [] if ends.is_exact else threads_of(moment.machine.carriers, thread, False)
+        whom = [*(it.name for it in [*ends.bound, *others]), *strangers]
+        return {"bound": list(dict.fromkeys(whom)), "bound_by": list(map(premise, [SIGNALS, ABOVE, *more]))}
 
     def strangers(self, thread: Thread, moment: Computer) -> List[str]:
         """Returns the names of those that can't be read, and may have a file at which a thread waits."""
@@ -225,7 +245,7 @@ class LinuxRecorder(Recorder):
             more += threads_of(moment.machine.carriers, thread, False)
             besides += strangers if are_all else []
             whom += [] if are_all else strangers
-        if thread.owner.catches(SIGCHLD) and FRONT not in ends.premises:  # (else it waits again for the same one)
+        if thread.owner.catches(SIGCHLD) and not {FRONT, TRAPS} & {*ends.premises}:  # (else it waits on for the same)
             more += threads_of(moment.machine.children(thread.owner.pid), thread, False)
         unseen = unseen_signals(thread.owner)
         self.unseen.update(unseen)
@@ -237,6 +257,12 @@ def needs_all_likely(thread: Thread, ends: Ends) -> bool:
     shell without job control waits for those in the background by `wait`, which they show: they ignore SIGINT."""
     is_lock = thread.call not in ("wait4", "waitid", *SUSPENDS)
     return is_lock or not thread.owner.ignores(SIGINT) and all(it.owner.ignores(SIGINT) for it in ends.whom)
+
+
+def reaps_alone(thread: Thread) -> bool:
+    """Whether a process is a shell that does nothing at the end of a child but note that: its script has no `trap`."""
+    is_single = thread.call in (*READ, *WRITE, "flock") and thread.owner.catches(SIGCHLD)
+    return is_single and is_shell(thread.owner) and thread.owner.row.get("traps") is False
 
 
 def time_of(row: Row) -> Optional[Tuple[float, float]]:
@@ -322,6 +348,12 @@ def ends_of_call(machine: Machine, thread: Thread) -> Ends:
         return ends_of_lock(machine, thread)
     if call in ACCEPTS:
         return ends_of(machine, thread, int32(thread.arguments[0]), READS)
+    if call in IPC:
+        return ends_of_ipc(machine, thread)
+    if call in QUEUES:
+        return ends_of(machine, thread, int32(thread.arguments[0]), WRITES if call == QUEUES[0] else READS)
+    if call == "rt_sigtimedwait" and "mask" in thread.row:
+        return ends_of_signals(machine, thread, int(thread.row["mask"], 16))
     if call == "connect":
         return ends_of_connect(machine, thread)
     if call in OPENS:

@@ -10,7 +10,7 @@ from typing import Dict, Iterable, List, Optional, Tuple
 
 from ..sketch import frame
 from .linux_text import ENDED, Machine, Row, Thread
-from .linux_waits import Ends, int32
+from .linux_waits import MEMORY, SIGCHLD, Ends, int32, is_called, threads_of
 
 STACK = "stack"
 TID = re.compile(r"^(?:TID (\d+):|Thread \d+ \(.*?LWP (\d+)\).*)$")
@@ -88,6 +88,31 @@ def operation_of(thread: Thread) -> str:
 
 
 def ends_of_futex(machine: Machine, thread: Thread) -> Ends:
+    """Returns whom a thread at a futex waits for, and else who may wake it at most."""
+    ends = owner_of_futex(machine, thread)
+    if ends.why and int32(thread.arguments[1]) & OPERATION in (*WAITS, *LOCKS):
+        ends.bound, ends.is_exact = wakers(machine, thread), not thread.row.get("memory")
+        ends.premises = [] if ends.is_exact else [MEMORY]
+    return ends
+
+
+def wakers(machine: Machine, thread: Thread) -> Optional[List[Thread]]:
+    """Returns all who may wake a thread at a futex: those that have its memory. That is None where they aren't known,
+    or where one of them has a handler for a signal from outside, which may wake it."""
+    owners = [thread.owner, *(machine.by_pid.get(pid) for pid in thread.owner.row.get("kin", ()))]
+    name = thread.row.get("memory")
+    owners += machine.with_file(name) if name else []
+    some = list(dict.fromkeys(it for it in owners if it is not None))
+    if name is None or "kin" not in thread.owner.row or None in owners or any(map(is_called, some)):
+        return None
+    some += [it for owner in some if owner.catches(SIGCHLD) for it in machine.children(owner.pid)]
+    tracers = {owner.tracer for owner in some} - {0}
+    some += [machine.by_pid[pid] for pid in tracers if pid in machine.by_pid]  # (who traces one can write its memory)
+    is_known = tracers <= machine.by_pid.keys() and not any(it.why for it in some)
+    return threads_of(list(dict.fromkeys(some)), thread, False) if is_known else None
+
+
+def owner_of_futex(machine: Machine, thread: Thread) -> Ends:
     """Returns whom a thread at a futex waits for, if its stack says of what the futex is, or if the kernel keeps that.
     """
     word = f"{thread.arguments[0]:#x}"

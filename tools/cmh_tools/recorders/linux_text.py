@@ -17,14 +17,18 @@ VERSION = 1
 EXPECTED = "lines of cmh_linux.py are expected, as `cmh-dump linux --pid PID --save STATE` keeps them"
 READS, WRITES = 1, 4  # the events of poll for what can be read and what can be written
 CARRIES, RING = "scm_fds:", "UserFiles:"  # a socket with descriptors on their way, an io_uring that keeps files
+SIGMASK = "sigmask:"  # which signals a descriptor of them takes
+NO_KEYS = ("lock:", CARRIES, RING, SIGMASK)  # what of a descriptor doesn't tell its file from others
 OPEN = "open "  # how the name of an open file begins, which several descriptors may share
 ENDED = "ZX"  # the states of those that have ended
 HEX = re.compile(r"(0x)?[0-9a-f]{1,16}")
 THREAD = {"tid": int, "state": str, "inner?": int, "comm?": str, "call?": str, "args?": [HEX] * 6,
           "counts?": [int, int], "set?": [[int]], "words?": re.compile("([0-9a-f]{2})*"), "range?": [int] * 4,
-          "path?": str, "wchan?": str}
-OWNER = {"pid": int, "ppid?": int, "comm": str, "group?": int, "TracerPid?": re.compile(r"\d{1,9}"), "SigCgt?": HEX,
-         "fds?": {str: [str]}, "threads?": [THREAD]}
+          "path?": str, "wchan?": str, "memory?": str, "mask?": HEX, "key?": int, "users?": [int],
+          "changed?": int}
+OWNER = {"pid": int, "ppid?": int, "comm": str, "group?": int, "session?": int,
+         "exe?": str, "TracerPid?": re.compile(r"\d{1,9}"), "SigCgt?": HEX,
+         "fds?": {str: [str]}, "threads?": [THREAD], "kin?": [int], "traps?": bool, "collects?": bool}
 SOCKET = {"socket": int, "kind": str, "state": str, "at": str, "to": str, "peers": [int]}
 SHAPES = {"pid": OWNER, "socket": SOCKET, "listening": {"listening": {str: [int]}}, "warnings": {"warnings": [str]},
           "parents": {"parents": {str: [int, int]}}, "stacks": {"stacks": int, "still": {str: [str]}, "text": str},
@@ -153,6 +157,16 @@ class Machine:
             new = {it.pid for it in some}
         return found
 
+    def later_branches(self, owner: Owner) -> List[Owner]:
+        """Returns the children of those above a process that began after it: one may be an orphan of those below it."""
+        above, at = [], owner.pid
+        while at in self.parents and at not in above:
+            at = self.parents[at][0]
+            above.append(at)
+        start = self.parents.get(owner.pid, (0, 0))[1]
+        later = (it for it in self.owners if it.parent in above and int(it.row.get("start", start)) >= start)
+        return [it for it in later if not it.row.get("collects")]
+
     def above(self, owner: Owner) -> List[Owner]:
         """Returns the parent of a process, and its, and so on."""
         found: List[Owner] = []
@@ -172,7 +186,7 @@ def keys_of(it: List[str]) -> Iterator[str]:
     """
     if it[0].startswith(("pipe:[", "socket:[")):
         yield it[0]
-    yield from (more for more in it[2:] if not more.startswith(("lock:", CARRIES, RING)))
+    yield from (more for more in it[2:] if not more.startswith(NO_KEYS))
 
 
 def rows_of(text: str, path: str) -> List[Row]:

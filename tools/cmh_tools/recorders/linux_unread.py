@@ -10,7 +10,9 @@ from __future__ import annotations
 from typing import Dict, Iterator, List, Optional, Set, Tuple
 
 from .linux_text import Machine, Owner, Thread, keys_of
-from .linux_waits import EPOLLS, int32
+from .linux_waits import EPOLLS, IPC, int32, tops_of
+
+BELOW = "below "  # what stands for whatever is used below a process
 
 
 class Branches:
@@ -31,6 +33,8 @@ class Branches:
 
     def root_of(self, key: str) -> Optional[int]:
         """Returns the lowest process from which all descend that have a file, if that can be read and hasn't got it."""
+        if key.startswith(BELOW):
+            return int(key[len(BELOW):])
         if key not in self.roots:
             holders = {it.pid for it in self.machine.with_file(key)}
             above = [self.above(pid) for pid in holders]
@@ -78,7 +82,13 @@ class Branches:
 
 
 def keys_of_wait(machine: Machine, thread: Thread) -> Iterator[str]:
-    """Yields what tells the files at which a thread waits, and their other ends, from others."""
+    """Yields what tells the files or the memory at which a thread waits, and their other ends, from others."""
+    if thread.call in IPC:
+        yield from (f"{BELOW}{top.pid}" for top in tops_of(machine, thread))
+        return
+    if thread.call == "futex":
+        yield from filter(None, [thread.row.get("memory")])
+        return
     for fd, *_ in thread.events or [[int32(thread.arguments[0])]]:
         yield from keys_with_peers(machine, thread.owner.files.get(str(fd), []))
     if thread.call in EPOLLS:

@@ -3,12 +3,13 @@ from __future__ import annotations
 
 import ctypes
 from dataclasses import dataclass, field
-from typing import List, Sequence, Tuple
+from typing import List, Optional, Sequence, Tuple
 
 from ..sketch import LIMIT
-from .linux_text import OPEN, READS, WRITES, Machine, Owner, Row, Thread, some_names
+from .linux_text import OPEN, READS, SIGMASK, WRITES, Machine, Owner, Row, Thread, some_names
 
 FILES, PIPE, FIFO, REMOTE, UNTIMED, GROUP = "files", "pipe", "fifo", "remote", "untimed", "group"
+QUEUE, MEMORY, TRAPS, KEYLESS = "queue", "memory", "traps", "keyless"
 RESTS, FRONT = "sleep", "foreground"
 READ = ("read", "readv", "pread64", "preadv", "recvfrom", "recvmsg", "recvmmsg")
 SEND = ("sendto", "sendmsg", "sendmmsg")
@@ -23,6 +24,8 @@ OPENS = ("open", "openat", "openat2")
 FORKS = ("clone", "clone3", "fork", "vfork")
 SUSPENDS = ("pause", "rt_sigsuspend")
 FOR_SIGNALS = (*SUSPENDS, "rt_sigtimedwait")
+QUEUES = ("mq_timedsend", "mq_timedreceive")
+IPC = ("semop", "semtimedop", "msgsnd", "msgrcv")  # of System V
 LIMITS = {"poll": 2, "ppoll": 2, "select": 4, "pselect6": 4, "epoll_wait": 3, "epoll_pwait": 3, "epoll_pwait2": 3,
           "futex": 3, "rt_sigtimedwait": 2, "semtimedop": 3, "mq_timedsend": 4, "mq_timedreceive": 4,
           "io_getevents": 4}  # at which argument a call has its limit (that of recvmmsg ends no wait for the first)
@@ -31,10 +34,15 @@ FOREVER = 0x7FFFFFFF  # a limit of 24 days, which programs write for none
 ONESHOT, EVENTS = 1 << 30, 0xFFFF  # of epoll: a file that is seen once, and what it is seen for
 OWN_CHILDREN = 0x20000000  # __WNOTHREAD: those of the thread alone
 SIGINT, SIGCHLD = 2, 17
+ENDING = (1, SIGINT, 3, 13, 15, SIGCHLD)  # the end of a child, and signals that end a process, which nobody kills
 SHELLS = ("ash", "bash", "busybox", "dash", "ksh", "ksh93", "mksh", "sh", "zsh")
 BOURNE = ("ash", "bash", "dash", "sh")  # which wait for all of a foreground pipeline
+# Handlers of what a process does itself, of its children, and of what threads send each other within glibc.
+OF_ITSELF = (4, 5, 6, 7, 8, 11, 13, 16, SIGCHLD, 24, 25, 31, 32, 33)
+UNSEEN = (14, 29)  # SIGALRM and SIGIO, which the kernel may send
 OF_USERS = (10, 12, *range(34, 65))  # SIGUSR1, SIGUSR2 and those of real time, which do what a program likes
 SLEEP, FOLDERS, OF_MANY_NAMES = "sleep", ("/bin", "/usr/bin"), ("busybox", "coreutils")
+CLOCK_IS_OFF = 200  # hundredths of a second
 INTERNET = (2, 10)  # the families of addresses of IPv4 and of IPv6
 
 
@@ -45,7 +53,8 @@ class Ends:
     `needs_all` says that each of `whom` has to let go, and `is_exact` that no process that can't be read is one.
     `choice` says, where one of `whom` or all of them may have to come, why it isn't known which of that it is.
     `operation` is what it does, if that is another word than the call, and `besides` are those who may end the wait by
-    something new."""
+    something new. `bound` has all threads that may end it at most, if they are known where `why` says that it isn't
+    known which of them does."""
 
     whom: List[Thread] = field(default_factory=list)
     why: str = ""
@@ -58,6 +67,7 @@ class Ends:
     is_exact: bool = False
     operation: str = ""
     besides: List[Thread] = field(default_factory=list)
+    bound: Optional[List[Thread]] = None
 
 
 def int32(value: int) -> int:
@@ -125,6 +135,8 @@ def ends_of_file(machine: Machine, thread: Thread, it: List[str], events: int) -
         return ends_of_pipe(machine, thread, target, f"pipe {target[6:-1]}", it[1], events, PIPE)
     if more.startswith("fifo "):
         return ends_of_pipe(machine, thread, more, f"FIFO {target}", it[1], events, FIFO)
+    if more.startswith("queue "):
+        return ends_of_queue(machine, thread, it, events)
     if target.startswith("socket:["):
         return ends_of_socket(machine, thread, target)
     if target.startswith("anon_inode:[") or target.startswith("pidfd:["):
@@ -144,11 +156,24 @@ def ends_of_pipe(machine: Machine, thread: Thread, key: str, what: str, mode: st
     return found
 
 
+def ends_of_queue(machine: Machine, thread: Thread, it: List[str], events: int) -> Ends:
+    """Returns who may take from a queue of messages, or put into it. That nobody else opens one that has a name is a
+    premise where it is full; where it is empty, others open it when they have something to say."""
+    others, what = machine.with_file(it[2], "w" if events & READS else "r"), f"queue of messages {it[0]}"
+    is_named = not it[0].endswith(" (deleted)")
+    found = found_ends(thread, others, what, [FILES, QUEUE] if is_named else [FILES])
+    if is_named and events & READS:
+        found.why = found.why or "others may open the queue of messages when they have something to say"
+    if is_named and able(others) == [thread.owner]:
+        found.why = found.why or "it alone has the queue of messages open, and who takes from that may open it"
+    return found
+
+
 def found_ends(thread: Thread, others: List[Owner], what: str, premises: List[str]) -> Ends:
     """Returns the ends that some processes have. If none has one, that isn't known: it may be on its way."""
     whom = threads_of(able(others), thread)
     why = "" if whom else f"no process that was read has the other end of {what}"
-    if able(others) == [thread.owner] and any(map(thread.owner.catches, OF_USERS)):
+    if able(others) == [thread.owner] and thread.owner.catches_others((*OF_ITSELF, *UNSEEN, SIGINT)):
         why = why or "it has a handler for a signal, which may use its own other end"
     return Ends(whom, why, "", with_rest(premises, others), what, others)
 
@@ -191,14 +216,19 @@ def may_time_out(machine: Machine, thread: Thread, row: Row) -> bool:
 
 def ends_of_anonymous(machine: Machine, thread: Thread, it: List[str]) -> Ends:
     what, more = it[0].partition(":")[2].strip("[]"), it[2] if len(it) > 2 else ""
-    if more.startswith("eventfd-id:") and thread.owner.row.get("aio"):
-        return Ends(why="the kernel may write to its eventfd, as io_submit asks it to", what="eventfd")
     if more.startswith("eventfd-id:"):
-        return found_ends(thread, machine.with_file(more), f"eventfd {more.split()[1]}", [FILES])
+        others = machine.with_file(more)
+        found = found_ends(thread, others, f"eventfd {more.split()[1]}", [FILES])
+        is_asked = any(owner.row.get("aio") for owner in [thread.owner, *others])
+        found.why = "the kernel may write to its eventfd, as io_submit asks it to" if is_asked else found.why
+        return found
     if more == "it_value: (0, 0)":
         return Ends(why="its timer isn't armed, and whoever has it may do that", what="timer")
     if more.startswith("it_value:"):
         return Ends(runs="its timer comes", premises=[LIMIT], what="timer")
+    if more.startswith(SIGMASK):
+        owners = dict.fromkeys(it for name in names_of_epoll(thread) for it in machine.with_file(name))
+        return ends_of_signals(machine, thread, int(more.split()[1], 16), list(owners))
     if more.startswith("Pid:"):
         owner = machine.by_pid.get(int(more.split()[1]))
         if owner is None:
@@ -218,8 +248,7 @@ def ends_of_set(machine: Machine, thread: Thread) -> Ends:
         it = thread.owner.files.get(str(int32(thread.arguments[0])))
         if it is None or "eventpoll" not in it[0]:
             return Ends(why="its epoll isn't known", what="epoll")
-        names = [more for more in it[2:] if more.startswith(OPEN)]
-        owners.update(dict.fromkeys(owner for name in names for owner in machine.with_file(name)))
+        owners.update(dict.fromkeys(owner for name in names_of_epoll(thread) for owner in machine.with_file(name)))
         stale = [fd for fd, _, number in rows if is_other_file(thread.owner, fd, number)]
         if stale:
             return Ends(why=f"its epoll has a file that descriptor {stale[0]} no longer is", what="epoll")
@@ -230,6 +259,12 @@ def ends_of_set(machine: Machine, thread: Thread) -> Ends:
     ends = joined([ends_of(machine, thread, row[0], row[1]) for row in rows], more)
     ends.premises = list(dict.fromkeys(with_rest(ends.premises, [*owners])))
     return ends
+
+
+def names_of_epoll(thread: Thread) -> List[str]:
+    """Returns the name of the open epoll at which a thread waits, which others may have too."""
+    it = thread.owner.files.get(str(int32(thread.arguments[0])), []) if thread.call in EPOLLS else []
+    return [more for more in it[2:] if more.startswith(OPEN)]
 
 
 def is_plain(it: List[str]) -> bool:
@@ -258,6 +293,50 @@ def joined(parts: List[Ends], more: List[Thread]) -> Ends:
     whom = list(dict.fromkeys([*(thread for it in parts for thread in it.whom), *more]))
     premises = list(dict.fromkeys(name for it in parts for name in it.premises))
     return Ends(whom, why, "", premises, what, others, is_exact=all(it.is_exact for it in parts))
+
+
+# What others may use without having it open
+
+
+def ends_of_ipc(machine: Machine, thread: Thread) -> Ends:
+    """Returns who may end a wait at a set of semaphores or a queue of messages at most. One without a key is used below
+    the one that made it."""
+    kind = "set of semaphores" if thread.call.startswith("sem") else "queue of messages"
+    ends = Ends(why="the kernel doesn't say who ends it", what=f"{kind} {int32(thread.arguments[0])}")
+    tops = tops_of(machine, thread) if thread.row.get("key") == 0 else []
+    tops = tops if any(may_have_made(it, thread) for it in tops) else []
+    tops += [it for top in tops for it in machine.later_branches(top)]
+    owners = list(dict.fromkeys([*tops, *machine.below(tops)]))
+    if tops and not any(map(is_called, owners)):
+        ends.bound, ends.premises = threads_of(owners, thread, False), [KEYLESS]
+    return ends
+
+
+def may_have_made(top: Owner, thread: Thread) -> bool:
+    """Whether one from whom others descend was there when what a thread uses was made, or changed since. Times of the
+    clock are whole seconds."""
+    changed = thread.row.get("changed")
+    return changed is None or int(top.row.get("start", 0)) <= changed + CLOCK_IS_OFF
+
+
+def tops_of(machine: Machine, thread: Thread) -> List[Owner]:
+    """Returns the highest processes that may have made what a thread and others use, or none if that isn't known."""
+    users = [thread.owner, *filter(None, map(machine.by_pid.get, thread.row["users"]))]
+    tops = list(dict.fromkeys(top_of(machine, it) for it in users))
+    return [it for it in tops if it is not None] if None not in tops else []
+
+
+def top_of(machine: Machine, owner: Owner) -> Optional[Owner]:
+    """Returns the highest process above one whose session or program is that of the one below it, if it can be read."""
+    above = machine.by_pid.get(owner.parent)
+    while above is not None and any(owner.row.get(name, "") == above.row.get(name) for name in ("session", "exe")):
+        owner, above = above, machine.by_pid.get(above.parent)
+    return None if owner.why or "session" not in owner.row else owner
+
+
+def is_called(owner: Owner) -> bool:
+    """Whether a process may do something at a signal from outside."""
+    return owner.catches_others(OF_ITSELF)
 
 
 # Children and connections
@@ -290,6 +369,29 @@ def ends_of_wait(machine: Machine, thread: Thread) -> Ends:
     elif "group" in what:
         ends.premises.append(GROUP)
     return ends
+
+
+def ends_of_signals(machine: Machine, thread: Thread, mask: int, sharers: Sequence[Owner] = ()) -> Ends:
+    """Returns what ends a wait for one of some signals, of which only the end of a child comes by itself. An epoll has
+    those of the process that added them, which is one that shares it, or from whom the waiter descends."""
+    owners = list(dict.fromkeys([thread.owner, *sharers]))
+    exe = thread.owner.row.get("exe")
+    owners += [it for it in machine.above(thread.owner) if thread.call in EPOLLS and it.row.get("exe") == exe]
+    children = list(dict.fromkeys(it for owner in owners for it in machine.children(owner.pid)))
+    why = doubt_of_signals(thread, mask, children)
+    more = [it for owner in owners for it in new_children(machine, thread, machine.children(owner.pid))]
+    return Ends(threads_of(children, thread, False), why, what="the end of a child", others=children, is_exact=True,
+                besides=more)
+
+
+def doubt_of_signals(thread: Thread, mask: int, children: List[Owner]) -> str:
+    """Returns why it isn't known what ends a wait for signals, or nothing."""
+    ended = next((it for it in children if it.has_ended() or it.why), None)
+    if mask & ~sum(1 << it - 1 for it in ENDING) or not mask >> SIGCHLD - 1 & 1 or thread.owner.ignores(SIGCHLD):
+        return "who sends the signal that it waits for isn't known"
+    if ended is not None:
+        return f"{ended.name} " + ("can't be read" if ended.why else "has ended, and it may be about to see that")
+    return "" if children else "its children aren't known"
 
 
 def doubt_of_wait(thread: Thread, children: List[Owner]) -> str:

@@ -844,3 +844,23 @@ def ranks(is_slow=False):
 
     start("helper", help_one)
     os.execvp("mpirun", ["mpirun", "--allow-run-as-root", "--oversubscribe", "-n", "2", "./ranks"])
+
+
+def coprocess(is_slow, trap=""):
+    """A shell reads what its coprocess answers, which keeps that until it has more. A job in the background sleeps."""
+    answer = "while read -r line; do sleep 600; done" if is_slow else "sed s/$/0/"
+    script = f"coproc {{ {answer}; }}; sleep 600 & {trap} echo 1 >&${{COPROC[1]}}; read -r line <&${{COPROC[0]}}; true"
+    os.execvp("bash", ["bash", "-c", script])
+
+
+def coprocess_trap(_):
+    """As before, and once the job in the background ends, a trap writes what ends the wait."""
+    coprocess(False, "trap 'exec {COPROC[1]}>&-' CHLD;")
+
+
+def coprocess_brought(_):
+    """As before, where the shell has read the trap from a file at its start."""
+    with open("settings", "w", encoding="utf-8") as file:
+        file.write("trap 'exec {COPROC[1]}>&-' CHLD\n")
+    os.environ["BASH_ENV"] = "./settings"
+    coprocess(False)

@@ -576,6 +576,9 @@ def main():
     if pid == 0:
         if story.startswith("cpp_"):
             os.execv("./stalls", ["stalls", story[4:], "slow" if is_slow else "stuck"])
+        if story.startswith("most_"):
+            os.setsid()
+            os.execv("./bounds", ["bounds", story[5:], "slow" if is_slow else "stuck"])
         {**globals(), **vars(importlib.import_module("corners"))}[story](is_slow)
         rest()
     if story == "asks":  # (which runs the collector itself)
