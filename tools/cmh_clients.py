@@ -19,13 +19,17 @@ import sys
 from collections import Counter
 from typing import Dict, Iterable, Iterator, List, Sequence, Tuple, Union
 
-from cmh_linux import EPOLLS, Machine, Row, Sockets, TcpRow, address, inode_of, int32, read_all, try_lines
+from cmh_linux import (CARRIES, EPOLLS, RING, WRITES, Machine, Row, Sockets, TcpRow, address, inode_of, int32, read_all,
+                       try_lines, try_slurp)
 
 Files = Dict[int, List[int]]  # the processes that have a socket, by its number
 POINTERS = {"ppoll": 2, "select": 4, "pselect6": 4, "epoll_pwait2": 3, "futex": 3, "rt_sigtimedwait": 2}
 NUMBERS = {"poll": 2, **dict.fromkeys(EPOLLS[:2], 3)}  # which argument is a limit in milliseconds, -1 for none
 SLEEPS = ("nanosleep", "clock_nanosleep")
 ITSELF = "itself"
+READING = ("read", "readv", "recvfrom", "recvmsg", "poll", "ppoll", "select", "pselect6")
+# Handlers of what a process does itself, of what threads send each other within glibc, and of signals that end it.
+HARMLESS = (1, 2, 3, 4, 5, 6, 7, 8, 11, 13, 15, 16, 24, 25, 31, 32, 33)
 
 
 def ends_of(row: Row) -> Tuple[str, str]:
@@ -101,11 +105,40 @@ class Process:
         is_own = thread["call"] == "futex" or bool(files) and all(map(self.is_own, others))
         return "" if not is_own or found[1:] else found[0] if found else ITSELF
 
+    def is_deaf(self, connections: Dict[int, str]) -> bool:
+        """Whether it does nothing before something comes at one connection: its only thread waits there alone and
+        without a limit, and it has no timer, no handler of a signal that may come by itself, and nobody who traces it.
+        Nor has one from whom it descends a timer, as `timeout` has, which ends it then."""
+        row, living = self.row, [it for it in self.row["threads"] if it["state"] not in "ZX"]
+        caught = int(row.get("SigCgt", "0"), 16) & ~sum(1 << it - 1 for it in HARMLESS)
+        is_bare = not caught and not row.get("timers") and row.get("TracerPid") == "0"
+        has_ring = any("io_uring" in it[0] or any(more.startswith((CARRIES, RING)) for more in it[2:])
+                       for it in row["fds"].values())
+        return len(living) == 1 and is_bare and not has_ring and waits_there(living[0], row, connections) \
+            and not any(try_slurp(f"/proc/{pid}/timers") for pid in above(row["ppid"]))
+
     def is_own(self, it: Sequence[str]) -> bool:
         """Whether the other end of a file is of the process itself, as that by which it wakes itself."""
         peers = self.sockets.rows.get(inode_of(it[0]), {}).get("peers", ())
         is_to_itself = it[0] == "anon_inode:[eventfd]" or self.pipes[it[0]] > 1
         return is_to_itself or bool(peers) and self.own.issuperset(peers)
+
+
+def waits_there(thread: Row, row: Row, connections: Dict[int, str]) -> bool:
+    """Whether a thread waits to read from one connection, and for nothing else."""
+    if thread["state"] != "S" or thread["pending"] or thread.get("call") not in READING:
+        return False
+    files = [(inode_of(row["fds"].get(str(fd), [""])[0]), events) for fd, events in thread.get("set") or ()]
+    is_limited = has_limit(thread["call"], [int(it, 16) for it in thread["args"]])
+    return not is_limited and len(files) == 1 and files[0][0] in connections and not files[0][1] & WRITES
+
+
+def above(pid: int) -> Iterator[int]:
+    """Yields a process and those from whom it descends."""
+    while pid > 0:
+        yield pid
+        words = try_slurp(f"/proc/{pid}/stat").rpartition(")")[2].split()
+        pid = int(words[1]) if words[1:] else 0
 
 
 def clients(rows: List[Row]) -> Iterator[Row]:
@@ -119,7 +152,7 @@ def clients(rows: List[Row]) -> Iterator[Row]:
     for number, pid in owners.items():
         if pid in found:
             it = Process(found[pid], sockets)
-            yield {"connection": connections[number], "process": pid,
+            yield {"connection": connections[number], "process": pid, "is_deaf": it.is_deaf(connections),
                    "threads": [it.thread(thread, connections) for thread in it.row["threads"]]}
 
 

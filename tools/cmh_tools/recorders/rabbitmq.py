@@ -20,11 +20,12 @@ from ..sketch import (COMPLETE, LIMIT, SYSTEM, Process, Sketch, premise, quote, 
                       waits_for_any)
 from . import State
 from .base import Moment, Premise, Recorder, fits, misfits
+from .rabbitmq_bounds import SENTENCES, Server, add_bound
 from .rabbitmq_clients import AT, COMPUTES, ELSEWHERE, OPEN, SLEEPING, Activity, Row, activities, ticking_of
 from .rabbitmq_routes import Routes
 
 NEEDED = ("list_connections", "list_channels", "list_consumers", "list_queues", "list_bindings")
-HEADING = re.compile(r"^# (?:rabbitmqctl (\w+)|(clients)$).*\n", re.M)
+HEADING = re.compile(r"^# (?:rabbitmqctl (\w+)|(clients|server)$).*\n", re.M)
 TABLE = [[str, object, object]]  # rows of a name, a type and a value
 ARGUMENTS = (TABLE, re.compile(""))
 CONNECTION = {"pid": str, "client_properties": TABLE}  # one that isn't so has no name
@@ -38,7 +39,10 @@ SHAPES = {
     "list_policies": [{"name": str, "definition?": (str, {str: object})}],
     "eval": ([], {"value": {"statistics": str, "published": [{"channel": str, "queue": str, "number": int}],
                             "taken?": [{"channel": str, "number": int}]}}),
-    "clients": [{"connection": str, "threads": [{"tid": int, "state": str, "call?": str, "at?": str, "count?": int}]}],
+    "server": ([], {"value": {"plugins": [str], "connections": [{"pid": str, "vhost": str, "timeout": int}],
+                              "channels": [{"pid": str, "messages_unconfirmed": int}]}}),
+    "clients": [{"connection": str, "process?": int, "is_deaf?": bool,
+                 "threads": [{"tid": int, "state": str, "call?": str, "at?": str, "count?": int}]}],
 }
 HEARTBEAT = 8  # bytes of the frame, a packet of its own
 READY, MOVES, ROUTED, ACTS, KEEPS, EXPIRES, HANDLES = ("ready", "moves", "routed", "acts", "keeps", "expires",
@@ -63,6 +67,7 @@ class Broker:
 
     def __init__(self, raw: Dict[str, Any]) -> None:
         self.routes = Routes(raw)
+        self.server = Server(raw, self.routes)
         self.clients: List[Row] = raw["clients"]
         self.ticking: Dict[int, bool] = {}
         self.moved: Set[str] = set()  # the names of those that have carried something between the states
@@ -215,6 +220,14 @@ class Service:
     @property
     def is_at_work(self) -> bool:
         return self.unacknowledged > 0
+
+    def others(self) -> Optional[List[str]]:
+        """Returns the names of those who may send something to its client, which does nothing before: the services of
+        all other processes. That is None where they aren't known."""
+        others = self.broker.services.items()
+        if not self.does.is_deaf or self.broker.missing or any(it.is_double for _, it in others):
+            return None
+        return [name for name, it in others if it.does.process != self.does.process]
 
     @functools.cached_property
     def does(self) -> Activity:
@@ -378,6 +391,7 @@ class RabbitmqRecorder(Recorder):
                       "timer, and waits for no direct reply but of one to which its messages may have come"),
         HANDLES: Premise("a service that has a message keeps it: the broker doesn't close its channel, as it does "
                          "after its consumer_timeout, 30 minutes if nobody has set another one"),
+        **{name: Premise(sentence) for name, sentence in SENTENCES.items()},
         KEEPS: Premise("a consumer that stands by gets no message while the channel of the active one is there"),
     }
 
@@ -400,6 +414,15 @@ class RabbitmqRecorder(Recorder):
             broker.moved = brokers[0].moved_until(brokers[-1])
 
     def wait_of(self, subject: Service, moment: Moment) -> Process:
+        made, does = self.wait_by_broker(subject, moment), subject.does
+        own = [it.connection for it in subject.broker.services.values() if it.does.process == does.process]
+        add_bound(made, subject.broker.server, [does.connection, *own], subject.others(), TO_COME, [HANDLES])
+        if made.bound is not None and made.count is not None:
+            made.count = f"{made.count}, {does.switches} switches"
+        return made
+
+    def wait_by_broker(self, subject: Service, moment: Moment) -> Process:
+        """Returns a service by what the broker says of it."""
         service, name, more = subject, process_name(subject.name), subject.more()
         if service.is_double:
             return unknown(name, "two connections have this name, so it isn't known which does what", **more)
@@ -423,7 +446,8 @@ class RabbitmqRecorder(Recorder):
         broker = moments[0].rows()[0].broker if moments[0].rows() else None
         sketch.warnings += broker.warnings if broker else []
         here = {process.name for process in sketch.processes}.difference(STAND_INS)
-        named = dict.fromkeys(name for it in sketch.processes for name in (*it.whom, *it.likely, *it.besides))
+        named = dict.fromkeys(name for it in sketch.processes for name in (*it.whom, *it.likely, *it.besides,
+                                                                           *(it.bound or ())))
         sketch.processes += [stand_in(name) for name in named if name not in here]
         for process in sketch.processes:
             if process.stays and premise(READY) in process.because:

@@ -16,18 +16,22 @@ COMPUTES, SLEEPING, AT, ELSEWHERE, OPEN = "computes", "sleeps", "at a connection
 
 class Activity(NamedTuple):
     """What a client does: the connection at which it waits, if it does, whether that is known by its only thread, and
-    what counts how often it has slept."""
+    what counts how often it has slept or waited there. `is_deaf` says that it does nothing before something comes at
+    that connection, and `process` is its number, or 0."""
 
     kind: str
     connection: str = ""
     is_sure: bool = False
     switches: str = ""
     call: str = ""
+    is_deaf: bool = False
+    process: int = 0
 
 
 def activities(rows: List[Row], ticking: Dict[int, bool]) -> Dict[str, Activity]:
     """Returns what clients do, by their connections. `ticking` has the threads that come back to the same sleep."""
-    return {row["connection"]: activity_of(row["threads"], ticking) for row in rows}
+    return {row["connection"]: activity_of(row["threads"], ticking)._replace(
+        is_deaf=row.get("is_deaf", False), process=row.get("process", 0)) for row in rows}
 
 
 def activity_of(threads: List[Row], ticking: Dict[int, bool]) -> Activity:
@@ -52,7 +56,7 @@ def single(thread: Row) -> Activity:
     if call in SLEEPS:
         return Activity(SLEEPING, switches=str(thread.get("count")))
     if thread.get("at", ITSELF) not in ("", ITSELF):
-        return Activity(AT, thread["at"])
+        return Activity(AT, thread["at"], switches=str(thread.get("count")))
     return Activity(ELSEWHERE if thread["state"] in "SD" and call else OPEN, call=call)
 
 
