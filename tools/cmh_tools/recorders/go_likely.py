@@ -14,7 +14,10 @@ from .go_text import TAKER, Goroutine
 TIMED = re.compile(
     "heart|(?:heart)?beats?|tick(?:s|er|ing)?|pulse|metrics?|stats|statistics|telemetry|report(?:s|er|ing)?|uptime|cron"
     "|monitor(?:s|ing)?|watchdog|janitor|sweep(?:s|er)?|reap(?:s|er)?|evict(?:s|or|ion)?|clean(?:s|er|up)?|health|alive"
-    "|refresh(?:es|er)?|reload(?:s|er)?|signals?|sighup|ping(?:s|er)?|keepalive|probes?")
+    "|refresh(?:es|er)?|reload(?:s|er)?|rotat(?:es|or|ion)?|expir(?:es|er|y)?|poll(?:s|er|ing)?|flush(?:es|er)?"
+    "|signals?|sighup|ping(?:s|er)?|keepalive|probes?")
+# Names of methods that say nothing: those of their types count too.
+PLAIN = re.compile("run|loop|start|serve|work|main|go|do|background|daemon|forever")
 TAKES = re.compile(
     "(?:consum|collect|receiv|recv|drain|work|process|handl|sink|aggregat|merg|join|a?wait|pump|dispatch|deliver|writ"
     "|print|read|client|customer|subscri|listen|watch|ship|pick|pack|stor|sav|persist|index|pars|transform|encod|decod"
@@ -116,7 +119,8 @@ def may_rest(goroutine: Goroutine, place: Place) -> bool:
 def has_word(function: str, pattern: Pattern[str]) -> bool:
     """Whether a word of the name of a function is like a pattern. That of a closure is of the function around it."""
     parts = [it for it in function.split("/")[-1].split(".")[1:] if not CLOSURE.fullmatch(it)]
-    return any(pattern.fullmatch(word.lower()) for word in WORD.findall(parts[-1] if parts else ""))
+    some = parts[-2:] if parts and PLAIN.fullmatch(parts[-1]) else parts[-1:]
+    return any(pattern.fullmatch(word.lower()) for part in some for word in WORD.findall(part))
 
 
 def sleep_of(goroutine: Goroutine) -> int:
