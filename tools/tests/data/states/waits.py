@@ -226,6 +226,7 @@ async def tasks():
 
     async def run_task_sleep():
         await asyncio.sleep(600)
+        inner.set()  # (so that it is no heartbeat, which may end nobody's wait)
 
     async def run_task_limit():
         await asyncio.wait_for(inner.wait(), 30)
@@ -259,7 +260,7 @@ before = None
 while before != places():
     before = places()
     time.sleep(2)
-os.kill(os.getpid(), signal.SIGUSR2)
+os.kill(os.getpid(), signal.SIGRTMAX)
 for attempt in range(600):
     time.sleep(0.1)
     if os.path.exists(STATE) and '"end"' in open(STATE, encoding="utf-8").read():
