@@ -344,19 +344,18 @@ class Application:
 
 
 def drop_bystanders(facts: Facts, sketch: Sketch) -> None:
-    """Takes those out of the lists of others, where one of several is enough, that end nobody's wait by the facts. A
+    """Takes those out of the lists of others, where one of several is enough, that end no such wait by the facts. A
     list of such ones alone stays: who waits for them waits for their own end, as a join does."""
-    kept: Dict[int, List[str]] = {}  # by the id of a list, what is left of it
-    for process in sketch.processes if facts.bystanders else ():
+    kept: Dict[Tuple[int, int], List[str]] = {}  # by the ids of a list and of who is taken out, what is left of it
+    for process in sketch.processes if facts.bystanders or facts.bystanders_at else ():
+        known = facts.bystanders_of(process)
         for some in (process.whom, process.besides):
-            kept.setdefault(id(some), [name for name in some if name not in facts.bystanders])
-        kept[id(process.whom)] = kept[id(process.whom)] or process.whom
-        lists = [process.besides, *([process.whom] if process.kind == ANY and kept[id(process.whom)] is not process.whom
-                                    else [])]
-        gone = {facts.bystanders[name].at: facts.bystanders[name] for some in lists for name in some
-                if name in facts.bystanders}
-        process.besides = kept[id(process.besides)]
-        process.whom = kept[id(process.whom)] if process.kind == ANY else process.whom
+            kept.setdefault((id(some), id(known)), [name for name in some if name not in known])
+        whom = kept[id(process.whom), id(known)] or process.whom
+        lists = [process.besides, *([process.whom] if process.kind == ANY and whom is not process.whom else [])]
+        gone = {known[name].at: known[name] for some in lists for name in some if name in known}
+        process.besides = kept[id(process.besides), id(known)]
+        process.whom = whom if process.kind == ANY else process.whom
         for fact in gone.values() if process.kind in (ANY, ALL) else ():
             process.because = [*process.because, facts.reason(fact)]
             fact.decided.append(process.name)

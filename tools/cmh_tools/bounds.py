@@ -61,12 +61,14 @@ def is_bound(process: Process, facts: Facts) -> bool:
 
 def used_for(process: Process, facts: Facts) -> List[Fact]:
     """Returns the facts on which the wait of such a one rests: that some end nobody's wait, and that nothing moves."""
-    some = {fact.at: fact for fact in map(facts.bystanders.get, process.bound or ()) if fact is not None}
+    known = facts.bystanders_of(process)
+    some = {fact.at: fact for fact in map(known.get, process.bound or ()) if fact is not None}
     return [*some.values(), *([facts.still] if process.doubt and facts.still is not None else [])]
 
 
 def bounded(process: Process, used: List[Fact], facts: Facts) -> Process:
-    whom = [name for name in process.bound or () if name not in facts.bystanders]
+    known = facts.bystanders_of(process)
+    whom = [name for name in process.bound or () if name not in known]
     made = process.copy()
     made.doubt = ""
     made.decide(ANY, [*process.bound_by, *map(facts.reason, used)], whom)

@@ -41,6 +41,7 @@ FUNCTION, FUNCTION:LINE, FILE:LINE and the whole frame. The first line that matc
     also answered by NAME .. these may answer in place of the process that was called
     frees nobody             it ends nobody's wait, though it could: a heartbeat that has both ends of a pipe, or a
                              watchdog that only writes to a log. FRAME is any frame here, and all such lines count
+    frees none of NAME ..    it ends none of these waits, and perhaps others
 
 NAME is a pattern of names of processes, a group, `others`, who are all that don't wait for work (nor does a line with
 it decide one who does), `creator` or `children` of the process that waits, where the state says who created whom, or
@@ -61,11 +62,12 @@ from dataclasses import dataclass, field
 from typing import Dict, Iterable, Iterator, List, Optional, Tuple
 
 from .files import Refusal, shown
-from .places import VARIABLE, Place, Values, values_of_frame
+from .places import VARIABLE, Place, Values, is_like, values_of_frame
 from .sketch import COMPLETE, FACT, UNKNOWN, FactRow, Process, Sketch, guess, near_name, quote
 
-HOLDS, ALSO, STILL, GROUP, FREES = "holds", "also answered by", "still", "group", "frees"
+HOLDS, ALSO, STILL, GROUP, FREES, FREES_NONE = "holds", "also answered by", "still", "group", "frees", "frees none of"
 WAITS = ("any", "all", "nobody", "runs", "ended")
+ANYWHERE = (HOLDS, FREES, FREES_NONE)  # kinds whose FRAME is any frame
 BARE = ("runs", "ended", "holds", "also")  # kinds that need no arrow before them
 # Words for relatives of the one that waits, unless a process has that name.
 RELATIVES = {"creator": "{creator}", "children": "children:{self}"}
@@ -98,7 +100,7 @@ class Fact:
     def values(self, process: Process) -> Values:
         """Returns the values of all variables for a process at its place."""
         arguments = dict(it.split("=", 1) for it in process.objects if "=" in it)
-        found = self.place.values(process, self.kind == HOLDS) or {}
+        found = self.place.values(process, self.kind in ANYWHERE) or {}
         scope = {"process": process.scope} if process.scope else {}
         return {"self": process.name, **scope, **arguments, **found}
 
@@ -139,7 +141,8 @@ def fill_in(word: str, values: Values) -> str:
 class Facts:
     """The facts of a file. `path` is its name, for people, and `still` the line that says that nothing moves. `guesses`
     has by the names of processes what is guessed of them, where no fact is on their wait, `bystanders` by theirs the
-    fact that they end nobody's wait, and `spared` the guess that they aren't among `others`."""
+    fact that they end nobody's wait, `bystanders_at` the same for the wait of one alone, by its name, and `spared` the
+    guess that they aren't among `others`."""
 
     facts: List[Fact] = field(default_factory=list)
     path: str = "facts"
@@ -147,6 +150,7 @@ class Facts:
     groups: Dict[str, List[str]] = field(default_factory=dict)
     guesses: Dict[str, Fact] = field(default_factory=dict)
     bystanders: Dict[str, Fact] = field(default_factory=dict)
+    bystanders_at: Dict[str, Dict[str, Fact]] = field(default_factory=dict)
     spared: Dict[str, Fact] = field(default_factory=dict)
     by_frame: Dict[str, List[Fact]] = field(default_factory=dict, repr=False, compare=False)
 
@@ -175,14 +179,33 @@ class Facts:
         return [(fact, what) for fact, what in found if not VARIABLE.search(what)]
 
     def find_bystanders(self, sketch: Sketch) -> None:
-        """Finds who ends nobody's wait."""
-        some = [fact for fact in self.facts if fact.kind == FREES]
-        for process in sketch.processes if some else ():
-            for fact in some:
-                if fact.place.values(process, True) is not None:
-                    fact.used = True
-                    fact.took.setdefault("nobody", {})[process.name] = None
-                    self.bystanders.setdefault(process.name, fact)
+        """Finds who ends nobody's wait, or not that of some."""
+        some = [fact for fact in self.facts if fact.kind in (FREES, FREES_NONE)]
+        found = [(process, fact) for process in (sketch.processes if some else ()) for fact in some
+                 if fact.place.values(process, True) is not None]
+        for process, fact in found:
+            if fact.kind == FREES:
+                fact.used = True
+                fact.took.setdefault("nobody", {})[process.name] = None
+                self.bystanders.setdefault(process.name, fact)
+        for process, fact in found:
+            for name in self.spared_by(fact, process, sketch) if fact.kind == FREES_NONE else ():
+                fact.used = True
+                self.bystanders_at.setdefault(name, {**self.bystanders}).setdefault(process.name, fact)
+
+    def spared_by(self, fact: Fact, process: Process, sketch: Sketch) -> List[str]:
+        """Returns whose waits a process doesn't end by a fact: of nobody, if one of its names fits nobody."""
+        values, found = fact.values(process), {}
+        for word in fact.words:
+            pattern = fill_in(word, values)
+            patterns = self.groups.get(pattern, [pattern])
+            found[word] = [it.name for it in sketch.processes if any(is_like(each, it.name) for each in patterns)]
+            fact.took.setdefault(word, {}).update(dict.fromkeys(found[word]))
+        return [name for names in found.values() for name in names] if all(found.values()) else []
+
+    def bystanders_of(self, process: Process) -> Dict[str, Fact]:
+        """Returns who doesn't end the wait of a process, by their names."""
+        return self.bystanders_at.get(process.name, self.bystanders)
 
     def first(self, kinds: Tuple[str, ...], process: Process) -> Optional[Fact]:
         for fact in self.at_frame(process.frames[0] if process.frames else ""):
@@ -212,7 +235,10 @@ class Facts:
 
 def why_unused(fact: Fact, sketch: Sketch) -> str:
     """Returns what a fact matches that decides nobody, or which place of one who is still unknown is near."""
-    there, anywhere = fact.place, fact.kind in (HOLDS, FREES)
+    there, anywhere = fact.place, fact.kind in ANYWHERE
+    if fact.kind == FREES_NONE and fact.took:
+        lost = next(word for word in fact.words if not fact.took[word])
+        return f"nobody's wait: {fact.text}{near_name(lost, [it.name for it in sketch.processes])}"
     if any(there.values(it, anywhere) is not None for it in sketch.processes):
         return f"no unknown process: {fact.text}"
     open_ones = [it for it in sketch.processes if it.kind == UNKNOWN and not (it.is_spoilt or it.is_idle)]
@@ -311,6 +337,8 @@ def fact_of(words: List[Word], at: int, text: str) -> Fact:
         if rest[:2] != ["answered", "by"]:
             raise Refusal("'also' isn't followed by 'answered by'")
         kind, rest = ALSO, rest[2:]
+    if kind == FREES and rest[:2] == ["none", "of"]:
+        kind, rest = FREES_NONE, rest[2:]
     fact = Fact(at, shown(text), place, kind, without_nobody(kind, rest))
     fact.or_nobody = len(fact.words) < len(rest)
     if kind == "all" and rest[:1] == ["of"]:
@@ -352,7 +380,7 @@ def place_of(words: List[Word]) -> Place:
 
 def check_words(kind: str, words: List[str]) -> None:
     """Raises Refusal if the kind isn't known, or has too many words or too few."""
-    known = (*WAITS, HOLDS, ALSO, FREES)
+    known = (*WAITS, HOLDS, ALSO, FREES, FREES_NONE)
     if kind not in known:
         raise Refusal(f"{quote(kind)} is no fact{near_name(kind, known)}; facts are {', '.join(map(quote, known))}")
     if COMPLETE in words:
@@ -360,8 +388,8 @@ def check_words(kind: str, words: List[str]) -> None:
     if kind in ("runs", "nobody") and words or kind == "ended" and words not in ([], ["needed"]):
         raise Refusal(f"{quote(kind)} is followed by {quote(words[0])}")
     if kind == FREES and words != ["nobody"]:
-        raise Refusal("'frees' is followed by 'nobody'")
+        raise Refusal("'frees' is followed by 'nobody' or 'none of NAME ..'")
     if kind == HOLDS and len(words) != 1:
         raise Refusal("'holds' is followed by one WHAT; one that is '#' stands in quotes")
-    if kind in ("any", "all", ALSO) and not words:
+    if kind in ("any", "all", ALSO, FREES_NONE) and not words:
         raise Refusal(f"{quote(kind)} is followed by nobody")
