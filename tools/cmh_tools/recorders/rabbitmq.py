@@ -16,12 +16,12 @@ from typing import Any, Dict, List, Optional, Set, Tuple
 
 from ..files import Refusal, shown
 from ..moments import APART, Reading
-from ..sketch import (COMPLETE, LIMIT, SYSTEM, Process, Sketch, premise, quote, read_json, runs, spoilt, unknown,
-                      waits_for_any)
+from ..sketch import (COMPLETE, LIMIT, RUNS, SYSTEM, UNKNOWN, Process, Sketch, premise, quote, read_json, runs, spoilt,
+                      unknown, waits_for_any)
 from . import State
 from .base import Moment, Premise, Recorder, fits, misfits
 from .rabbitmq_bounds import SENTENCES, Server, add_bound
-from .rabbitmq_clients import AT, COMPUTES, ELSEWHERE, OPEN, SLEEPING, Activity, Row, activities, ticking_of
+from .rabbitmq_clients import AT, COMPUTES, ELSEWHERE, OPEN, SLEEPING, Activity, Row, activities, looks_on, ticking_of
 from .rabbitmq_routes import Routes
 
 NEEDED = ("list_connections", "list_channels", "list_consumers", "list_queues", "list_bindings")
@@ -240,6 +240,22 @@ class Service:
         return [process_name(other.name)] if other is not None and other is not self else []
 
     @functools.cached_property
+    def looks_on(self) -> bool:
+        """Whether it is likely to give nobody anything but numbers, by its name, and that of who gets what it sends."""
+        return all(map(looks_on, (self.name, *self.consumers())))
+
+    @functools.cached_property
+    def is_full(self) -> bool:
+        """Whether each of its consumers has as many messages as it may have, so that it waits for none."""
+        return not self.broker.server.consumers(self.connection)
+
+    @functools.cached_property
+    def is_awaited(self) -> bool:
+        """Whether its process waits here while it has a message at another connection, as for a reply."""
+        name = process_name(self.name)
+        return any(it.is_at_work and it.at_another() == [name] for it in self.broker.services.values())
+
+    @functools.cached_property
     def may_begin(self) -> bool:
         """Whether the state shows that it may publish to a queue for the first time: it has done nothing so far, it has
         its first message at work, or it gets dead messages, with which it may do what it has done with none before."""
@@ -318,7 +334,8 @@ class Service:
         found = found or self.tellers()
         if found or not queues and self.broker.counts:
             return found
-        others = {name: it for name, it in self.broker.services.items() if it.queues and it is not self}
+        others = {name: it for name, it in self.broker.services.items()
+                  if it.queues and it is not self and not it.looks_on}
         return [name for name, it in others.items() if it.is_at_work] or list(others)
 
     def givers(self) -> List[str]:
@@ -444,12 +461,15 @@ class RabbitmqRecorder(Recorder):
     def finish(self, sketch: Sketch, moments: List[Moment]) -> None:
         """Says what wasn't understood, and takes back that one runs whose message was ready in all states."""
         broker = moments[0].rows()[0].broker if moments[0].rows() else None
+        watching = {name for name, it in broker.services.items() if it.looks_on} if broker else ()
         sketch.warnings += broker.warnings if broker else []
         here = {process.name for process in sketch.processes}.difference(STAND_INS)
         named = dict.fromkeys(name for it in sketch.processes for name in (*it.whom, *it.likely, *it.besides,
                                                                            *(it.bound or ())))
         sketch.processes += [stand_in(name) for name in named if name not in here]
         for process in sketch.processes:
+            if process.name in watching and process.proposal == "runs":
+                process.proposal = "frees" if process.kind == RUNS else "outside"
             if process.stays and premise(READY) in process.because:
                 process.stays = False
                 process.become_unknown("a message was ready for it in all states, and it took none")
@@ -485,8 +505,8 @@ def may_have_taken(service: Service, name: str, more: Dict[str, Any]) -> Process
     """Returns one that needn't acknowledge what it takes."""
     is_busy = service.does.kind in BUSY
     asked = [it for it in service.pending() if service.broker.services[it].may_answer]
-    found = service.senders or (asked if service.does.kind == AT else [])
-    proposal = "runs" if is_busy else "any" if found else "maybe"
+    found = service.at_another() or service.senders or (asked if service.does.kind == AT else [])
+    proposal = "runs" if is_busy else "any" if found or service.is_awaited else "maybe"
     more.update(operation="take", objects=service.places())
     return unknown(name, "it needn't acknowledge, so the broker can't tell whether it is at work",
                    besides=service.by_limit(), candidates=[] if is_busy else [*found, COMPLETE],
@@ -501,6 +521,8 @@ def at_work(service: Service, name: str, more: Dict[str, Any]) -> Process:
     why, proposal, found = "the broker can't tell what it does", "maybe", []
     if does.kind in BUSY:
         why, proposal = f"a thread of its client {f'waits in {shown(does.call)}' if does.call else does.kind}", "runs"
+    elif service.is_full and does.connection == service.connection:
+        why, proposal = "the broker gives it no more before", "runs"
     elif replies or does.kind == AT:
         found = service.repliers(replies)
         proposal = "any" if found else "maybe"

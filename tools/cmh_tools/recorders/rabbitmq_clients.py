@@ -5,10 +5,14 @@ another one of its own, or for something else. Of one with several threads that 
 """
 from __future__ import annotations
 
+import re
 from typing import Any, Dict, List, NamedTuple
 
 Row = Dict[str, Any]
 
+# What services are called that only look on.
+LOOKS_ON = re.compile(r"(?i).*(?:heart.?beat|(?<![a-z])beat|metric|monitor|statistic|(?<![a-z])stats|watch|health|alive"
+                      r"|gauge|probe|pulse|dashboard|telemetry|uptime).*")
 SLEEPS = ("nanosleep", "clock_nanosleep")
 ITSELF = "itself"  # at what only its own process ends, as a mutex
 COMPUTES, SLEEPING, AT, ELSEWHERE, OPEN = "computes", "sleeps", "at a connection", "elsewhere", "open"
@@ -65,3 +69,8 @@ def ticking_of(first: List[Row], later: List[Row]) -> Dict[int, bool]:
     counts = {it["tid"]: it.get("count") for row in later for it in row["threads"] if it.get("call") in SLEEPS}
     return {it["tid"]: True for row in first for it in row["threads"]
             if it.get("call") in SLEEPS and counts.get(it["tid"], it.get("count")) != it.get("count")}
+
+
+def looks_on(name: str) -> bool:
+    """Whether a service is likely to give nobody anything but numbers, by its name."""
+    return LOOKS_ON.fullmatch(name) is not None
