@@ -122,6 +122,7 @@ class Broker:
             here.is_double = True
         self.services[key] = self.by_pid[row["pid"]] = here = here or Service(name, self)
         here.count, here.state, here.connection = count_of(row), str(row.get("state", "")), row["pid"]
+        here.carried = carried_by(row)
 
     def add_channels(self, rows: List[Dict[str, Any]]) -> None:
         for row in rows:
@@ -151,6 +152,14 @@ class Broker:
         """Returns the names of those that have carried something until a later state."""
         return {name for name, it in self.services.items()
                 if it.count != later.services.get(name, it).count}
+
+    def spoken_until(self, later: Broker) -> Set[str]:
+        """Returns the names of those that have sent something until a later state, and got nothing, where one that
+        looks on has got something: it is likely that they have told it numbers."""
+        grown = {name: later.services[name].grown_since(it) for name, it in self.services.items()
+                 if name in later.services}
+        has_heard = any(self.services[name].looks_on and has_got for name, (_, has_got) in grown.items())
+        return {name for name, (has_sent, has_got) in grown.items() if has_heard and has_sent and not has_got}
 
     def miss(self, why: str) -> None:
         self.warnings.append(why)
@@ -203,6 +212,8 @@ class Service:
         self.is_double, self.acknowledges = False, True
         self.unacknowledged, self.taken = 0, 0  # messages that it has, and those that it got since it connected
         self.count: Optional[str] = None
+        self.carried: Optional[Tuple[int, int]] = None  # bytes of its packets but heartbeats, from it and to it
+        self.speaks = False  # whether it has sent what likely went to those that look on, and has got nothing
         self.state, self.connection = "", ""
 
     def more(self) -> Dict[str, Any]:
@@ -211,6 +222,17 @@ class Service:
         note = f"consumes {', '.join(self.queues)}" if self.queues else "consumes nothing"
         return {"site": site or None, "frames": [service], "operation": "consume" if self.queues else "publish",
                 "objects": self.queues, "note": note, "count": None if self.is_double else self.count}
+
+    def grown_since(self, earlier: Service) -> Tuple[bool, bool]:
+        """Returns whether it has sent something since an earlier state, and whether it has got something."""
+        if self.carried is None or earlier.carried is None or self.connection != earlier.connection:
+            return False, True
+        return self.carried[0] != earlier.carried[0], self.carried[1] != earlier.carried[1]
+
+    def speak(self) -> None:
+        """Counts what it got alone: what it has sent by itself ends no wait of its own."""
+        self.speaks = True
+        self.count = self.carried and f"{self.carried[1]} out by {self.connection}"
 
     def places(self) -> List[str]:
         """Returns what tells its place from others where it may be at work: whoever publishes to a queue doesn't end
@@ -376,6 +398,10 @@ class Service:
         working = [it for it in senders if others[it].is_at_work or not others[it].acknowledges]
         return [*(working or senders), *(holders if self.broker.routes.taken.get(queue) else [])]
 
+    def unseen(self) -> List[str]:
+        """Returns who stands for what it does by itself, if it has sent something meanwhile."""
+        return [UNSEEN] if self.speaks else []
+
     def by_limit(self) -> List[str]:
         """Returns who stands for the limit of the broker, and for those of messages, if these may give it a message. It
         has none itself."""
@@ -429,6 +455,8 @@ class RabbitmqRecorder(Recorder):
         for broker in brokers:
             broker.ticking = ticking_of(brokers[0].clients, brokers[-1].clients)
             broker.moved = brokers[0].moved_until(brokers[-1])
+            for name in brokers[0].spoken_until(brokers[-1]) & broker.services.keys():
+                broker.services[name].speak()
 
     def wait_of(self, subject: Service, moment: Moment) -> Process:
         made, does = self.wait_by_broker(subject, moment), subject.does
@@ -468,7 +496,7 @@ class RabbitmqRecorder(Recorder):
                                                                            *(it.bound or ())))
         sketch.processes += [stand_in(name) for name in named if name not in here]
         for process in sketch.processes:
-            if process.name in watching and process.proposal == "runs":
+            if process.name in watching and (process.kind == RUNS or process.proposal == "runs"):
                 process.proposal = "frees" if process.kind == RUNS else "outside"
             if process.stays and premise(READY) in process.because:
                 process.stays = False
@@ -528,7 +556,7 @@ def at_work(service: Service, name: str, more: Dict[str, Any]) -> Process:
         proposal = "any" if found else "maybe"
         why = f"may wait for a reply in {shown(replies[0])}" if replies else "its client waits at a connection"
     return unknown(name, f"it has a message that isn't acknowledged, and {why}", because=[premise(HANDLES)],
-                   proposal=proposal, candidates=[*found, COMPLETE] if found else [], **more)
+                   besides=service.unseen(), proposal=proposal, candidates=[*found, COMPLETE] if found else [], **more)
 
 
 def wait_of_consumer(service: Service, name: str, more: Dict[str, Any]) -> Process:
@@ -567,7 +595,7 @@ def published(service: Service, name: str, more: Dict[str, Any]) -> Process:
     if taken is not None and not others:
         return unknown(name, f"a message of queue {shown(taken)} may come back, and the state doesn't show who has it",
                        is_spoilt=True, **more)
-    besides = [*(others if taken is not None else []), *service.by_limit(), *service.may_reply()]
+    besides = [*(others if taken is not None else []), *service.by_limit(), *service.may_reply(), *service.unseen()]
     reason = "no service is known to publish to a queue that it consumes"
     return unknown(name, reason, ends=found, because=[premise(MOVES), premise(ROUTED), premise(ACTS)],
                    besides=besides, likely=likely_of(service, name) if broker.counts else {}, **more)
@@ -612,8 +640,13 @@ def reading_of(path: str, lists: List[Tuple[str, str]]) -> Reading:
 def count_of(row: Dict[str, Any]) -> Optional[str]:
     """What a connection has carried in both directions, without heartbeats, with what tells it from a later one. None
     if the state doesn't print it."""
+    carried = carried_by(row)
+    return None if carried is None else f"{carried[0]} in, {carried[1]} out by {row['pid']}"
+
+
+def carried_by(row: Dict[str, Any]) -> Optional[Tuple[int, int]]:
+    """What a connection has carried from its service, and to it, or None."""
     numbers: List[Any] = [row.get(key) for key in ("recv_oct", "recv_cnt", "send_oct", "send_cnt")]
     if not all(isinstance(it, int) for it in numbers) or row.get("ssl"):
         return None
-    carried = f"{numbers[0] - HEARTBEAT * numbers[1]} in, {numbers[2] - HEARTBEAT * numbers[3]} out"
-    return f"{carried} by {row['pid']}"
+    return numbers[0] - HEARTBEAT * numbers[1], numbers[2] - HEARTBEAT * numbers[3]
