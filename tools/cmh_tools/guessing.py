@@ -21,6 +21,7 @@ WAITS = ("any", "all", "holds")  # proposals for one that waits, for whomever
 OUTSIDE = "outside"  # the proposal for one that goes on by the outside, and is likely to end nobody's wait
 OF_PROCESS = f"{OTHERS}:{{process}}"  # the others of its own scope
 FED = 3  # how far behind others who are stuck those at rest are looked for
+OF_SEVERAL = "select"
 OPEN = f" {COMPLETE}"  # the end of a line that isn't whole
 ACCEPTS = re.compile(r"(.*[.:])?(accept\d?|serve_forever)(/\d+)?")
 
@@ -113,13 +114,20 @@ def feed(sketch: Sketch, facts: Facts, spared: Dict[str, Fact]) -> None:
     for _ in range(FED):
         inside = stuck_names(sketch)
         some = [it for it in sketch.processes if it.kind == UNKNOWN and it.name in spared] if inside else []
-        places = places_of(it for it in some if it.is_fed)
-        lines = [(f"{place_words(*place)} -> any {OTHERS}", names) for place, names in places.items()]
-        lines += [(fed_by(it), [it.name]) for it in some if not it.is_fed and is_fed_by(it, sketch, inside)]
+        hungry = [it for it in some if it.is_fed or waits_for_others(it, inside)]
+        lines = [(f"{place_words(*place)} -> any {OTHERS}", names) for place, names in places_of(hungry).items()]
+        lines += [(fed_by(it), [it.name]) for it in some if it not in hungry and is_fed_by(it, sketch, inside)]
         if not lines:
             return
         number = max([last_number(sketch), *(fact.at for fact in spared.values())]) + 1
         apply_guesses(replace(facts, guesses=facts_of(lines, number), spared=spared), sketch)
+
+
+def waits_for_others(process: Process, stuck: Set[str]) -> bool:
+    """Whether one at rest is likely to wait for some who are stuck: it only receives, nobody is filled in, and of nobody
+    else it is known that he may feed it. One that selects may have a ticker of its own."""
+    is_plain = OF_SEVERAL not in process.operation and not [it for it in process.candidates if it != COMPLETE]
+    return is_plain and is_receiver(process) and stuck.union([process.name]).issuperset(process.bound or ())
 
 
 def is_fed_by(process: Process, sketch: Sketch, names: Set[str]) -> bool:
