@@ -24,10 +24,10 @@ from .base import Moment, Premise, Recorder
 from .jvm_code import CODE, SENTENCE, Code, read_code
 from .jvm_dumps import read_dumps
 from .jvm_frames import (AGAIN, BARRIER, CLEANER, COMPUTES, CONDITION, FUTURE, HAS_TIMER, INTERRUPTIBLY, INTERRUPTS,
-                         LATCH, LIMITED, LIMITS_FUTURES, LONG, MEETS, NEEDS_ALL, OF_ITEMS, OF_LOCKS, OF_QUEUES,
-                         POOLED, POOLS_OWN, READS, READS_PIPE, REENTRANT, SLEEP, SOCKETS, TASK, WORKER,
-                         YIELDS, Place, awaits_task, caller_of, is_at_inbox, is_for_outside, is_in, is_like, is_of_jvm,
-                         looks_on, own_of, place_of, short, tries_again)
+                         LATCH, LEAVES, LIMITED, LIMITS_FUTURES, LONG, MEETINGS, MEETS, NEEDS_ALL, NEVER_MEANT,
+                         OF_ITEMS, OF_LOCKS, OF_QUEUES, POOLED, POOLS_OWN, READS, READS_PIPE, REENTRANT, SLEEP,
+                         SOCKETS, TASK, WORKER, YIELDS, Place, awaits_task, caller_of, is_at_inbox, is_for_outside,
+                         is_in, is_like, is_of_jvm, looks_on, own_of, place_of, short, tries_again)
 from .jvm_heap import Heap, Heaps, is_between, read_heap
 from .jvm_heap import PREMISES as OF_HEAPS
 from .jvm_locks import Locks, monitors_of, objects_of
@@ -287,15 +287,36 @@ class JvmRecorder(Recorder):
                           "-l` shows that")
         reach = moment.heaps.reach_of(thread)
         if reach is not None:
-            bound, because = moment.heaps.bound_of(thread)
-            is_meant = not bound and not awaits_task(thread)  # (as to wait for ever)
-            is_any = LATCH.fullmatch(place.call) or not NEEDS_ALL.fullmatch(place.call)
-            return unknown(name, f"{what}: the heap shows who has a reference to it, and not who ends this wait",
-                           candidates=[*moment.heaps.in_order([*reach, name]), COMPLETE] if is_any else [],
-                           bound=None if moment.lacks or is_meant else bound,
-                           bound_by=list(map(premise, because)))
+            return self.wait_for_some(thread, place, name, reach, moment)
         workers = moment.workers if TASK.fullmatch(place.call) and not FUTURE.fullmatch(place.call) else []
         return unknown(name, f"{what}: the state doesn't show what ends this wait", candidates=workers)
+
+    def wait_for_some(self, thread: Thread, place: Place, name: str, reach: List[str], moment: Threads) -> Process:
+        """One of which the heap shows who has a reference to what it waits at. If nobody does who may end its wait, it
+        may be meant to wait for ever, but at no queue that is full, nor where several meet."""
+        what = place.call or "its wait"
+        bound, because = moment.heaps.bound_of(thread)
+        is_meant = not bound and not awaits_task(thread) and not NEVER_MEANT.fullmatch(place.call)
+        if is_meant and thread.name != "main" and not moment.lacks:
+            return unknown(name, f"{what}: nobody who has a reference to it ends this wait, by the heap and by the "
+                           "code, unless it is meant to wait for ever", proposal="nobody")
+        process = unknown(name, f"{what}: the heap shows who has a reference to it, and not who ends this wait",
+                          bound=None if moment.lacks or is_meant else bound, bound_by=list(map(premise, because)))
+        if MEETS.fullmatch(place.call):
+            self.ask_for_parties(process, reach, moment)
+        elif LATCH.fullmatch(place.call) or not NEEDS_ALL.fullmatch(place.call):
+            process.candidates = [*moment.heaps.in_order([*reach, name]), COMPLETE]
+        return process
+
+    def ask_for_parties(self, process: Process, reach: List[str], moment: Threads) -> None:
+        """Asks who hasn't come to where several meet, by who has a reference to it. Those who wait there have come, and
+        who waits for the end of others comes no more. If nobody is left, a party is likely to have ended."""
+        gone = {self.names[it.key] for it in moment.threads
+                if is_in(MEETINGS, stack_of(it)) or is_in(LEAVES, stack_of(it))}
+        process.candidates = [*moment.heaps.in_order([it for it in reach if it not in gone]), COMPLETE]
+        if process.candidates == [COMPLETE] and not moment.lacks:
+            process.proposal, process.candidates = "nobody", []
+            process.reason += ": those that may come to it wait there or have ended"
 
     def wait_to_read(self, lock: str, what: str, name: str, frail: List[str], moment: Threads) -> Process:
         """One that waits to read with a lock that nobody owns stands in its queue behind one that waits to write. One
@@ -477,9 +498,10 @@ def check_different(first: Dump, later: Dump) -> None:
 
 
 def check_order(first: Dump, later: Dump) -> None:
-    """Raises Refusal if a state was taken before the first: then who has come since would have ended."""
-    before = {it.key: float(it.elapsed) for it in first.threads if it.elapsed}
-    if any(float(it.elapsed) < before.get(it.key, 0) for it in later.threads if it.elapsed):
+    """Raises Refusal if a state was taken before the first: then who has come since would have ended. A compiler of the
+    JVM that ends, and begins again, has the same number and another address."""
+    before = {(it.key, it.identity): float(it.elapsed) for it in first.threads if it.elapsed}
+    if any(float(it.elapsed) < before.get((it.key, it.identity), 0) for it in later.threads if it.elapsed):
         raise Refusal(f"{later.path}: it was taken before {first.path}: the states are expected in the order of time")
 
 

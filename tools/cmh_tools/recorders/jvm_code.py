@@ -21,6 +21,7 @@ KINDS = TASKS, MONITORS, PERMITS, LATCHES, SIGNALS, ITEMS, ROOM, MEETINGS, REQUE
 WAITS = re.compile(r"java\.lang\.Object\.wait0?")
 _QUEUE = r"java\.util\.concurrent\.(?:(?:Array|Linked|Priority)BlockingQueue|LinkedBlockingDeque)"
 NOTHING: Set[str] = set()
+NOBODY: Label = 0, 0
 ENDED_BY = [(re.compile(pattern), kinds) for pattern, kinds in (
     (rf"{_QUEUE}\.(?:put|offer)\w*", {ROOM}), (rf"{_QUEUE}\.(?:take|poll)\w*", {ITEMS}),
     (r"java\.util\.concurrent\.Semaphore\.acquire\w*", {PERMITS}),
@@ -51,6 +52,12 @@ class Code:
         """Whether a thread ends no wait of some kinds."""
         label = label_of(thread)
         return kinds is not None and label in self.ends and {*kinds, REQUESTS}.isdisjoint(self.ends[label])
+
+    def may_free(self, thread: Thread, others: Iterable[Thread]) -> bool:
+        """Whether a thread is known to come to code that ends waits, besides the tasks that it runs, of such kinds as
+        those at which others wait."""
+        ends = {*self.ends.get(label_of(thread) or NOBODY, ())} - {TASKS}
+        return bool(ends) and any(not ends.isdisjoint(kinds_of(it) or ()) for it in others if it.state == "WAITING")
 
     def serves(self, thread: Thread) -> bool:
         """Whether a thread does no more than to give requests to the threads of a pool."""

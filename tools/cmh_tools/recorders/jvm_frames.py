@@ -87,6 +87,12 @@ READS = re.compile(r"ReentrantReadWriteLock\$ReadLock\.lock\w*")
 LATCH = re.compile(r"CountDownLatch\.await")
 # Operations that need all of a group to come to them.
 MEETS = re.compile(r"CyclicBarrier\.await|Phaser\.arriveAndAwaitAdvance")
+# Calls by which nobody means to wait for ever: to put something where there is no room, or to meet others.
+NEVER_MEANT = re.compile(r"\w+(?:Queue|Deque)\.(?:put\w*|transfer)|Exchanger\.exchange|CyclicBarrier\.await"
+                         r"|Phaser\.arriveAndAwaitAdvance")
+# Waits where several meet, and those for the end of threads and pools.
+MEETINGS = re.compile(r"java\.util\.concurrent\.(?:CyclicBarrier\.(?:await|dowait)|Phaser\.\w*[aA]wait\w*)")
+LEAVES = re.compile(r"java\.lang\.Thread\.join|java\.util\.concurrent\.\w+\.(?:awaitTermination|close)")
 # Calls that end once a task has run, the code of tasks, and the frames of threads of pools, which run tasks.
 TASK = re.compile(r"(?:FutureTask|CompletableFuture|ForkJoinTask)\.(?:get|join)")
 OF_TASKS = re.compile(r"java\.util\.concurrent\.(?:FutureTask|CompletableFuture|ForkJoinTask)\..*")

@@ -12,8 +12,8 @@ from typing import Any, Dict, Iterable, List, Optional, Set, Tuple
 from ..files import Refusal, shown
 from ..sketch import COMPLETE, SYSTEM, Process, premise, unknown, waits_for_all, waits_for_any
 from .base import misfits
-from .jvm_code import CODE, KINDS as OF_CODE, Code, kinds_of
-from .jvm_frames import FINDS_THREADS, awaits_task, is_in, is_of_jvm
+from .jvm_code import CODE, KINDS as OF_CODE, NOTHING, Code, kinds_of
+from .jvm_frames import FINDS_THREADS, awaits_task, is_in, is_of_jvm, place_of
 from .jvm_locks import Locks
 from .jvm_rows import LABEL, Label, frames_of, key_of, label_of, plain, trees_in
 from .jvm_text import Dump, Thread, stack_of
@@ -25,7 +25,7 @@ KINDS = TASK, QUEUED, READERS, JOIN, FUTURE, FUTURES, SUPPLIED, POOL, REACH, HOO
     "lost", "server")
 ROW = {"thread": LABEL, "frames": [str], "waits": re.compile("|".join(KINDS)), "for": [LABEL], "object?": str,
        "is_full?": bool, "is_direct?": bool, "besides?": [LABEL], "reach?": [LABEL], "tasks?": [str],
-       "sites?": [str]}
+       "sites?": [str], "answers?": bool}
 CANCELS, POOLS, COMPLETES, REACHES = "cancels", "pools", "completes", "reaches"
 PREMISES = {
     CANCELS: "nobody cancels a task for which a thread waits, nor interrupts a thread that waits for another one",
@@ -145,16 +145,25 @@ class Heaps:
 
     def reach_of(self, thread: Thread) -> Optional[List[str]]:
         """Returns the names of those who are likely to end the wait of a thread: who have a reference, but for those
-        for whom nobody has one."""
-        some = self.enders_of(thread)
-        return None if some is None else [self.names[it.key] for it in some if self.labels_of(it) != []]
+        for whom nobody has one, and those whose code ends no such wait."""
+        some, kinds = self.enders_of(thread), self.kinds_of(thread)
+        return None if some is None else [self.names[it.key] for it in some if self.labels_of(it) != []
+                                          and not self.frees_nobody(it, kinds)]
+
+    def kinds_of(self, thread: Thread) -> Optional[Iterable[str]]:
+        """Returns of which kinds what may end the wait of a thread is. The end of a task is its own alone, if it is
+        known by whom that is run: a timer runs what stands in its own queue."""
+        wait = self.heap.wait_of(thread) if self.heap else None
+        is_task = wait is not None and wait.kind in (TASK, QUEUED) and all(it in self.there for it in wait.whom)
+        return NOTHING if is_task else kinds_of(thread)
 
     def bound_of(self, thread: Thread) -> Tuple[List[str], List[str]]:
         """Returns the names of all who may end the wait of a thread, and by which premises: who have a reference, but
         for those at what nobody has but they, unless it is a task, and those whose code ends none. One that joins
         another, or waits for a task, goes on without a reference to it."""
         some = [it for it in self.enders_of(thread) or () if not self.is_lost(it) or awaits_task(it)]
-        found = [it for it in some if not self.frees_nobody(it, kinds_of(thread))]
+        kinds = self.kinds_of(thread)
+        found = [it for it in some if not self.frees_nobody(it, kinds)]
         found = found or [it for it in some if it.state == "WAITING"]  # (who may hang as well)
         return [self.names[it.key] for it in found], [REACHES, *([CODE] if len(found) < len(some) else [])]
 
@@ -197,9 +206,11 @@ class Heaps:
         return self.names_of(wait.whom) if wait is not None and is_known else []
 
     def is_periodic(self, thread: Thread) -> bool:
-        """Whether a thread has nothing to do later but what it does again and again."""
+        """Whether a thread has nothing to do later but what it does again and again, which isn't seen to end waits."""
         wait = self.heap.wait_of(thread) if self.heap else None
-        return wait is not None and wait.kind == TIMER
+        others = [it for it in self.threads.values() if it is not thread and not place_of(it).idle]
+        is_freeing = self.code is not None and self.code.may_free(thread, others)
+        return wait is not None and wait.kind == TIMER and not is_freeing
 
     def process_of(self, thread: Thread, name: str) -> Optional[Process]:
         """Returns what a thread waits for without a limit, as a process, or None if the heap doesn't say it."""
@@ -227,10 +238,10 @@ class Heaps:
         waits = waits_for_all if wait.kind == FUTURES else waits_for_any
         enders = self.enders_of(thread)
         if enders is not None:
-            is_by_code = any(self.frees_nobody(it, kinds_of(thread)) for it in enders)
+            is_by_code = any(self.frees_nobody(it, self.kinds_of(thread)) for it in enders)
             because += map(premise, [REACHES, *([CODE] if is_by_code else [])])
             self.bounded.add(name)
-        others = [self.names[it.key] for it in enders or () if not self.frees_nobody(it, kinds_of(thread))]
+        others = [self.names[it.key] for it in enders or () if not self.frees_nobody(it, self.kinds_of(thread))]
         return waits(name, whom, because, besides=list(dict.fromkeys([*self.names_of(wait.besides), *others])))
 
     def stands(self, thread: Thread) -> bool:
