@@ -10,7 +10,7 @@ import struct
 import subprocess
 import time
 import zipfile
-from typing import Any, Callable, Dict, Iterable, Iterator, List, NamedTuple, Optional, Set, Tuple
+from typing import Any, Callable, Dict, Iterable, Iterator, List, NamedTuple, Optional, Sequence, Set, Tuple
 
 MOST_FILES = 30_000  # on the class path, with its folders
 ABOUT, INDEX = "META-INF/MANIFEST.MF", "META-INF/INDEX.LIST"
@@ -61,7 +61,8 @@ COPIES = {89: (1, 1), 90: (1, 2, 1), 91: (1, 3, 2, 1), 92: (2, 1, 2, 1), 93: (2,
 ENDS = {*range(172, 178), 191, 167, 170, 171, 200}  # after which the next instruction doesn't follow
 # A value of which nothing is known, and the signs before the type of one that this code has made itself, and of one
 # that is of no class that derives from this.
-ANY_VALUE, NEW_VALUE, NO_OTHER, RETURNS = "?", "+", "!", ">"  # the last before what a function returns
+ANY_VALUE, NEW_VALUE, NO_OTHER, RETURNS, FROM = "?", "+", "!", ">", "&"  # the last two before what a function returns,
+# and before a variable that is never set, with the final fields by which one comes from that to a value
 CONSTANTS = {3: "I", 4: "F", 5: "J", 6: "D", 7: "Ljava/lang/Class;", 8: "Ljava/lang/String;"}
 ARRAYS = {4: "Z", 5: "C", 6: "F", 7: "D", 8: "B", 9: "S", 10: "I", 11: "J"}
 U2, U4, S2, S4 = (struct.Struct(it) for it in (">H", ">I", ">h", ">i"))
@@ -330,12 +331,13 @@ def slots(types: Iterable[str]) -> List[str]:
 class Flow:
     """What is known of the types of values before each instruction of a method. It has begun already if a line is
     given, and goes on from there, or behind a call that it makes there to a method of the program of a name: `reached`
-    are the instructions to which it may come. What it has made before others
-    may have found since. `result` says of what type the value is that a call returns, by the object that it is of and
-    whether it is one of these."""
+    are the instructions to which it may come. What it has made before others may have found since. `given` are the
+    types of its parameters, and `result` says of what type the value is that a call returns, by the object that it is
+    of and whether it is one of these. `call` is that call, if it is the only one, and `source` from where its object
+    comes, if that is never another."""
 
     def __init__(self, file: ClassFile, method: Method, result: Callable[[Call, str, bool], str],
-                 line: Optional[int] = None, called: str = "") -> None:
+                 line: Optional[int] = None, called: str = "", given: Sequence[str] = ()) -> None:
         self.file, self.method, self.code, self.result = file, method, method.code, result
         self.after = {at: (at + size, what, some) for at, what, some, size in sized(method.code)}
         self.catches = file.catches(method)
@@ -349,9 +351,18 @@ class Flow:
         own = [] if method.flags & IS_STATIC else [f"{sign}L{method.owner};"]
         self.before: Dict[int, Values] = {}
         self.todo: List[int] = []
-        self.join(0, Values((), tuple(slots([*own, *TYPE.findall(method.types.partition(")")[0])]))))
+        self.set = set_in(method.code)
+        self.join(0, Values((), tuple(slots([*own, *given]))))
         while self.todo:
             self.go_on(self.todo.pop())
+        is_alone = len(calls) == 1 and not any(self.code[at] == DYNAMICALLY for at in here)
+        self.call = self.file.call(VIRTUAL, self.index(calls[0])) if is_alone else None
+        self.source = self.source_of(calls[0], self.call) if self.call else ""
+
+    def source_of(self, at: int, call: Call) -> str:
+        """Returns from which variable, by which final fields, the object of a call comes, or nothing."""
+        is_of_object = self.code[at] in (VIRTUAL, INTERFACE) and at in self.before
+        return self.taken(at, call)[0].partition(FROM)[2] if is_of_object else ""
 
     def at_line(self, line: int) -> List[int]:
         """Returns the instructions of a line."""
@@ -420,7 +431,8 @@ class Flow:
         elif 21 <= what <= 45:
             number, kind = (self.index(at), what - 21) if what < 26 else ((what - 26) % 4, (what - 26) // 4)
             value = variables[number] if number < len(variables) else ANY_VALUE
-            stack += slots(["IJFD"[kind] if kind < 4 else value])
+            is_first = number not in self.set and value.startswith("L") and FROM not in value
+            stack += slots(["IJFD"[kind] if kind < 4 else f"{value}{FROM}{number}" if is_first else value])
         elif 54 <= what <= 78:
             number, kind = (self.index(at), what - 54) if what < 59 else ((what - 59) % 4, (what - 59) // 4)
             variables = stored(variables, number, stack[-1 - (kind in (1, 3)):])
@@ -439,8 +451,9 @@ class Flow:
             array_ = bare(stack[-2])
             left, taken = array_[1:] if array_.startswith("[") else ANY_VALUE, 2
         elif what in (178, 180, 181):
-            types = self.file.call(what, index).types
-            left, taken = ("V", 1 + len(slots([types]))) if what == 181 else (types, int(what == 180))
+            field = self.file.call(what, index)
+            left = "V" if what == 181 else f"{field.types}{self.source_by(field, stack[-1]) if what == 180 else ''}"
+            taken = 1 + len(slots([field.types])) if what == 181 else int(what == 180)
         elif VIRTUAL <= what <= DYNAMICALLY:
             call = self.file.call(what, index)
             taken = taken_by(call)
@@ -454,6 +467,11 @@ class Flow:
             raise Fault(f"{self.method.owner}.{self.method.name} has an instruction {what}")
         del stack[len(stack) - taken:]
         stack += slots([left])
+
+    def source_by(self, field: Call, thing: str) -> str:
+        """Returns from where what stands in a field of an object comes, if that is never another."""
+        is_final = field.owner == self.file.name and field.name in self.file.finals and field.types.startswith("L")
+        return f"{FROM}{thing.partition(FROM)[2]}.{field.name}" if is_final and FROM in thing else ""
 
     def made(self, at: int, what: int, name: str, top: List[str]) -> str:
         """Returns the type of what is made, or taken for one."""
@@ -472,6 +490,19 @@ class Flow:
         return [it for it in stack[len(stack) - taken_by(call):] if it]
 
 
+def set_in(code: bytes) -> Set[int]:
+    """Returns which variables some code sets."""
+    found: Set[int] = set()
+    for at, what, _ in steps(code):
+        is_wide = what == 196
+        what = code[at + 1] if is_wide else what
+        if 54 <= what <= 58:
+            found.add(U2.unpack_from(code, at + 2)[0] if is_wide else code[at + 1])
+        elif 59 <= what <= 78:
+            found.add((what - 59) % 4)
+    return found
+
+
 def taken_by(call: Call) -> int:
     """Returns how many slots a call takes from the stack."""
     return len(slots(TYPE.findall(call.types.partition(")")[0]))) + (call.how not in (STATIC, DYNAMICALLY))
@@ -479,7 +510,7 @@ def taken_by(call: Call) -> int:
 
 def bare(types: str) -> str:
     """Returns a type without its signs."""
-    return types.lstrip(NEW_VALUE + NO_OTHER).partition(RETURNS)[0]
+    return types.lstrip(NEW_VALUE + NO_OTHER).partition(RETURNS)[0].partition(FROM)[0]
 
 
 def stored(variables: Tuple[str, ...], number: int, some: List[str]) -> Tuple[str, ...]:

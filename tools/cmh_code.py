@@ -15,12 +15,12 @@ import json
 import re
 import sys
 from collections import defaultdict
-from typing import Any, Dict, Iterable, Iterator, List, NamedTuple, Optional, Set, Tuple
+from typing import Any, Dict, Iterable, Iterator, List, NamedTuple, Optional, Sequence, Set, Tuple
 
-from cmh_classes import (AASTORE, ANY_VALUE, BROKEN, CAST, DYNAMICALLY, GETFIELD, GETSTATIC, INTERFACE, IS_ABSTRACT,
-                         IS_NATIVE, IS_STATIC, LAMBDAS, LENGTHS, NEW, NEW_VALUE, NO_OTHER, PUTFIELD, PUTSTATIC, STATIC,
-                         RETURNS, TYPE, U2, VIRTUAL, Call, ClassFile, Fault, Flow, Lambda, Method, bare, loaded_by,
-                         path_of, slots, steps)
+from cmh_classes import (AASTORE, ANY_VALUE, BROKEN, CAST, DYNAMICALLY, FROM, GETFIELD, GETSTATIC, INTERFACE,
+                         IS_ABSTRACT, IS_NATIVE, IS_STATIC, LAMBDAS, LENGTHS, NEW, NEW_VALUE, NO_OTHER, PUTFIELD,
+                         PUTSTATIC, RETURNS, STATIC, TYPE, U2, VIRTUAL, Call, ClassFile, Fault, Flow, Lambda, Method,
+                         bare, loaded_by, path_of, slots, steps)
 
 MOST_METHODS = 5_000  # that one thread may come to
 # What the JDK's own classes are called.
@@ -44,6 +44,8 @@ BY_NAME = re.compile(r".*\.(?:loadClass|findClass)|java/lang/(?:Class\.forName|C
 PIPES, STREAMS = re.compile(
     r"java/io/(?:Piped.*|SequenceInputStream\.<init>)|javax/net/ssl/\w+\.\w+Selector"), re.compile(
     r".*\.onClose|java/util/stream/(?:Stream\$Builder|Collector)\..*")
+# Calls by which a final field may come to have another value.
+SETS_FIELDS = re.compile(r"java/lang/Class\.get(?:Declared)?Fields?|java/lang/reflect/Field\..*|.*/Unsafe\..*")
 MEETS_FOR = re.compile(r"java/util/concurrent/CyclicBarrier\.<init> with Runnable")
 POOLS = re.compile(r".*\.(?:allowCoreThreadTimeOut|setCorePoolSize)")
 # Types of the JDK whose methods no method in HARMLESS calls, though the program has classes and lambdas of them.
@@ -64,7 +66,7 @@ COUNTED = (r"(?:size|getCount|availablePermits|getQueueLength|hasQueuedThreads|g
 QUIET = re.compile(
     rf"java/lang/(?:{NUMBERS}|Number|Math|StrictMath|String|StringBuilder|StringBuffer)\.[\w<>]+"
     r"|java/lang/Thread\.(?:sleep|currentThread|getName|getId|threadId|isInterrupted|interrupted|isAlive|isDaemon"
-    r"|getState|getPriority|yield|onSpinWait)"
+    r"|getState|getPriority|yield|onSpinWait|setName|setDaemon|setPriority)"
     r"|java/lang/System\.(?:currentTimeMillis|nanoTime|lineSeparator|identityHashCode)"
     r"|java/lang/Runtime\.(?:getRuntime|totalMemory|freeMemory|maxMemory|availableProcessors)"
     r"|java/lang/(?:Object\.(?:<init>|getClass|wait)|Record\.<init>|Enum\.(?:<init>|name|ordinal)"
@@ -116,6 +118,11 @@ FREES = [(label, re.compile(pattern)) for label, pattern in (
     ("items", rf"{QUEUES}\.(?:add|offer|put|addFirst|addLast|offerFirst|offerLast|putFirst|putLast|push)|{WATCHES}"
      r"|java/util/concurrent/DelayQueue\.(?:take|poll|remove)"),
     ("room", rf"{QUEUES}\.(?:poll\w*|take\w*|remove\w*|pop|clear)|java/util/Iterator\.remove"))]
+# What makes a thread, and what may be done to one that is new. `join` waits for any.
+MAKES_THREAD, TO_NEW_THREAD = "java/lang/Thread.<init>", re.compile(
+    r"java/lang/Thread\.(?:start|setUncaughtExceptionHandler)")
+NEW_THREAD = f"{NEW_VALUE}{NO_OTHER}Ljava/lang/Thread;"  # (by which nobody comes to what that runs)
+INHERITED, LOADER = re.compile(r"java/lang/InheritableThreadLocal"), "getContextClassLoader"
 # Files that are only read.
 FILES = re.compile(r"java/nio/file/(?:Path\.\w+|Paths\.get|Files\.\w+|FileSystems\.getDefault"
                    r"|FileSystem\.(?:getPath|newWatchService)|FileStore\.\w+"
@@ -126,7 +133,8 @@ FILES = re.compile(r"java/nio/file/(?:Path\.\w+|Paths\.get|Files\.\w+|FileSystem
 # What reads and writes elsewhere: who waits for that is in a native method.
 IO = re.compile(r"java/net/(?:URL|URI|URLConnection|HttpURLConnection|InetAddress|InetSocketAddress|Socket|ServerSocket"
                 r"|DatagramSocket|DatagramPacket|NetworkInterface)\.[\w<>]+"
-                r"|com/sun/net/httpserver/(?:HttpServer\.getAddress|HttpExchange\.(?:get\w+|sendResponseHeaders|close))"
+                r"|com/sun/net/httpserver/(?:HttpServer\.getAddress|HttpExchange\.(?:get\w+|sendResponseHeaders|close)"
+                r"|Headers\.(?:add|set|getFirst|get|containsKey))"
                 r"|java/io/(?:InputStream|OutputStream|FileInputStream|FileOutputStream|BufferedInputStream"
                 r"|BufferedOutputStream|DataInputStream|DataOutputStream|InputStreamReader|OutputStreamWriter"
                 r"|FileReader|FileWriter|BufferedReader|BufferedWriter|PrintWriter|PrintStream|Reader|Writer"
@@ -198,7 +206,7 @@ SUPPLIES, LOCALS = re.compile(r"java/util/function/\w*Supplier\.get\w*"), re.com
     r"java/lang/ThreadLocal\.(?:get|set|remove|withInitial|<init>)")
 # By which a stream runs what others have asked its pool for.
 PARALLEL = re.compile(r".*\.parallel\w*|java/util/stream/StreamSupport\..*")
-REFERENCES = "Ljava/lang/ref/ReferenceQueue;"
+REFERENCES, GROUP, RUNNABLE = "Ljava/lang/ref/ReferenceQueue;", "Ljava/lang/ThreadGroup;", "Ljava/lang/Runnable;"
 FACTORY = "Ljava/util/function/Supplier;"  # (which may give what others have, into which it is put then)
 OF_FUNCTIONS = re.compile(r"java/util/function/\w+\.(?:get|apply|accept|test)\w*")
 FUNCTIONS = re.compile(r"L(?:java/util/function/\w+|java/lang/Runnable|java/util/concurrent/Callable"
@@ -235,6 +243,14 @@ NOT_KEPT = re.compile(r"remove\w*|retainAll|clear|forEach|contains\w*|get(?!And)
                       r"|indexOf|sort|sub\w+|head\w+|tail\w+|higher\w*|lower\w*|floor\w*|ceiling\w*|descending\w+"
                       r"|take\w*|pop|release|max|min")
 OF_PHASERS = re.compile(r"java/util/concurrent/Phaser")
+# What a server of HTTP calls, besides filters and the like, and what a pool calls for a new thread, with what it gives
+# that to run.
+HANDLE = Call(INTERFACE, "com/sun/net/httpserver/HttpHandler", "handle", "(Lcom/sun/net/httpserver/HttpExchange;)V")
+FILTERS = re.compile(r"com/sun/net/httpserver/(?:Filter|Authenticator|BasicAuthenticator|Https\w+|SimpleFileServer"
+                     r"|HttpHandlers|spi/\w+)\..*|.*\.(?:setAuthenticator|getFilters)")
+MAKE_WORKER = Call(INTERFACE, "java/util/concurrent/ThreadFactory", "newThread",
+                   "(Ljava/lang/Runnable;)Ljava/lang/Thread;")
+OF_WORKERS = f"{NO_OTHER}Ljava/util/concurrent/ThreadPoolExecutor$Worker;"
 OF_LOGS = re.compile(r"java/util/logging/.*|java/lang/System\$Logger\w*")
 OF_LESS = re.compile(r"(?!java/util/(?:function/|concurrent/(?:locks/|Phaser|\w*Executor\w*|\w*Future|\w*ForkJoin\w*"
                      r"|Recursive\w*|CountedCompleter|Semaphore|Count\w+|Cyclic\w+|Rejected\w*|Completion\w*))).*")
@@ -257,8 +273,11 @@ BUILT, BEGINS = "$$Lambda", re.compile(r"java\.lang\.Thread\.run(?:With)?")
 HEADER = re.compile(r'"(?:.*)" #(\d+) .*tid=(0x[0-9a-f]+)')
 IN_WAIT, WAITED = re.compile(r"\n\s+at java\.lang\.Object\.wait0?\("), re.compile(
     r"\n\s+- waiting on <0x[0-9a-f]+> \(a ([^)\n]*)\)")
+# Who waits in the JDK's own code, at what no class of the program's is but a thread.
+WAITS_INSIDE = re.compile(r"\n\s+at java\.lang\.Object\.wait\(.*(?:\n\s+- .*)*\n\s+at java\."
+                          r"(?:util\.TimerThread\.mainLoop|lang\.(?:ref\.ReferenceQueue\.remove|Thread\.join))\(")
 FRAME = re.compile(r"\s+at (?:[\w.@$-]*/{1,2}(?!0x))?([^()]*)\((?:.*/)?([^/:]*)(?::(\d+))?\)\s*")
-MARK, TASKS = "# cmh heap ", "tasks"
+MARK, TASKS, ANSWERS = "# cmh heap ", "tasks", "answers"
 ITSELF, INTERRUPT = ("java/lang/Thread", "currentThread"), ("java/lang/Thread", "interrupt")
 GETTERS = re.compile(r"getName|getId|threadId|isInterrupted|isAlive|isDaemon|getState|getPriority|interrupt")
 ENUM, OF_ENUMS = "java/lang/Enum", ("java/lang/Enum.valueOf", "java/util/EnumMap.<init>", "java/util/EnumSet.allOf",
@@ -426,7 +445,9 @@ class Program:
         if name not in self.classes:
             return NUMBERED.fullmatch(name) is not None or COUNTERS.fullmatch(name) is not None \
                 and name not in self.below
-        return not self.classes[name].is_interface and all(map(self.has_plain_fields, self.below[name]))
+        is_made = self.classes[name].is_interface and any(not it.of or name in self.lineage(it.of)
+                                                          for some in self.lambdas.values() for it in some)
+        return not is_made and all(map(self.has_plain_fields, self.below[name]))
 
     def has_plain_fields(self, name: str) -> bool:
         some = [self.classes[it] for it in self.lineage(name) if it in self.classes]
@@ -479,6 +500,19 @@ def is_quiet(what: str, given: List[str]) -> bool:
     return is_clone or is_text or QUIET.fullmatch(what) is not None and all(map(PLAIN.fullmatch, given))
 
 
+class Part(NamedTuple):
+    """Code of a method: what it may come to from a line where it stands, in a call of that name, or else all of it.
+    `above` are the methods of which one runs by that call, `of` is the class that has it, unless a lambda has called
+    it, and `is_factory` says that it is given a worker of a pool."""
+
+    method: Method
+    line: Optional[int] = None
+    called: str = ""
+    above: Tuple[Method, ...] = ()
+    of: str = ""
+    is_factory: bool = False
+
+
 class Walk:
     """All code that a thread may come to from some methods. It raises Fault where that isn't known to be harmless.
     `has_tasks` says that it runs tasks for others, and `begun` has the classes that are initialised: those whose
@@ -490,8 +524,8 @@ class Walk:
         self.takes_itself, self.shares = False, False
         self.ends: Set[str] = {TASKS} if has_tasks else set()
         self.begun: Set[str] = set()
-        self.todo: List[Tuple[Method, Optional[int], str]] = []
-        self.seen: Set[int] = set()
+        self.todo: List[Part] = []
+        self.seen: Set[Tuple[int, Optional[Call]]] = set()
         self.passed: Set[Any] = set()
 
     def go(self) -> None:
@@ -500,31 +534,49 @@ class Walk:
         for name in AT_END:
             self.add(it for (other, _), some in self.program.by_call.items() if other == name for it in some)
             self.add_made(self.program.lambdas.get(name, ()))
-        for method, line, called in self.todo:  # (which grows meanwhile)
-            if method.flags & IS_NATIVE or len(self.todo) > MOST_METHODS:
-                raise Fault(f"{method.owner}.{method.name} is native, or the code is long")
-            if method.code:
-                Reading(self, method, line, called).read()
+        for part in self.todo:  # (which grows meanwhile)
+            if part.method.flags & IS_NATIVE or len(self.todo) > MOST_METHODS:
+                raise Fault(f"{part.method.owner}.{part.method.name} is native, or the code is long")
+            if part.method.code:
+                Reading(self, part).read()
         if self.takes_itself and self.shares:
             raise Fault("others may come to find itself")
 
-    def add(self, some: Iterable[Method]) -> None:
-        for it in some:
-            if id(it) not in self.seen:
-                self.seen.add(id(it))
-                self.todo.append((it, None, ""))
+    def serve(self, is_all: bool) -> None:
+        """Follows one that serves HTTP: what it is asked, if it or its pool runs no more than that, or else to whom it
+        gives that."""
+        if not is_all and (self.program.names(TAKES) or self.program.names(POOLS)):
+            raise Fault("others than the threads of its pool may do what it is asked")
+        self.ends.update([] if is_all else ["requests"])
+        self.call_back(OF_LOGS)
+        for call in (HANDLE, MAKE_WORKER) if is_all else ():
+            if call is HANDLE and self.program.names(FILTERS):
+                raise Fault("what it is asked may pass filters")
+            self.add(self.program.meant_by(call), call)
+            self.add_made(self.program.lambdas_for(call), call)
+        self.go()
 
-    def add_frame(self, some: Iterable[Method], line: int, called: str) -> None:
+    def add(self, some: Iterable[Method], call: Optional[Call] = None) -> None:
+        """Adds methods, which the JDK calls by one of its own if that is given."""
+        for it in some:
+            if (id(it), call) not in self.seen:
+                self.seen.add((id(it), call))
+                self.todo.append(Part(it, is_factory=call is MAKE_WORKER))
+
+    def add_frame(self, some: Iterable[Method], line: int, called: str, above: Sequence[Method], of: str) -> None:
         """Adds what is left of the methods of a frame, if one of them has its line, or else all of each. The frame
-        above is that of a method of the program by some name, or of none."""
+        above is that of a method of the program by some name, or of none: `above` and `of` are as in a part."""
         some = list(some)
         here = [it for it in some if it.code and line in {its for _, its in self.program.classes[it.owner].lines(it)}]
-        self.todo += [(it, line, called) for it in here]
+        self.todo += [Part(it, line, called, tuple(above), of) for it in here]
         self.add(some if not here else ())
 
-    def add_made(self, some: Iterable[Lambda]) -> None:
+    def add_made(self, some: Iterable[Lambda], call: Optional[Call] = None) -> None:
         for it in some:
-            self.call(it.call)
+            found = self.program.find(it.call) if call is MAKE_WORKER else []
+            self.add(found, call)
+            if not found:
+                self.call(it.call)
 
     def initialise(self, name: str) -> None:
         some = [self.program.classes[it] for it in self.program.lineage(name)
@@ -584,8 +636,23 @@ class Walk:
         if is_quiet(what, its.types):
             for meant, kin in KIN:
                 self.add(self.own_of(kin) if meant.fullmatch(what) else ())
-        elif not (self.passes_wait(what) or self.passes_change(what, call, its)):
+        elif what == MAKES_THREAD:
+            self.make_thread(its)
+        elif not (self.passes_wait(what) or self.passes_change(what, call, its) or its.is_new_thread(what)):
             self.call_open(what, its)
+
+    def make_thread(self, its: Given) -> None:
+        """Adds what a new thread runs, whether it is started or not: what it does counts as done by who makes it."""
+        if any(said == GROUP and value != "N" for said, value in zip(its.said, its.values)):
+            raise Fault("it may make a thread in a group")
+        self.add(self.own_of(INHERITED))
+        self.add(it for (name, _), some in self.program.by_call.items() if name == LOADER for it in some)
+        for value in (value for said, value in zip(its.said, its.values) if said == RUNNABLE):
+            if RETURNS not in value and value != "N" and not self.is_made_by_jdk((value,)):
+                self.call(Call(INTERFACE, bare(value)[1:-1] or RUNNABLE[1:-1], "run", "()V"), (value,))
+        name = bare(its.object)[1:-1]
+        if name in self.program.classes:
+            self.call(Call(VIRTUAL, name, "run", "()V"))
 
     def passes_wait(self, what: str) -> bool:
         """Whether a call only waits, or takes a lock or gives one back that it has."""
@@ -682,7 +749,7 @@ class Given:
         put there, too."""
         is_new = self.object.startswith(NEW_VALUE)
         return all(self.program.is_plain(value.partition(RETURNS)[2]) if FUNCTIONS.fullmatch(said)
-                   else is_new or self.program.is_plain(it)
+                   else is_new or value == NEW_THREAD or self.program.is_plain(it)
                    for value, it, said in zip(self.values, self.types, self.said))
 
     def are_of(self, *types: "re.Pattern[str]") -> bool:
@@ -693,6 +760,10 @@ class Given:
     def kinds_of(self, types: str) -> Iterable[str]:
         name = types.lstrip("[")[1:-1]
         return self.program.kinds.get(name, [name])
+
+    def is_new_thread(self, what: str) -> bool:
+        """Whether a call is of a thread that the code has made itself, so that it is known what that runs."""
+        return TO_NEW_THREAD.fullmatch(what) is not None and self.object.startswith(NEW_VALUE)
 
     def has_foreign_function(self) -> bool:
         """Whether it is given a function that the code hasn't made itself, or is a method of one."""
@@ -715,9 +786,12 @@ class Given:
 class Reading:
     """Goes through the code of one method: all of it, or what it may come to from a line where it stands."""
 
-    def __init__(self, walk: Walk, method: Method, line: Optional[int], called: str) -> None:
-        self.walk, self.method, self.file = walk, method, walk.program.classes[method.owner]
-        self.flow = Flow(self.file, method, self.result, line, called)
+    def __init__(self, walk: Walk, part: Part) -> None:
+        method = part.method
+        self.walk, self.method, self.file, self.part = walk, method, walk.program.classes[method.owner], part
+        types = TYPE.findall(method.types.partition(")")[0])
+        given = [*types[:-1], OF_WORKERS] if part.is_factory and types[-1:] == [RUNNABLE] else types
+        self.flow = Flow(self.file, method, self.result, part.line, part.called, given)
         self.take(method.owner, *TYPE.findall(method.types.partition(")")[0][1:]))
 
     def result(self, call: Call, its: str, is_new: bool) -> str:
@@ -840,7 +914,7 @@ class Reading:
     def run(self, call: Call, at: int) -> None:
         self.take(call.types.rpartition(")")[2])
         if call.how != DYNAMICALLY:
-            self.walk.call(call, tuple(self.flow.taken(at, call)))
+            self.call(call, tuple(self.flow.taken(at, call)))
             return
         maker = self.file.made(call)[0].owner
         if maker == LAMBDAS:
@@ -853,6 +927,20 @@ class Reading:
         given = self.file.fields if maker == OF_RECORDS else self.flow.taken(at, call)
         if maker != LAMBDAS and not all(it == "N" or PLAIN.fullmatch(bare(it)) for it in given):
             self.walk.call_back(OF_LESS)
+
+
+    def call(self, call: Call, given: Tuple[str, ...]) -> None:
+        """Adds what a call may run. The object of the call in which this stands is of the class whose method runs by
+        that, or of one that derives from it, or a lambda that calls what stands above."""
+        is_same = call.how in (VIRTUAL, INTERFACE) and self.flow.source != "" and self.part.above != () and (
+            given[0].partition(FROM)[2] == self.flow.source)
+        is_known = is_same and ("." not in self.flow.source or not self.walk.program.names(SETS_FIELDS))
+        if is_known and self.flow.call and call[2:] == self.flow.call[2:] and call.types.startswith("()"):
+            self.walk.add(self.part.above)
+        elif is_known and self.part.of in self.walk.program.below.get(call.owner, ()):
+            self.walk.call(call._replace(owner=self.part.of), given)
+        else:
+            self.walk.call(call, given)
 
 
 def program_of(pid: str) -> Program:
@@ -875,8 +963,8 @@ def waited_in(text: str) -> Optional[Set[str]]:
     """Returns the classes of the objects at which threads of a state are in Object.wait(), or None if not all of them
     are shown."""
     parts = re.split(r"\n(?=\")", text)
-    found = [WAITED.findall(part) for part in parts if IN_WAIT.search(part)]
-    if not all(found) or "<no object reference available>" in text:
+    found = [WAITED.findall(part) for part in parts if IN_WAIT.search(part) and not WAITS_INSIDE.search(part)]
+    if not all(found):
         return None
     return {it.replace(".", "/") for some in found for it in some}
 
@@ -899,17 +987,13 @@ def threads_in(text: str) -> Iterator[Thread]:
 
 def walk_of(program: Program, thread: Thread, tasks: List[str]) -> Walk:
     """Follows the code of a thread. Raises Fault if that isn't known to end nobody's wait, or of one kind alone."""
-    walk = Walk(program, tasks != [])
+    walk = Walk(program, tasks not in ([], [ANSWERS]))
     names = [(*name.replace(".", "/").rpartition("/")[::2], line) for name, line in thread.frames]
     own = [at for at, (name, _, _) in enumerate(names) if not JDK.fullmatch(name)]
     if not own and any(name == SERVES for name, _ in thread.frames):
-        if program.names(TAKES) or program.names(POOLS):
-            raise Fault("others than the threads of its pool may do what it is asked")
-        walk.ends.add("requests")
-        walk.call_back(OF_LOGS)
-        walk.go()
+        walk.serve(ANSWERS in tasks)
         return walk
-    if tasks and not own:
+    if walk.has_tasks and not own:
         for task in map(task_of, tasks):
             walk.add(methods_of(walk, task.owner, task.name, task))
         walk.go()
@@ -924,7 +1008,10 @@ def walk_of(program: Program, thread: Thread, tasks: List[str]) -> Walk:
     for at in own:
         is_passed = BUILT in names[at][0] and at - 1 in own  # (a lambda below the method that it calls)
         called = names[at - 1][1] if at - 1 in own else ""
-        walk.add_frame([] if is_passed else methods_of(walk, *names[at][:2]), names[at][2], called)
+        above = at - 2 if called and BUILT in names[at - 1][0] else at - 1
+        over = methods_of(walk, *names[above][:2]) if above in own and BUILT not in names[above][0] else []
+        of = names[above][0] if above == at - 1 else ""
+        walk.add_frame([] if is_passed else methods_of(walk, *names[at][:2]), names[at][2], called, over, of)
     walk.go()
     return walk
 
@@ -987,8 +1074,10 @@ def shown_in(text: str, program: Program) -> Dict[str, Tuple[str, Lambda]]:
 
 
 def tasks_in(text: str) -> Dict[Any, List[str]]:
-    """Returns the classes of the tasks of timers, by thread, as rows of the heap have them."""
-    return {tuple(it["thread"]): it["tasks"] for it in rows_in(text) if it.get("tasks")}
+    """Returns the classes of the tasks of timers, by thread, as rows of the heap have them, and that a server or its
+    pool runs no more than what that is asked."""
+    return {tuple(it["thread"]): it.get("tasks") or [ANSWERS] for it in rows_in(text)
+            if it.get("tasks") or it.get(ANSWERS)}
 
 
 def sites_in(text: str) -> Dict[str, List[str]]:

@@ -62,6 +62,7 @@ POOL_ENDS, TIMER = "java.util.concurrent.ThreadPoolExecutor.awaitTermination", "
 SCHEDULER = "java/util/concurrent/ScheduledThreadPoolExecutor"
 SCHEDULES = "java.util.concurrent.ScheduledThreadPoolExecutor$DelayedWorkQueue.take"
 SERVES, DISPATCHER = "sun.net.httpserver.ServerImpl$Dispatcher.run", "sun/net/httpserver/ServerImpl$Dispatcher"
+ITSELF, HANDS_OVER = "sun/net/httpserver/ServerImpl$DefaultExecutor", "java/util/concurrent/SynchronousQueue"
 DELEGATES = re.compile(r"java/util/concurrent/Executors\$\w*DelegatedExecutorService")
 LATCH = "java.util.concurrent.CountDownLatch.await"
 LOCKS = "java.util.concurrent.locks.ReentrantLock.lock"
@@ -855,7 +856,7 @@ class Waits:
     def server(self, thread: Thread) -> Row:
         """Returns the threads of the pool to which one that serves HTTP gives what it is asked, if it gives that to
         nobody else: the pool begins no more threads, refuses no task by code of the job, and each of these is at work.
-        """
+        Where it runs that itself, or its pool has nothing else to do, it `answers`."""
         its = [held for depth, held in thread.locals if thread.frames[depth:depth + 1]
                and thread.frames[depth][0] == SERVES and self.heap.name_of(self.heap.kind_of(held)) == DISPATCHER]
         server = self.heap.fields_of(its[0]).get("this$0", 0) if its else 0
@@ -865,12 +866,17 @@ class Waits:
         is_plain = pool in self.found[POOL] and self.heap.name_of(self.heap.kinds[pool]) == POOL and is_jdks(
             self.heap.name_of(self.heap.kind_of(self.heap.fields_of(pool).get("handler", 0))))
         queue, least, _ = self.found[POOL][pool] if is_plain else (0, 0, 0)
-        is_open = queue in self.found[QUEUE] and self.heap.name_of(self.heap.kinds[queue]) == QUEUE and (
-            self.found[QUEUE][queue][1] == UNBOUNDED)
+        is_linked = queue in self.found[QUEUE] and self.heap.name_of(self.heap.kinds[queue]) == QUEUE
+        is_open = is_linked and self.found[QUEUE][queue][1] == UNBOUNDED
         some = [self.threads.get(it) for its, it in self.found[WORKER].values() if its == pool]
         is_full = is_plain and is_open and 0 < least <= len(some) and not {WORKER, POOL, QUEUE} & self.heap.over
         labels = [it.label for it in some if it is not None and not it.top(GETS_TASK)]
-        return {"waits": "server", "for": labels} if is_full and len(labels) == len(some) else {}
+        if is_full and len(labels) == len(some):
+            return {"waits": "server", "for": labels}
+        is_empty = is_plain and not {POOL, QUEUE, NODE} & self.heap.over and (
+            is_linked and self.queued(pool) <= {0} or self.heap.name_of(self.heap.kind_of(queue)) == HANDS_OVER)
+        is_itself = self.heap.name_of(self.heap.kind_of(pool)) == ITSELF
+        return {"waits": "server", "for": [], "answers": True} if is_empty or is_itself else {}
 
     def is_for_hook(self, at: int) -> bool:
         """Whether the work of a thread that is started once the JVM ends has a latch itself, so that it opens it."""

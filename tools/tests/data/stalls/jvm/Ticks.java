@@ -18,7 +18,9 @@ abstract class Tick {
     final AtomicLong count = new AtomicLong();
     final ScheduledExecutorService timer = Executors.newScheduledThreadPool(1, it -> new Thread(it, "timer"));
 
-    static void rest() throws InterruptedException { Thread.sleep(3_600_000); }
+    static void rest() throws InterruptedException { rest(3_600_000); }
+
+    static void rest(long time) throws InterruptedException { Thread.sleep(time); }
 
     abstract void tick() throws Exception;
 
@@ -409,4 +411,214 @@ class Shares extends Tick {
     }
 
     public static void main(String[] words) { new Shares().start(); }
+}
+
+/** What a thread does that it starts, it does itself. */
+class Begins extends Tick {
+    void tick() throws Exception {
+        while (true) {
+            rest();
+            Thread made = new Thread(() -> permits.release(), "made");
+            made.setDaemon(true);
+            made.start();
+        }
+    }
+
+    public static void main(String[] words) { new Begins().start(); }
+}
+
+/** So it does nothing by one that only counts, and that others may find. */
+class BeginsPlain extends Tick {
+    final Map<String, Thread> made = new ConcurrentHashMap<>();
+
+    void tick() throws Exception {
+        while (true) {
+            rest();
+            Thread it = new Thread(count::incrementAndGet, "made");
+            made.put(it.getName(), it);
+            it.start();
+        }
+    }
+
+    public static void main(String[] words) { new BeginsPlain().start(); }
+}
+
+/** Another one has made the thread that it starts. */
+class BeginsLater extends Tick {
+    final Thread made = new Thread(permits::release, "made");
+
+    void tick() throws Exception { while (true) { rest(); made.start(); } }
+
+    public static void main(String[] words) { new BeginsLater().start(); }
+}
+
+class Derives extends Tick {
+    class Job extends Thread {
+        @Override public void run() { permits.release(); }
+    }
+
+    void tick() throws Exception { while (true) { rest(); new Job().start(); } }
+
+    public static void main(String[] words) { new Derives().start(); }
+}
+
+/** Another one has made what it has a thread run. */
+class Hires extends Tick {
+    final Queue<Runnable> works = new ConcurrentLinkedQueue<>(List.of(permits::release));
+
+    void tick() throws Exception { while (true) { rest(); new Thread(works.poll()).start(); } }
+
+    public static void main(String[] words) { new Hires().start(); }
+}
+
+/** A new thread is given what the one has that makes it, by code of the program. */
+class Bequeaths extends Tick {
+    final InheritableThreadLocal<Long> local = new InheritableThreadLocal<>() {
+        @Override protected Long childValue(Long of) { permits.release(); return of; }
+    };
+
+    void tick() throws Exception { local.set(1L); while (true) { rest(); new Thread(() -> { }).start(); } }
+
+    public static void main(String[] words) { new Bequeaths().start(); }
+}
+
+/** Notes of all kinds have texts alone. */
+class Notes extends Tick {
+    sealed interface Note permits Seen, Lost { }
+    record Seen(String text, int number) implements Note { }
+    record Lost(String text) implements Note { }
+    final Queue<Note> notes = new ConcurrentLinkedQueue<>();
+
+    Note note() { return count.get() > 5 ? new Seen("a", 1) : new Lost("b"); }
+
+    void tick() throws Exception { while (true) { rest(); notes.add(note()); } }
+
+    public static void main(String[] words) { new Notes().start(); }
+}
+
+/** By one kind of them others come to more. */
+class NotesOpen extends Tick {
+    interface Note { }
+    record Seen(String text) implements Note { }
+    record Held(Semaphore its) implements Note { }
+    final Queue<Note> notes = new ConcurrentLinkedQueue<>();
+    final Note note = new Held(permits);
+
+    void tick() throws Exception { while (true) { rest(); notes.add(note); } }
+
+    public static void main(String[] words) { new NotesOpen().start(); }
+}
+
+/** One kind of them is a function. */
+class NotesMade extends Tick {
+    interface Note { void read(); }
+    record Seen(String text) implements Note { public void read() { } }
+    final Queue<Note> notes = new ConcurrentLinkedQueue<>();
+    final Note note = permits::release;
+
+    void tick() throws Exception { while (true) { rest(); notes.add(note); } }
+
+    public static void main(String[] words) { new NotesMade().start(); }
+}
+
+/** What several have in common, each of whom does its own in turn. */
+abstract class Turns extends Tick {
+    abstract void turn() throws Exception;
+
+    void more() { }
+
+    void tick() throws Exception { while (true) { turn(); more(); } }
+}
+
+/** Another one has a turn that ends waits. */
+class TurnsOwn extends Turns {
+    static class Other extends TurnsOwn {
+        @Override void turn() { permits.release(); }
+    }
+
+    void turn() throws Exception { rest(); }
+
+    public static void main(String[] words) { new Other(); new TurnsOwn().start(); }
+}
+
+/** It is of a class that derives from the one that has its turn. */
+class TurnsBelow extends Turns {
+    static class Below extends TurnsBelow {
+        @Override void more() { permits.release(); }
+    }
+
+    void turn() throws Exception { rest(); }
+
+    public static void main(String[] words) { new Below().start(); }
+}
+
+/** The function that it calls again is the one that runs. */
+class Repeats extends Tick {
+    interface Step { void run() throws Exception; }
+    final Step first = Tick::rest, other = permits::release;
+
+    void repeat(Step step) throws Exception { while (true) step.run(); }
+
+    void tick() throws Exception { repeat(first); }
+
+    public static void main(String[] words) { new Repeats().start(); }
+}
+
+/** Its variable has another one the next time. */
+class RepeatsOther extends Tick {
+    interface Step { void run() throws Exception; }
+    final Step first = Tick::rest, other = permits::release;
+
+    void repeat(Step step) throws Exception { while (true) { step.run(); step = other; } }
+
+    void tick() throws Exception { repeat(first); }
+
+    public static void main(String[] words) { new RepeatsOther().start(); }
+}
+
+/** Its field may have another one. */
+class RepeatsField extends Tick {
+    interface Step { void run() throws Exception; }
+    volatile boolean rests;
+    Step step = () -> { rests = true; rest(); };
+
+    void tick() throws Exception { while (true) step.run(); }
+
+    public static void main(String[] words) throws Exception {
+        RepeatsField made = new RepeatsField();
+        made.start();
+        while (!made.rests) rest(10);
+        made.step = made.permits::release;
+    }
+}
+
+/** What a function does depends on what it is given. */
+class RepeatsGiven extends Tick {
+    interface Work { void go() throws Exception; }
+    interface Step { void run(Work work) throws Exception; }
+    class First implements Work { public void go() throws Exception { rest(); } }
+    class Other implements Work { public void go() { permits.release(); } }
+
+    void repeat(Step step) throws Exception { for (Work it : List.of(new First(), new Other())) step.run(it); }
+
+    void tick() throws Exception { repeat(Work::go); }
+
+    public static void main(String[] words) { new RepeatsGiven().start(); }
+}
+
+/** The class in which a function was made is of the same interface, and does less than the function. */
+class Hosts extends Tick {
+    static final Semaphore ALL = new Semaphore(0);
+    interface Step { void run() throws Exception; default void end() { } }
+    interface Last extends Step { @Override default void end() { ALL.release(); } }
+    static class Host implements Step {
+        static final Last LAST = () -> rest();
+        public void run() { }
+    }
+
+    void repeat(Step step) throws Exception { while (true) { step.run(); step.end(); } }
+
+    void tick() throws Exception { repeat(Host.LAST); }
+
+    public static void main(String[] words) { new Hosts().start(); }
 }
