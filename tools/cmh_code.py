@@ -648,7 +648,7 @@ class Walk:
         self.add(self.own_of(INHERITED))
         self.add(it for (name, _), some in self.program.by_call.items() if name == LOADER for it in some)
         for value in (value for said, value in zip(its.said, its.values) if said == RUNNABLE):
-            if RETURNS not in value and value != "N" and not self.is_made_by_jdk((value,)):
+            if RETURNS not in value and value not in ("N", OF_WORKERS, NEW_THREAD):
                 self.call(Call(INTERFACE, bare(value)[1:-1] or RUNNABLE[1:-1], "run", "()V"), (value,))
         name = bare(its.object)[1:-1]
         if name in self.program.classes:
