@@ -203,7 +203,18 @@ granted(Module, Code) ->
         _ -> []
     end.
 
-requests(Function, Code) -> lists:usort(requests_in(maps:get(Function, Code, []), [])).
+%% What a function is asked. The compiler may look at the size of a tuple before its tag.
+requests(Function, Code) ->
+    Instructions = maps:get(Function, Code, []),
+    Found = requests_in(Instructions, []),
+    Sizes = lists:usort(lists:flatmap(fun sizes_in/1, Instructions)),
+    lists:usort(Found ++ [tagged(Tag, Size) || {Tag, 0, _} <- Found, Size <- Sizes]).
+
+sizes_in({test, test_arity, _, [_, Size]}) -> [Size];
+sizes_in({select_tuple_arity, _, _, {list, Cases}}) -> [Size || Size <- Cases, is_integer(Size)];
+sizes_in(_) -> [].
+
+tagged(Tag, Size) -> {Tag, Size, {tuple, [{atom, Tag} | lists:duplicate(Size - 1, any)]}}.
 
 %% Whether a function begins to monitor somebody, and has no caller answered that is kept.
 monitors(Function, Value, Code) ->
@@ -220,7 +231,7 @@ monitors(Function, Value, Code) ->
 
 requests_in([], Found) -> Found;
 requests_in([{test, is_tagged_tuple, _, [_, Size, {atom, Tag}]} | Rest], Found) ->
-    requests_in(Rest, [{Tag, Size, {tuple, [{atom, Tag} | lists:duplicate(Size - 1, any)]}} | Found]);
+    requests_in(Rest, [tagged(Tag, Size) | Found]);
 requests_in([{test, is_eq_exact, _, [_, {atom, Tag}]} | Rest], Found) ->
     requests_in(Rest, [{Tag, 0, {atom, Tag}} | Found]);
 requests_in([{select_val, _, _, {list, Cases}} | Rest], Found) ->
