@@ -166,8 +166,9 @@ is_send({call_ext, _, {extfunc, Module, Name, _}}) ->
 is_send(_) -> false.
 
 %% What those may do next who stand at some places, by their code: `mute` who goes on for ever and sends nothing to
-%% which anybody does anything, as one that writes to a log now and then; `wakes` who may be woken by a timer of its own
-%% code, other than for such a thing; `deaf` a server that tells nobody anything by itself. And the modules whose timers
+%% which anybody does anything, as one that writes to a log now and then; `calm` who does so as long as nobody tells it
+%% something; `firm` who doesn't fail meanwhile; `wakes` who may be woken by a timer of its own code, other than for
+%% such a thing; `deaf` a server that tells nobody anything by itself. And the modules whose timers
 %% tell the process that begins them a constant: they keep no reference. `stays` who sleeps as the last thing that it
 %% does, where all do so for ever.
 ways(Places, Code) ->
@@ -183,10 +184,43 @@ ways(Places, Code) ->
     Rows = [{Number, [Word || Word <- [mute, deaf, wakes], is_so(Word, Place, Known)]
                      ++ [Word || Place =:= {frames, []}, Word <- Stays]}
             || {place, Number, Place} <- lists:usort(Places), Place =/= none],
+    More = firm_ones(Places, Rows, Known),
     Plain = [{Module} || {Module, [_ | _] = Found} <- Told, lists:all(fun is_plain/1, Found)],
     Outside = [{Module} || {Module, Found} <- Told, lists:member(aimed, Found)],
     Grants = [{Module, list_to_atom(Tag)} || {Module, handle_call, 3} <- maps:keys(Code), Tag <- granted(Module, Code)],
-    [{"places", Rows}, {"ticks", Plain}, {"outside", Outside}, {"grants", Grants}].
+    [{"places", [{Number, Words ++ maps:get(Number, More, [])} || {Number, Words} <- Rows]},
+     {"ticks", Plain}, {"outside", Outside}, {"grants", Grants}].
+
+%% Who goes on as long as no message comes, and who of them doesn't fail by itself, by the numbers of their places.
+firm_ones(Places, Rows, {Code, Names, Ticks} = Known) ->
+    Some = [{Number, Frames} || {place, Number, {frames, [_ | _] = Frames}} <- lists:usort(Places)],
+    Mute = [{Number, [firm || is_firm(Frames, Code)]} || {Number, Frames} <- Some,
+                                                         lists:member(mute, proplists:get_value(Number, Rows, []))],
+    Left = [Each || {Number, _} = Each <- Some, not lists:keymember(Number, 1, Mute)],
+    forget(),
+    Silent = {without_messages(Code), Names, Ticks},
+    Calm = [{Number, [calm | [firm || is_firm(Frames, element(1, Silent))]]}
+            || {Number, Frames} <- Left, is_so(mute, {frames, Frames}, Silent), is_untold(Frames, Silent, Known)],
+    forget(),
+    maps:from_list(Mute ++ Calm).
+
+%% The code as it goes on where no message comes.
+without_messages(Code) ->
+    maps:map(fun(_, Instructions) ->
+                 [case Each of {loop_rec, Label, _} -> {jump, Label}; _ -> Each end || Each <- Instructions]
+             end, Code).
+
+%% Whether no receive on the way takes what timers tell.
+is_untold(Frames, {Silent, _, _}, {Code, _, Ticks}) ->
+    Called = [Other || {Word, Other} <- closure([{Each, #{}} || Each <- Frames], Silent),
+                       Word =:= calls orelse Word =:= tail, is_map_key(Other, Code)],
+    not lists:any(fun(Each) -> lists:any(fun(Message) -> takes(Each, Message, Code) end, Ticks) end, Frames ++ Called).
+
+is_firm(Frames, Code) ->
+    not lists:any(fun may_fail/1, closure([{Each, #{}} || Each <- Frames], Code)).
+
+may_fail({sends, Kind, _, _}) -> Kind =/= cast;
+may_fail(Each) -> Each =:= fails.
 
 forget() -> [erase(Key) || {Key, _} <- get(), is_tuple(Key), element(1, Key) =:= ?MODULE].
 
@@ -246,7 +280,7 @@ is_constant({function, _}) -> false; % (which may have a reference among its ter
 is_constant(Value) -> not lists:member(Value, [any, map, new, no_map]).
 
 %% The timers that a module begins: what they tell the process itself, or `aimed` for another one, and for what else has
-%% messages come that no process has sent: news of nodes, sockets, signals, or what others write to a log.
+%% messages come that no process has sent: news of nodes, sockets or signals.
 -define(NEWS, [{net_kernel, monitor_nodes}, {erlang, monitor_node}, {erlang, system_monitor}, {erlang, system_profile},
                {erlang, load_nif}, {erlang, trace}, {mnesia, subscribe}, {os, set_signal}, {'Elixir.Node', monitor},
                {'Elixir.System', trap_signal}]).
@@ -255,8 +289,7 @@ timers_in(Module, Done, Code) ->
     Found = [Each || Each <- Done, is_timer(Each)],
     Funs = [aimed || {{Of, _, _}, Instructions} <- maps:to_list(Code), Of =:= Module,
                      mentions_timer(Instructions)],
-    lists:usort([case Each of {tick, _} -> Each; _ -> aimed end || Each <- Found] ++ Funs
-                ++ [aimed || Name <- [log, handle_event], is_map_key({Module, Name, 2}, Code)]).
+    lists:usort([case Each of {tick, _} -> Each; _ -> aimed end || Each <- Found] ++ Funs).
 
 is_timer({tick, _}) -> true;
 is_timer({calls, {Module, Name, _}}) ->
@@ -308,6 +341,10 @@ is_so(wakes, {statem, Module}, {Code, _, _}) ->
     Own = [{Function, #{}} || is_map_key({Module, module_info, 0}, Code), {Of, _, _} = Function <- maps:keys(Code),
                               is_map_key({Of, callback_mode, 0}, Code)],
     Own =:= [] orelse lists:any(fun(Each) -> is_timer(Each) orelse Each =:= dynamic end, closure(Own, Code));
+is_so(wakes, {events, Handlers}, {Code, _, _}) ->
+    Own = [{Function, #{}} || {Of, _, _} = Function <- maps:keys(Code), lists:member(Of, Handlers)],
+    not lists:all(fun(Module) -> is_map_key({Module, module_info, 0}, Code) end, Handlers)
+        orelse lists:any(fun(Each) -> is_timer(Each) orelse Each =:= dynamic end, closure(Own, Code));
 is_so(wakes, {frames, [Top | _]}, {Code, _, Ticks}) ->
     not is_map_key(Top, Code) orelse lists:any(fun(Message) -> takes(Top, Message, Code) end, Ticks);
 is_so(wakes, {told, Place}, Known) -> is_so(wakes, Place, Known);
@@ -401,20 +438,24 @@ closure([{Function, Known} | Rest], Code, Seen, Found) ->
             Called = [{Other, #{}} || {Word, Other} <- Effects, Word =:= calls orelse Word =:= tail,
                                       is_map_key(Other, Code)]
                 ++ [{Other, #{}} || lists:member(lazy, Effects), {_, _, _} = Other <- of_protocols(Code)],
-            Lost = [dynamic || lists:member(lazy, Effects), lists:member(dynamic, of_protocols(Code))]
+            Lost = [dynamic || lists:member(streams, Effects), lists:member(dynamic, of_protocols(Code))]
                 ++ [loud || {calls, Other} <- Effects, not is_map_key(Other, Code)],
             closure(Called ++ Rest, Code, Seen#{{Function, Known} => true}, Lost ++ Effects ++ Found)
     end.
 
-%% The functions of the program that Elixir's own ones may call by a protocol, and `dynamic` if it has streams, which
-%% have funs.
+%% What a module has of which Elixir's own ones may call the functions.
+-define(PROTOCOLS, [{'__impl__', 1}, {day_rollover_relative_to_midnight_utc, 0}, {get_and_update, 3}, {message, 1},
+                    {time_zone_period_from_utc_iso_days, 2}]).
+
+%% The functions of the program that Elixir's own ones may call: by a protocol, or as a calendar, its time zones or an
+%% exception. And `dynamic` if the program has streams, which have funs.
 of_protocols(Code) ->
     Key = {?MODULE, protocols},
     case get(Key) of
         undefined ->
-            Own = [Function || {Module, _, _} = Function <- maps:keys(Code),
-                               is_map_key({Module, '__impl__', 1}, Code)
-                                   orelse is_map_key({Module, get_and_update, 3}, Code)],
+            Of = lists:usort([Module || {Module, Name, Arity} <- maps:keys(Code),
+                                        lists:member({Name, Arity}, ?PROTOCOLS)]),
+            Own = [Function || {Module, _, _} = Function <- maps:keys(Code), lists:member(Module, Of)],
             Streams = [dynamic || Instructions <- maps:values(Code), Each <- Instructions, is_of_stream(Each)],
             put(Key, Own ++ lists:usort(Streams)),
             get(Key);
@@ -540,9 +581,9 @@ step_of_call({call_fun2, _, _, Fun}, Known) ->
         _ -> {only(y, Known), [], [dynamic]}
     end;
 step_of_call({Fails, _}, _) when Fails =:= badmatch; Fails =:= badrecord; Fails =:= case_end; Fails =:= try_case_end ->
-    {stop, [], []};
-step_of_call(Fails, _) when Fails =:= if_end; Fails =:= raw_raise -> {stop, [], []};
-step_of_call({func_info, _, _, _}, _) -> {stop, [], []};
+    {stop, [], [fails]};
+step_of_call(Fails, _) when Fails =:= if_end; Fails =:= raw_raise -> {stop, [], [fails]};
+step_of_call({func_info, _, _, _}, _) -> {stop, [], [fails]};
 step_of_call(Each, Known) when is_tuple(Each) ->
     Parts = parts_of(tuple_to_list(Each)),
     {maps:without(Parts, Known), [{Label, maps:without(Parts, Known)} || {f, Label} <- Parts], []};
@@ -627,9 +668,14 @@ last({extfunc, Module, Name, Arity} = Function, Known) ->
     Naps = [naps || Name =:= sleep, Arity =:= 1, value({x, 0}, Known) =/= {atom, infinity}],
     [{tail, {Module, Name, Arity}} | Naps ++ external(Function, Known)].
 
-%% Those of Elixir's own that may call what a program has for one of its protocols.
--define(LAZY, ['Elixir.Access', 'Elixir.Enum', 'Elixir.IO', 'Elixir.Inspect', 'Elixir.Keyword', 'Elixir.List',
-               'Elixir.Logger', 'Elixir.Map', 'Elixir.MapSet', 'Elixir.String', 'Elixir.String.Chars']).
+%% Those of Elixir's own that may call what a program has for one of its protocols, or as its calendar.
+-define(LAZY, ['Elixir.Access', 'Elixir.Calendar', 'Elixir.Date', 'Elixir.DateTime', 'Elixir.Enum', 'Elixir.IO',
+               'Elixir.Inspect', 'Elixir.Kernel', 'Elixir.Keyword', 'Elixir.List', 'Elixir.Logger', 'Elixir.Map',
+               'Elixir.MapSet', 'Elixir.NaiveDateTime', 'Elixir.String', 'Elixir.String.Chars', 'Elixir.Time']).
+
+%% Of these, those that may run a stream.
+-define(RUNNING_STREAMS, ['Elixir.Access', 'Elixir.Enum', 'Elixir.Keyword', 'Elixir.List', 'Elixir.Map',
+                          'Elixir.MapSet', 'Elixir.String']).
 
 outcome(erlang, send, [To, Message | _]) -> [sent(To, Message)];
 outcome(erlang, apply, [_, Name, _]) -> [dynamic | [aimed || may_begin(Name, any)]];
@@ -641,29 +687,50 @@ outcome(Server, cast, [{atom, Name}, Request]) when Server =:= gen_server; Serve
     [{sends, cast, Name, Request}];
 outcome(Module, Name, Given) ->
     case is_mild(Module, Name, Given) of
-        true -> [lazy || lists:member(Module, ?LAZY)];
+        true ->
+            [lazy || lists:member(Module, ?LAZY)] ++ [streams || lists:member(Module, ?RUNNING_STREAMS)]
+                ++ [fails || lists:member(Module, [ets, file, 'Elixir.File']) orelse Name =:= process_info];
         false -> [{calls, {Module, Name, length(Given)}}]
     end.
 
 %% Modules of Erlang's and Elixir's own whose functions end nobody's wait, but for what a fun does that they are given.
--define(PURE, [array, binary, calendar, counters, dict, gb_sets, gb_trees, io, io_lib, lists, logger, maps, math,
-               orddict, ordsets, proplists, queue, rand, sets, string, unicode, 'Elixir.Access', 'Elixir.DateTime',
-               'Elixir.Enum', 'Elixir.Float', 'Elixir.IO', 'Elixir.Inspect', 'Elixir.Integer', 'Elixir.Keyword',
-               'Elixir.List', 'Elixir.Logger', 'Elixir.Map', 'Elixir.MapSet', 'Elixir.String', 'Elixir.String.Chars',
-               'Elixir.System']).
--define(MILD, [{erlang, Of} || Of <- ['++', '--', abs, atom_to_binary, atom_to_list, binary_to_list, byte_size,
-                                      convert_time_unit, demonitor, element, float_to_binary, float_to_list, get,
-                                      integer_to_binary, integer_to_list, iolist_to_binary, length, list_to_binary,
-                                      list_to_tuple, localtime, make_ref, map_size, max, memory, min, monitor,
-                                      monotonic_time, node, nodes, now, phash2, process_info, processes, put, round,
-                                      self, setelement, statistics, system_info, system_time, timestamp,
-                                      tuple_to_list, unique_integer, universaltime, whereis]]
-              ++ [{ets, Of} || Of <- [first, i, info, insert, insert_new, last, lookup, lookup_element, match,
-                                      match_object, member, new, next, prev, select, select_count, tab2list,
+-define(PURE, [array, atomics, base64, binary, calendar, counters, dict, filename, gb_sets, gb_trees, io, io_lib,
+               lists, logger, maps, math, orddict, ordsets, proplists, queue, rand, re, sets, string, unicode,
+               'Elixir.Access', 'Elixir.Atom', 'Elixir.Base', 'Elixir.Calendar', 'Elixir.Calendar.ISO', 'Elixir.Date',
+               'Elixir.DateTime', 'Elixir.Enum', 'Elixir.Float', 'Elixir.IO', 'Elixir.Inspect', 'Elixir.Integer',
+               'Elixir.Keyword', 'Elixir.List', 'Elixir.Logger', 'Elixir.Map', 'Elixir.MapSet', 'Elixir.NaiveDateTime',
+               'Elixir.Path', 'Elixir.Regex', 'Elixir.String', 'Elixir.String.Chars', 'Elixir.System', 'Elixir.Time',
+               'Elixir.Tuple']).
+-define(MILD, [{erlang, Of} || Of <- ['++', '--', abs, adler32, atom_to_binary, atom_to_list, binary_part,
+                                      binary_to_atom, binary_to_existing_atom, binary_to_float, binary_to_integer,
+                                      binary_to_list, binary_to_term, byte_size, cancel_timer, convert_time_unit,
+                                      crc32, date, demonitor, element, erase, external_size, float_to_binary,
+                                      float_to_list, garbage_collect, get, get_keys, get_module_info,
+                                      integer_to_binary, integer_to_list, iolist_size, iolist_to_binary,
+                                      is_process_alive, length, list_to_atom, list_to_binary, list_to_existing_atom,
+                                      list_to_float, list_to_integer, list_to_tuple, localtime, make_ref, map_size,
+                                      max, md5, memory, min, monitor, monotonic_time, node, nodes, now, phash2,
+                                      pid_to_list, process_info, processes, put, read_timer, ref_to_list, round, self,
+                                      setelement, split_binary, statistics, system_info, system_time, term_to_binary,
+                                      time, timestamp, tuple_to_list, unique_integer, universaltime, whereis]]
+              ++ [{ets, Of} || Of <- [delete, delete_all_objects, delete_object, first, foldl, foldr, i, info, insert,
+                                      insert_new, last, lookup, lookup_element, match, match_delete, match_object,
+                                      member, new, next, prev, select, select_count, select_delete, tab2list, take,
                                       update_counter, update_element, whereis]]
-              ++ [{timer, sleep}, {os, system_time}, {os, timestamp}, {'Elixir.Process', info},
-                  {'Elixir.Process', demonitor}, {'Elixir.Process', monitor}, {'Elixir.Process', sleep},
-                  {'Elixir.Process', whereis}]
+              ++ [{file, Of} || Of <- [del_dir, delete, get_cwd, list_dir, make_dir, read_file, read_file_info, rename,
+                                       write_file]]
+              ++ [{filelib, Of} || Of <- [ensure_dir, file_size, is_dir, is_file, is_regular, last_modified, wildcard]]
+              ++ [{'Elixir.File', Of} || Of <- ['exists?', 'mkdir_p!', mkdir_p, read, 'read!', rm, 'rm!', stat, 'stat!',
+                                                write, 'write!']]
+              ++ [{'Elixir.Process', Of} || Of <- ['alive?', cancel_timer, demonitor, get, info, list, monitor, put,
+                                                   read_timer, sleep, whereis]]
+              ++ [{'Elixir.Application', Of} || Of <- ['fetch_env!', fetch_env, get_all_env, get_env]]
+              ++ [{application, Of} || Of <- [get_all_env, get_env, get_key]]
+              ++ [{error_logger, Of} || Of <- [error_msg, error_report, format, info_msg, info_report, warning_msg,
+                                               warning_report]]
+              ++ [{os, Of} || Of <- [getenv, getpid, perf_counter, system_time, timestamp]]
+              ++ [{timer, Of} || Of <- [hms, hours, minutes, now_diff, seconds, sleep, tc]]
+              ++ [{'Elixir.Kernel', inspect}, {persistent_term, get}]
               ++ [{Of, exception} || Of <- ['Elixir.ArgumentError', 'Elixir.KeyError', 'Elixir.RuntimeError']]).
 %% Of the pure ones, those that do more than their module.
 -define(WILD, [{'Elixir.System', Of} || Of <- [at_exit, cmd, halt, restart, shell, stop, trap_signal]]
@@ -697,7 +764,15 @@ may_be_funs(Module, Name, [Device | _] = Given) when Module =:= io; Module =:= '
                                                    {binwrite, 2}, {inspect, 3}, {puts, 2}]),
     Plain = [{atom, Of} || Of <- [standard_error, standard_io, stderr, stdio, user]],
     [any || IsNamed, not lists:member(Device, Plain)];
-may_be_funs(logger, _, [Text, _ | _]) -> [Text];
+may_be_funs(logger, _, [Text, _ | _] = Given) -> [Text | [any || lists:last(Given) =:= map]];
+may_be_funs(ets, Name, [Fun | _]) when Name =:= foldl; Name =:= foldr -> [Fun];
+may_be_funs(timer, tc, Given) -> case Given of [_, _, _ | _] -> [any]; [Fun | _] -> [Fun] end;
+%% What is answered later comes as a message.
+may_be_funs(Module, cancel_timer, [_, Options]) when Module =:= erlang; Module =:= 'Elixir.Process' -> [Options];
+may_be_funs(Module, replace, [_, _, With | Options]) when Module =:= 're'; Module =:= 'Elixir.Regex';
+                                                           Module =:= 'Elixir.String' -> [With | Options];
+may_be_funs(Module, _, [_, _ | _] = Given) when Module =:= 'Elixir.Calendar'; Module =:= 'Elixir.Kernel' ->
+    [any || not is_constant(lists:last(Given))];
 may_be_funs(Module, Name, Given) when Module =:= dict; Module =:= gb_sets; Module =:= gb_trees; Module =:= orddict;
                                       Module =:= ordsets; Module =:= queue; Module =:= sets; Module =:= array ->
     [any || lists:member(Name, [all, any, delete_with, filter, filtermap, fold, foldl, foldr, map, merge, update]),
@@ -1045,8 +1120,8 @@ text(P, Info, Place, Before, After) ->
     {[{place, Number, Place} | named_of(Info)] ++ calls_of(Info),
      [io_lib:format("=process ~p ~ts~n", [P, node()]), Before, More, Lines, After]}.
 
-%% Where a process is, for what it may do next: a server in its loop, with its limit if it has one, or the functions of
-%% the program that it is in, if its whole stack has no others between them and below them.
+%% Where a process is, for what it may do next: a server in its loop, with its limit if it has one, what an idle manager
+%% of events has to handle these, or the functions of the program that it is in, if its whole stack has no others between them and below them.
 place_of(Info) ->
     {_, Stack} = lists:keyfind(current_stacktrace, 1, Info),
     Frames = [{Module, Name, Arity} || {Module, Name, Arity, _} <- Stack],
@@ -1058,6 +1133,7 @@ place_of(Info) ->
             end;
         {[{gen_statem, loop_receive, _} | _], [Module]} ->
             case on_stack(Info, "#{t0q=>\\[\\]}") of [_ | _] -> {statem, Module}; _ -> none end; % (it has no timer)
+        {[{gen_event, fetch_msg, _} | _], _} -> {events, handlers_in(Info)};
         {_, Started} -> frames_of(Frames, Started, number_on_stack(Info, [<<"Program counter: ">>, <<"Return addr ">>]))
     end.
 
@@ -1107,13 +1183,30 @@ is_plain_leader(Leader) when node(Leader) =:= node() ->
     end;
 is_plain_leader(_) -> false.
 
-%% Whether what the log runs for each of its events is Erlang's and Elixir's own.
+%% What handles the events of an idle manager, as its stack has it.
+handlers_in(Info) ->
+    {_, Stack} = case lists:keyfind(backtrace, 1, Info) of false -> {none, <<"{handler,cut,">>}; Found -> Found end,
+    case re:run(Stack, "{handler,'?([^,']+)'?,", [global, {capture, all_but_first, binary}]) of
+        {match, Names} -> lists:usort([known_atom(Name) || [Name] <- Names]);
+        nomatch -> []
+    end.
+
+known_atom(Name) -> try binary_to_existing_atom(Name) catch error:badarg -> unseen end.
+
+%% What handles the events of the system: those of its logs, its signals and its alarms.
+handlers_of_system() ->
+    Managers = [whereis(Name) || Name <- [alarm_handler, erl_signal_server, error_logger, 'Elixir.Logger']],
+    Infos = [process_info(P, [current_function, backtrace]) || P <- Managers, is_pid(P)],
+    lists:append([case Info of [{_, {gen_event, fetch_msg, _}} | _] -> handlers_in(Info); _ -> [unseen] end
+                  || Info <- Infos]) -- [alarm_handler].
+
+%% Whether what the log runs for each of its events, and what handles others of the system, is Erlang's and Elixir's own.
 is_plain_log() ->
     #{primary := Primary, handlers := Handlers} = logger:get_config(),
     Filters = lists:append([maps:get(filters, Each, []) || Each <- [Primary | Handlers]]),
     Formatters = [Module || #{formatter := {Module, _}} <- Handlers],
     Own = [Module || {Module, _, _} <- funs_among(Filters)] ++ [Module || #{module := Module} <- Handlers],
-    lists:all(fun is_of_otp/1, Own ++ Formatters).
+    lists:all(fun is_of_otp/1, Own ++ Formatters ++ handlers_of_system()).
 
 frames_of(Frames, Started, Count) ->
     Below = case lists:reverse(Frames) of
@@ -1458,8 +1551,8 @@ characters(Stack) ->
 chosen(Modules, Apart) ->
     Own = [Module || Module <- Modules, not is_of_otp(Module)],
     {System, Others} = lists:partition(fun is_of_system/1, processes() -- Apart),
-    Found = [P || P <- System, is_of(Own, P) orelse is_beginning(P)]
-        ++ [P || P <- Others, is_of(?FOR_OTHERS ++ Modules, P)],
+    Found = [P || P <- System, is_of(Own, P, false) orelse is_beginning(P)]
+        ++ [P || P <- Others, is_of(?FOR_OTHERS ++ Modules, P, true)],
     Taken = with_callers(Found, Others -- Found),
     Left = length([P || P <- Others -- Taken, is_process_alive(P)]),
     {lists:sort(Taken), Left}.
@@ -1490,15 +1583,20 @@ is_master(P) ->
         _ -> false
     end.
 
-%% Whether it began in one of the modules, is a server of one, or has a function of one on its stack.
-is_of(Modules, P) ->
+%% Whether it began in one of the modules, is a server of one, or has a function of one on its stack. One that began as
+%% a fun and sleeps as the last thing that it does has none, nor has an idle manager of events.
+is_of(Modules, P, IsAny) ->
     case process_info(P, [initial_call, memory, stack_size, current_stacktrace]) of
         undefined -> false;
         [{_, {First, _, _} = Start}, {_, Memory}, {_, Words}, {_, Stack}] ->
             Seen = [First, server(P, Memory) | [Module || {Module, _, _, _} <- Stack]],
-            lists:any(fun(Module) -> lists:member(Module, Modules) end, Seen) orelse
-                not is_whole(Stack, Start) andalso is_short(Words, Memory) andalso is_on_stack(Modules, P)
+            lists:any(fun(Module) -> lists:member(Module, Modules) end, Seen) orelse IsAny andalso is_of_any(First, Stack)
+                orelse not is_whole(Stack, Start) andalso is_short(Words, Memory) andalso is_on_stack(Modules, P)
     end.
+
+is_of_any(erlang, [{Module, sleep, 1, _}]) -> Module =:= timer orelse Module =:= 'Elixir.Process';
+is_of_any(_, [{gen_event, fetch_msg, _, _} | _]) -> true;
+is_of_any(_, _) -> false.
 
 %% Whether it is the process that has begun the node, and still runs what its command line says.
 is_beginning(P) ->

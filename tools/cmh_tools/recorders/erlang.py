@@ -158,17 +158,14 @@ class ErlangRecorder(Recorder):
         made = self.wait_of_block(subject, moment)
         if premise(LIMIT) in made.because:
             moment.limited[made.name] = made.frames[-1].split(" (")[0], made.count
-        if id(subject) in moment.quiet_ones and made.kind == RUNS:
+        if id(subject) in moment.quiet_ones | moment.ticking and made.kind == RUNS:
             made.proposal = "frees"
         if made.kind != RUNS:
             is_spared = (subject.node, subject.pid) in moment.spared
             made.because += [premise(OUTSIDE), *([premise(RESTARTS)] if is_spared else [])]
-        found = [it for it in moment.enders[subject.node, subject.pid] if it is not subject]
-        acting = besides_of(found, moment)
-        enders = moment.names(acting)
-        if len(acting) < len(found) and made.kind != RUNS:
-            enders += moment.acting or []
-            made.because += [premise(ALONE), premise(HARMLESS)]
+        found = (it for it in moment.enders[subject.node, subject.pid] if it is not subject)
+        enders, because = besides_of(found, moment)
+        made.because += because if made.kind != RUNS else []
         if subject.node in moment.cut:
             enders.append(f"{self.labels[subject.node]}/{REST}")
         made.besides = list(dict.fromkeys([*made.besides, *enders]))

@@ -4,7 +4,7 @@ that writes to a log each second. So whoever waits for one of all who are there 
 from __future__ import annotations
 
 import re
-from typing import Iterable, List, Optional
+from typing import Iterable, List, Optional, Tuple
 
 from ..sketch import Sketch, premise
 from .erlang_keepers import groups_around, kept_callers, pids_beside
@@ -30,7 +30,10 @@ def look_at_acting(moment: Nodes) -> None:
     watched = {id(it) for block in moment.rows() for it in moment.watched(block)}
     moment.quiet_ones = {id(it) for it in moment.rows() if is_known and id(it) not in watched and (
         is_harmless(it, moment) or ends_quietly(it, moment))}
-    moment.reacting = {id(it) for it in moment.rows() if is_known and is_reacting(it, moment)}
+    moment.ticking = {id(it) for it in moment.rows() if is_known and id(it) not in watched and is_ticking(it, moment)}
+    moment.firm = {id(it) for it in moment.rows() if id(it) in moment.quiet_ones | moment.ticking
+                   and "firm" in (words_of_place(it, moment) or [])}
+    moment.reacting = moment.ticking.union(id(it) for it in moment.rows() if is_known and is_reacting(it, moment))
     found = [moment.name(it) for it in moment.rows() if id(it) not in moment.quiet_ones | moment.reacting]
     moment.acting = found if is_known and len(found) <= MOST else None
 
@@ -43,6 +46,17 @@ def words_of_place(block: Block, moment: Nodes) -> Optional[List[str]]:
 def is_harmless(block: Block, moment: Nodes) -> bool:
     """Whether a process goes on for ever, and tells nobody anything to which that does anything."""
     return not block.fault and block.call is None and "mute" in (words_of_place(block, moment) or [])
+
+
+def is_ticking(block: Block, moment: Nodes) -> bool:
+    """Whether a process goes on so as long as no message comes, which no port of it sends: as one that is asked for its
+    numbers now and then, and writes to a log else."""
+    is_untold = not block.fault and block.call is None and block.messages == "[]" and not has_port(block)
+    return is_untold and block.extra("status") == "waiting" and "calm" in (words_of_place(block, moment) or [])
+
+
+def has_port(block: Block) -> bool:
+    return PORT.search(block.items.get("links", "") + block.item("monitors")) is not None
 
 
 def ends_quietly(block: Block, moment: Nodes) -> bool:
@@ -59,8 +73,8 @@ def ends_quietly(block: Block, moment: Nodes) -> bool:
 
 def is_reacting(block: Block, moment: Nodes) -> bool:
     """Whether a process does nothing before another one sends it a message: nor a timer, nor a port."""
-    is_calm = not (block.fault or block.is_cut or PORT.search(block.items.get("links", "") + block.item("monitors")))
-    if not is_calm or block.extra("status") != "waiting" or block.lock or block.call is not None:
+    is_at_work = block.extra("status") != "waiting" or block.lock or block.call is not None
+    if block.fault or block.is_cut or has_port(block) or is_at_work:
         return False
     words = words_of_place(block, moment)
     if block.is_loop():
@@ -72,9 +86,17 @@ def is_reacting(block: Block, moment: Nodes) -> bool:
     return is_plain and words is not None and "wakes" not in words
 
 
-def besides_of(enders: Iterable[Block], moment: Nodes) -> List[Block]:
-    """Returns those who may end a process, without those who do nothing before another one does something."""
-    return [it for it in enders if moment.acting is None or id(it) not in moment.reacting]
+def besides_of(some: Iterable[Block], moment: Nodes) -> Tuple[List[str], List[str]]:
+    """Returns the names of those who may end a wait besides, of some, and on what that rests. One that does nothing
+    before another one does something stands for all who may. One that only ticks ends none, unless it fails."""
+    found = list(some)
+    if moment.acting is None:
+        return moment.names(found), []
+    left = [it for it in found if id(it) not in moment.firm - moment.ticking]
+    others = [it for it in left if id(it) not in moment.reacting or id(it) in moment.ticking - moment.firm]
+    if len(others) < len(left):
+        return moment.names(others) + moment.acting, [premise(ALONE), premise(HARMLESS)]
+    return moment.names(others), [premise(HARMLESS)] if len(left) < len(found) else []
 
 
 def doubt_moving(sketch: Sketch, moments: List[Nodes]) -> None:

@@ -6,7 +6,7 @@ from __future__ import annotations
 from typing import Any, Dict, List, Optional, Set, Tuple
 
 from ..sketch import LIMIT, SYSTEM, Process, premise, runs, unknown, waits_for_any
-from .erlang_acting import ALONE, GIVES_BACK, HARMLESS, has_owner
+from .erlang_acting import ALONE, GIVES_BACK, HARMLESS, besides_of, has_owner
 from .erlang_keepers import who_may_answer
 from .erlang_nodes import Nodes
 from .erlang_text import Block, Call, Key, NodeReading, of_elixir
@@ -130,10 +130,11 @@ def wait_for_holders(block: Block, moment: Nodes, called: List[Block], more: Dic
                     bound_by=list(map(premise, [ALONE, HARMLESS, *([GIVES_BACK] if is_owed else [])])))
         return unknown(name, f"{moment.name(keepers[0])} keeps its call in its state, to answer it once something else "
                        "has come", **more)
-    because = [SYSTEM, premise(ANSWERS), *([premise(LETS_GO)] if passed else [])]
-    besides = [*moment.closures, *(other for it in passed for other in may_fail(it, moment))]
+    besides, more_because = besides_of(moment.closures, moment)
+    because = [SYSTEM, premise(ANSWERS), *([premise(LETS_GO)] if passed else []), *more_because]
+    besides += moment.names(other for it in passed for other in may_fail(it, moment))
     fault = next(filter(None, (keeps_elsewhere(it, moment, bool(having)) for it in passed)), "")
     if fault:
         more.update(bound=moment.acting, bound_by=list(map(premise, [ALONE, HARMLESS])), at_rest=True)
         return unknown(name, f"{moment.name(passed[0])} {fault}, so it isn't known who answers", **more)
-    return waits_for_any(name, moment.names(having), because, is_open=True, besides=moment.names(besides), **more)
+    return waits_for_any(name, moment.names(having), because, is_open=True, besides=besides, **more)

@@ -18,7 +18,8 @@ class Nodes(Moment):
     of a node, by it and by what is locked; who has locks of Mnesia, or wants one; on which
     nodes code begins timers that may tell a reference; what the code says of each place, by the node and the number of
     that, and for which requests a server monitors somebody, by its node and module; the ids of those who do what nobody
-    heeds, and of those who do nothing before others do; and the names of all others, or None."""
+    heeds, of those who do nothing more before others do, of these who tick, and of those who don't fail; and the names
+    of all who may do more, or None."""
 
     by_key: Dict[Key, Block]
     has_tail: Dict[str, List[Block]]
@@ -42,6 +43,8 @@ class Nodes(Moment):
     grants: Dict[Tuple[str, str], List[str]]
     quiet_ones: Set[int]
     reacting: Set[int]
+    ticking: Set[int]
+    firm: Set[int]
     acting: Optional[List[str]]
 
     def find(self, key: Key) -> Optional[Block]:
