@@ -24,7 +24,7 @@
                     'Elixir.Task.Supervised', supervisor]).
 
 %% The applications of Erlang's or Elixir's own.
--define(SYSTEM, [kernel, stdlib, elixir, logger, iex, mnesia]).
+-define(SYSTEM, [kernel, stdlib, elixir, logger, iex, mnesia, crypto, asn1]).
 
 print(Modules, Nodes) -> print(Modules, Nodes, 5).
 
@@ -694,7 +694,7 @@ outcome(Module, Name, Given) ->
     end.
 
 %% Modules of Erlang's and Elixir's own whose functions end nobody's wait, but for what a fun does that they are given.
--define(PURE, [array, atomics, base64, binary, calendar, counters, dict, filename, gb_sets, gb_trees, io, io_lib,
+-define(PURE, [array, atomics, base64, binary, calendar, counters, crypto, dict, filename, gb_sets, gb_trees, io, io_lib,
                lists, logger, maps, math, orddict, ordsets, proplists, queue, rand, re, sets, string, unicode,
                'Elixir.Access', 'Elixir.Atom', 'Elixir.Base', 'Elixir.Calendar', 'Elixir.Calendar.ISO', 'Elixir.Date',
                'Elixir.DateTime', 'Elixir.Enum', 'Elixir.Float', 'Elixir.IO', 'Elixir.Inspect', 'Elixir.Integer',
@@ -848,14 +848,16 @@ is_loud(Module, Function) ->
     not lists:member(Module, ?QUIET) andalso not lists:member({Module, Function}, ?QUIET_CALLS).
 
 %% Where a function of one receive has the reference that each message has to have which that takes, as the compiler has
-%% found out, or nothing; with `once` if each wait there has one of its own, and `down` if a 'DOWN' alone ends it.
+%% found out, or nothing; with `once` if each wait there has one of its own, `told` if that was sent once and is nowhere
+%% else, and `down` if a 'DOWN' alone ends it.
 register(Instructions) ->
     Waits = [Each || Each <- Instructions, is_tuple(Each), lists:member(element(1, Each), [wait, wait_timeout])],
     case {Waits, lists:splitwith(fun(Each) -> not is_use(Each) end, Instructions)} of
         {[{wait, {f, Loop}}], {Before, [{recv_marker_use, Used}, {label, Loop} | Taken]}} ->
             Made = [Each || Each <- made(Before), is_entered_here(Loop, Instructions)],
             Known = [Number || {y, Number} <- [Used | [Each || lists:member(Used, Made), Each <- Made]]],
-            Words = [once || lists:member(Used, Made)] ++ [down || takes_down(Taken)],
+            Words = [once || lists:member(Used, Made)] ++ [told || lists:member(Used, Made), is_told_once(Before)]
+                ++ [down || takes_down(Taken)],
             [Word || Known =/= [], not lists:any(fun is_use/1, Taken), Word <- [hd(Known) | Words]];
         _ -> []
     end.
@@ -882,6 +884,21 @@ made(Before) ->
         {Since, [{recv_marker_bind, _, Made} | _]} -> lists:foldr(fun kept/2, [Made], Since);
         _ -> []
     end.
+
+%% Whether all that has been done with the reference since it was made is to send it once.
+is_told_once(Before) ->
+    IsMade = fun(Each) -> Each =:= {call_ext, 0, {extfunc, erlang, make_ref, 0}} end,
+    Plain = [bif, get_tuple_element, init_yregs, line, move, put_list, put_map_assoc, put_tuple2, swap, test_heap, trim],
+    case lists:splitwith(fun(Each) -> not IsMade(Each) end, lists:reverse(Before)) of
+        {Since, [_, {recv_marker_reserve, Marker} | _]} ->
+            case [Each || Each <- Since, not is_tuple(Each) orelse not lists:member(element(1, Each), Plain)] of
+                [Send, {recv_marker_bind, Marker, _}] -> is_plain_send(Send);
+                _ -> false
+            end;
+        _ -> false
+    end.
+
+is_plain_send(Each) -> Each =:= send orelse Each =:= {call_ext, 2, {extfunc, erlang, send, 2}}.
 
 is_place(Each) -> is_tuple(Each) andalso element(1, Each) =:= label.
 

@@ -42,11 +42,19 @@ def wait_for_reference(block: Block, moment: Nodes, receive: Receives, more: Dic
         more.update(objects=[*moment.names(watched), found[1]], note=note)
         return waits_for_any(name, moment.names(watched), [SYSTEM, premise(DOWNS)], **more)
     having = holders(block, moment, {found[2]})
+    if "told" in receive.words and len(having) == 1 and is_unread(found[2], having[0]):
+        more.update(objects=[*moment.names(having), found[1]], note=note)
+        return waits_for_any(name, moment.names(having), [SYSTEM, premise(ANSWERS)], **more)
     if not having or moment.elsewhere or begins_timers(block, moment):
         return None
     more.update(objects=[*moment.names(having), found[1]], note=note)
     return waits_for_any(name, moment.names(having), [SYSTEM, premise(ANSWERS)], is_open=True,
                          besides=moment.names([*watched, *moment.closures]), **more)
+
+
+def is_unread(tail: str, block: Block) -> bool:
+    """Whether a process has a reference in a message that it hasn't taken. So nobody else can have it from there."""
+    return tail in block.messages and not block.is_mail_cut
 
 
 def begins_timers(block: Block, moment: Nodes) -> bool:

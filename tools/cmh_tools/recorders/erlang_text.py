@@ -85,7 +85,8 @@ class Call(NamedTuple):
 
 class Receives(NamedTuple):
     """What is known of the receives in a function: their limits, where the one that it has keeps the reference of all
-    messages that it takes, and of that `once`, if each wait has another one, and `down`, if a 'DOWN' alone ends it."""
+    messages that it takes, and of that `once`, if each wait has another one, `told`, if it was only sent once, and
+    `down`, if a 'DOWN' alone ends the wait."""
 
     limits: List[str]
     register: str

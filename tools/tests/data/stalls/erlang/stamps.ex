@@ -29,6 +29,7 @@ end
 defmodule Stamps.Clock do
   def tick(day, number) do
     text = "#{NaiveDateTime.to_iso8601(NaiveDateTime.utc_now())} #{inspect(stamp(day, number))} #{Date.utc_today()}"
+    text = "#{text} #{Base.encode16(:crypto.strong_rand_bytes(2))}"
     IO.puts(:stderr, String.pad_leading(text, Application.get_env(:stamps, :width, 60)))
     Process.sleep(1_000)
     tick(day, number + 1)
