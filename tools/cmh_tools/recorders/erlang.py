@@ -15,7 +15,7 @@ from ..moments import APART, PARTS, Reading
 from ..sketch import COMPLETE, LIMIT, REST, RUNS, SYSTEM, Process, Sketch, premise, runs, spoilt, unknown, waits_for_any
 from . import State
 from .base import Premise, Recorder
-from .erlang_acting import ALONE, GIVES_BACK, HARMLESS, besides_of, doubt_moving, look_at_acting
+from .erlang_acting import ALONE, GIVES_BACK, HARMLESS, besides_of, doubt_moving, has_port, look_at_acting
 from .erlang_calls import ANSWERS, LETS_GO, NO_MAIL, place_elsewhere, wait_of_call
 from .erlang_enders import add_enders, stoppers_of, two_of_each
 from .erlang_keepers import is_awake
@@ -270,6 +270,14 @@ def has_timers(reading: NodeReading) -> bool:
     return not timing or not set(timing) <= set(reading.ticks)
 
 
+def likely_senders(found: List[Block], block: Block, moment: Nodes) -> List[str]:
+    """Returns the names of those who are likely to send to one, of some whom it knows. Idle servers do so once they
+    are asked, by those who may do something."""
+    acting = [name for name in moment.acting or () if name != moment.name(block)]
+    is_idle = all(it.is_loop() and id(it) in moment.reacting for it in found)
+    return acting if acting and is_idle else moment.names(found)
+
+
 def asked_by(block: Block, moment: Nodes) -> List[Block]:
     """Returns those to whose names it has sent before its receive, but for servers without a request."""
     names = moment.asks.get((block.node, *block.function), [])
@@ -303,11 +311,13 @@ def with_proposal(block: Block, moment: Nodes, more: Dict[str, Any]) -> Process:
         reason += f"; it has sent to {', '.join(moment.names(asked))}"
     if names or asked:
         # Who waits for an answer that it has to give doesn't send to it.
-        more["candidates"] = moment.names(it for it in [*found, *asked] if it is not None and it is not block
-                                          and not set(block.tails).intersection(it.awaited))
+        more["candidates"] = likely_senders([it for it in [*found, *asked] if it is not None and it is not block
+                                             and not set(block.tails).intersection(it.awaited)], block, moment)
         # Where a limit may end the receive, or a timer that its own code begins, these are no guess.
         is_open = limits != ["infinity"] or block.is_stack_cut or "timers" in block.code()
         more["candidates"] += [COMPLETE] if is_open else []
+    elif has_port(block) and not (receives and receives.register):
+        more["proposal"] = "runs"
     more["note"] = f"{more['operation']} in {block.frames()[0]}" if block.own else more["note"]
     if receives and limits == ["infinity"] and len(block.frames()) > 1:
         more.update(bound=moment.acting, bound_by=list(map(premise, [ALONE, HARMLESS])), at_rest=True)

@@ -118,7 +118,8 @@ def besides_parents(server: Block, moment: Nodes) -> List[str]:
 def awake(pids: Iterable[str], server: Block, moment: Nodes) -> List[Block]:
     """Returns those with some pids who aren't servers without a request."""
     found = [moment.find((server.node, pid)) for pid in sorted(pids)]
-    return [it for it in found if it is not None and it is not server and is_awake(it)]
+    return [it for it in found if it is not None and it is not server and is_awake(it)
+            and id(it) not in moment.quiet_ones]
 
 
 def is_awake(block: Block) -> bool:
