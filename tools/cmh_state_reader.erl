@@ -697,9 +697,9 @@ outcome(Module, Name, Given) ->
 -define(PURE, [array, atomics, base64, binary, calendar, counters, crypto, dict, filename, gb_sets, gb_trees, io, io_lib,
                lists, logger, maps, math, orddict, ordsets, proplists, queue, rand, re, sets, string, unicode,
                'Elixir.Access', 'Elixir.Atom', 'Elixir.Base', 'Elixir.Calendar', 'Elixir.Calendar.ISO', 'Elixir.Date',
-               'Elixir.DateTime', 'Elixir.Enum', 'Elixir.Float', 'Elixir.IO', 'Elixir.Inspect', 'Elixir.Integer',
-               'Elixir.Keyword', 'Elixir.List', 'Elixir.Logger', 'Elixir.Map', 'Elixir.MapSet', 'Elixir.NaiveDateTime',
-               'Elixir.Path', 'Elixir.Regex', 'Elixir.String', 'Elixir.String.Chars', 'Elixir.System', 'Elixir.Time',
+               'Elixir.DateTime', 'Elixir.Enum', 'Elixir.Float', 'Elixir.IO', 'Elixir.Inspect', 'Elixir.Inspect.Algebra',
+               'Elixir.Integer', 'Elixir.Keyword', 'Elixir.List', 'Elixir.Logger', 'Elixir.Map', 'Elixir.MapSet',
+               'Elixir.NaiveDateTime', 'Elixir.Path', 'Elixir.Regex', 'Elixir.String', 'Elixir.String.Chars', 'Elixir.System', 'Elixir.Time',
                'Elixir.Tuple']).
 -define(MILD, [{erlang, Of} || Of <- ['++', '--', abs, adler32, atom_to_binary, atom_to_list, binary_part,
                                       binary_to_atom, binary_to_existing_atom, binary_to_float, binary_to_integer,
@@ -765,6 +765,8 @@ may_be_funs(Module, Name, [Device | _] = Given) when Module =:= io; Module =:= '
     Plain = [{atom, Of} || Of <- [standard_error, standard_io, stderr, stdio, user]],
     [any || IsNamed, not lists:member(Device, Plain)];
 may_be_funs(logger, _, [Text, _ | _] = Given) -> [Text | [any || lists:last(Given) =:= map]];
+may_be_funs('Elixir.Inspect.Algebra', Name, Given) ->
+    [any || lists:member(Name, [container_doc, fold_doc]), not lists:any(fun is_function_value/1, Given)];
 may_be_funs(ets, Name, [Fun | _]) when Name =:= foldl; Name =:= foldr -> [Fun];
 may_be_funs(timer, tc, Given) -> case Given of [_, _, _ | _] -> [any]; [Fun | _] -> [Fun] end;
 %% What is answered later comes as a message.
@@ -1138,7 +1140,8 @@ text(P, Info, Place, Before, After) ->
      [io_lib:format("=process ~p ~ts~n", [P, node()]), Before, More, Lines, After]}.
 
 %% Where a process is, for what it may do next: a server in its loop, with its limit if it has one, what an idle manager
-%% of events has to handle these, or the functions of the program that it is in, if its whole stack has no others between them and below them.
+%% of events has to handle these, or the functions of the program that it is in, if its whole stack has no others between
+%% them and below them.
 place_of(Info) ->
     {_, Stack} = lists:keyfind(current_stacktrace, 1, Info),
     Frames = [{Module, Name, Arity} || {Module, Name, Arity, _} <- Stack],
@@ -1200,10 +1203,10 @@ is_plain_leader(Leader) when node(Leader) =:= node() ->
     end;
 is_plain_leader(_) -> false.
 
-%% What handles the events of an idle manager, as its stack has it.
+%% What handles the events of an idle manager, as its stack has it, and what makes a text of them for Elixir's log.
 handlers_in(Info) ->
     {_, Stack} = case lists:keyfind(backtrace, 1, Info) of false -> {none, <<"{handler,cut,">>}; Found -> Found end,
-    case re:run(Stack, "{handler,'?([^,']+)'?,", [global, {capture, all_but_first, binary}]) of
+    case re:run(Stack, "(?:{handler,|format=>{)'?([^,']+)'?,", [global, {capture, all_but_first, binary}]) of
         {match, Names} -> lists:usort([known_atom(Name) || [Name] <- Names]);
         nomatch -> []
     end.
