@@ -274,8 +274,11 @@ def likely_senders(found: List[Block], block: Block, moment: Nodes) -> List[str]
     """Returns the names of those who are likely to send to one, of some whom it knows. Idle servers do so once they
     are asked, by those who may do something."""
     acting = [name for name in moment.acting or () if name != moment.name(block)]
-    is_idle = all(it.is_loop() and id(it) in moment.reacting for it in found)
-    return acting if acting and is_idle else moment.names(found)
+    return acting if acting and are_idle(found, moment) else moment.names(found)
+
+
+def are_idle(found: List[Block], moment: Nodes) -> bool:
+    return all(it.is_loop() and id(it) in moment.reacting for it in found)
 
 
 def asked_by(block: Block, moment: Nodes) -> List[Block]:
@@ -309,15 +312,16 @@ def with_proposal(block: Block, moment: Nodes, more: Dict[str, Any]) -> Process:
         more["objects"] = names
     if asked:
         reason += f"; it has sent to {', '.join(moment.names(asked))}"
-    if names or asked:
-        # Who waits for an answer that it has to give doesn't send to it.
-        more["candidates"] = likely_senders([it for it in [*found, *asked] if it is not None and it is not block
-                                             and not set(block.tails).intersection(it.awaited)], block, moment)
+    # Who waits for an answer that it has to give doesn't send to it.
+    senders = [it for it in [*found, *asked] if it is not None and it is not block
+               and not set(block.tails).intersection(it.awaited)]
+    if has_port(block) and are_idle(senders, moment) and not (receives and receives.register):
+        more["proposal"] = "runs"
+    elif names or asked:
+        more["candidates"] = likely_senders(senders, block, moment)
         # Where a limit may end the receive, or a timer that its own code begins, these are no guess.
         is_open = limits != ["infinity"] or block.is_stack_cut or "timers" in block.code()
         more["candidates"] += [COMPLETE] if is_open else []
-    elif has_port(block) and not (receives and receives.register):
-        more["proposal"] = "runs"
     more["note"] = f"{more['operation']} in {block.frames()[0]}" if block.own else more["note"]
     if receives and limits == ["infinity"] and len(block.frames()) > 1:
         more.update(bound=moment.acting, bound_by=list(map(premise, [ALONE, HARMLESS])), at_rest=True)
