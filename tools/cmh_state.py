@@ -1131,9 +1131,10 @@ class Wakers:
 
     def look_at_all(self):
         """The row of those, what is known of all whose code is, by their keys, and which calls of event loops are."""
-        tasks = any(type(key) is str and key != SIGNALLED for key in self.stacks)
+        stacks = {key: row for key, row in self.stacks.items() if not is_caller(key)}
+        tasks = any(type(key) is str and key != SIGNALLED for key in stacks)
         is_wanted = "cmh_quiet" in globals() and (self.targets or self.shared or tasks)
-        return cmh_quiet.quiet_rows(self.stacks, sys.modules[__name__], self.places()) if is_wanted else ({}, {}, ())
+        return cmh_quiet.quiet_rows(stacks, sys.modules[__name__], self.places()) if is_wanted else ({}, {}, ())
 
     def known(self, key):
         """What a row says of one all of whose code is known."""
@@ -1300,12 +1301,20 @@ def is_dispatcher(frame):
 
 
 def called_by_loop(loop):
-    """What an event loop calls for timers and sockets, whatever its thread waits for, with the classes of protocols,
-    and what the library's own functions have around them."""
-    signalled = signals_of(loop) if hasattr(loop, "_signal_handlers") else []
-    handles = [each for each in [*handles_of(loop), *list(getattr(loop, "_ready", ()))] if each not in signalled]
-    handles = [each for each in handles if not is_work(getattr(each._callback, "__self__", None))]
-    values = [part for each in handles for part in (each._callback, *(each._args or ()))]
+    """What an event loop calls for timers and sockets, whatever its thread waits for, by the name of each that the
+    program has put there, and by None what asyncio has."""
+    found, rows = {}, guarded(handles_by_kind, loop)
+    rows = rows if type(rows) is list else [("", handle) for handle in handles_of(loop)]
+    for kind, handle in [*rows, *(("", handle) for handle in getattr(loop, "_ready", ()))]:
+        if kind != "signal" and not is_work(getattr(handle._callback, "__self__", None)):
+            found.setdefault(caller_name(kind, handle), []).extend(called_for(handle))
+    return found
+
+
+def called_for(handle):
+    """What a loop calls for a handle, with the class of a protocol, and what the library's own functions have around
+    them."""
+    values = [handle._callback, *(handle._args or ())]
     kinds = [type(getattr(getattr(each, "__self__", None), "_protocol", None)) for each in values]
     inner = [part for each in values if type(each) is types.FunctionType for part in inside_function(each)]
     return spread([*values, *kinds, *inner])
@@ -1545,7 +1554,7 @@ def running_loop(frames):
 
 def stacks_of_all():
     """The frames of each thread and task but this one's, with what will be called besides. By None what event loops
-    call, and by SIGNALLED what signals do."""
+    call by themselves, by the names of `caller_name` what they do for the program, and by SIGNALLED what signals do."""
     found = {ident: (stack_of(frame), []) for ident, frame in sys._current_frames().items()
              if ident != threading.get_ident()}
     for task in tasks_of_all():
@@ -1556,7 +1565,9 @@ def stacks_of_all():
     handlers = [each for each in handlers if callable(each) and each is not signal.default_int_handler]
     loops = list(filter(None, (running_loop(frames) for frames, _ in found.values())))
     handlers += [part for each in loops for handle in handlers_in(each) for part in (handle._callback, *handle._args)]
-    found[None] = [], [each for loop in loops for each in called_by_loop(loop)]
+    found[None] = [], []
+    for name, values in (row for loop in loops for row in called_by_loop(loop).items()):
+        found.setdefault(name, ([], []))[1].extend(values)
     found[SIGNALLED] = [], spread(handlers)
     return found
 
@@ -1668,22 +1679,72 @@ def handles_of(loop):
     return found
 
 
-def callbacks_of(loop, known=()):
-    """The names of what timers of a loop will call, or sockets, that may cancel a task, but for known ones."""
-    found = {foreign_name(each._callback, True) for each in timers_of(loop) if id(each) not in known}
-    found |= {foreign_name(each._callback, False) or protocol_of(each._callback) or acceptor_of(each)
-              for each in readers_of(loop) if id(each) not in known}
-    return sorted(filter(None, found))
+def handles_by_kind(loop):
+    """The same of a loop of asyncio, with what each is for."""
+    return [(kind, handle) for kind, some in (("timer", timers_of), ("reader", readers_of), ("signal", signals_of))
+            for handle in some(loop)]
 
 
-def protocol_of(callback):
-    """The name of the program's protocol that a transport calls, if its code may cancel a task, or nothing."""
-    protocol = getattr(getattr(callback, "__self__", None), "_protocol", None)
-    kind = type(protocol)
-    if LIBRARIES.match(kind.__module__) \
-            or not any(reached(CANCELS, [], from_step, functions_of([kind]), CANCELLING)):
-        return ""
-    return f"{kind.__module__}.{kind.__qualname__}"
+def callers_of(loop, known=()):
+    """What a loop will call that the program has put there, by its name, with whether that may cancel a task. What is
+    known cancels none, but signals are."""
+    found = {}
+    for kind, handle in handles_by_kind(loop):
+        name = caller_name(kind, handle)
+        if name is not None:
+            is_open = kind == "signal" or id(handle) not in known
+            found[name] = found.get(name, False) or is_open and may_call_cancel(name, handle)
+    return found
+
+
+def caller_name(kind, handle):
+    """The name of what a loop calls for a timer, a socket or a signal, as 'server Desk.answer', or None for what
+    asyncio has put there."""
+    callback, factory, protocol = handle._callback, factory_of(handle), protocol_of(handle)
+    if factory is not None:
+        return f"server {name_of_factory(factory)}"
+    if kind and (foreign_name(callback, kind == "timer") or kind == "signal"):
+        return f"{kind} {plain_name(callback)}"
+    is_own = protocol is not None and not LIBRARIES.match(type(protocol).__module__)
+    return f"connection {plain_name(type(protocol))}" if kind == "reader" and is_own else None
+
+
+def is_caller(key):
+    """Whether it is the name of what a loop calls, among the keys of threads and tasks."""
+    return type(key) is str and " " in key
+
+
+def may_call_cancel(name, handle):
+    """Whether the code of what a loop calls may cancel a task. What is no plain function is taken to."""
+    called = {"server": accepted_by(handle), "connection": functions_of([type(protocol_of(handle))])}
+    called = called.get(name.partition(" ")[0], called_for(handle))
+    return type(unwrapped(handle._callback)) not in CALLED or any(reached(CANCELS, [], from_step, called, CANCELLING))
+
+
+def protocol_of(handle):
+    """The protocol whose transport a loop calls for a handle, or None."""
+    return getattr(getattr(handle._callback, "__self__", None), "_protocol", None)
+
+
+def plain_name(function):
+    """The name of a function without its module."""
+    function = unwrapped(function)
+    return getattr(function, "__qualname__", type(function).__name__).replace(".<locals>", "")
+
+
+def unwrapped(function):
+    while isinstance(function, functools.partial):
+        function = function.func
+    return function
+
+
+def name_of_factory(factory):
+    """The name of what a server calls for each new connection: of the function that a stream is for, or of the class of
+    its protocol."""
+    is_nameless = plain_name(factory).endswith("<lambda>") or is_library_module(str(factory.__module__))
+    inner = inside_function(factory) if is_nameless and type(factory) is types.FunctionType else []
+    inner = [each for each in inner if type(each) in CALLED or isinstance(each, type)]
+    return plain_name(inner[0] if inner else factory)
 
 
 def accepted_by(handle):
@@ -1703,20 +1764,6 @@ def factory_of(handle):
 def accepted_in(loop):
     """The same of all handles of a loop."""
     return [each for handle in readers_of(loop) for each in accepted_by(handle)] if hasattr(loop, "_selector") else []
-
-
-def acceptor_of(handle):
-    """The name of what takes new connections for a loop, if its code may cancel a task, or nothing."""
-    called = accepted_by(handle)
-    if not called or not any(reached(CANCELS, [], from_step, called, CANCELLING)):
-        return ""
-    factory = factory_of(handle)
-    return f"{factory.__module__}.{getattr(factory, '__qualname__', type(factory).__name__)}".replace(".<locals>", "")
-
-
-def handlers_of(loop):
-    """The names of what a loop will call for signals: the program has put all of it there."""
-    return sorted({foreign_name(each._callback, False) or "?" for each in signals_of(loop)})
 
 
 def foreign_name(callback, is_timer):
@@ -1745,8 +1792,7 @@ def ends_more(future):
 
 def callback_name(callback):
     """The name of a function of the program, or nothing for one of asyncio itself, whose purpose a state shows."""
-    while isinstance(callback, functools.partial):
-        callback = callback.func
+    callback = unwrapped(callback)
     on = getattr(callback, "__self__", None)
     if callback is None or is_a(on, "asyncio.futures", "Future") or is_a(on, "asyncio.tasks", "Task"):
         return ""
@@ -1852,8 +1898,7 @@ def task_rows(loops, before, holders, wakers):
         ident = ident or getattr(loop, "_thread_id", None)
         task = sys.modules["asyncio"].current_task(loop) if "asyncio" in sys.modules else None
         rows.append({"runs": hex(id(loop)), "thread": ident, "current": hex(id(task)) if task is not None else None,
-                     "callbacks": guarded(callbacks_of, loop, known_calls(wakers)),
-                     "signals": guarded(handlers_of, loop)})
+                     "callers": guarded(callers_of, loop, known_calls(wakers))})
         rows += asked_of(loop)
     return rows
 

@@ -24,21 +24,23 @@ from . import State
 from .base import Moment, Premise, Recorder
 from .python_frames import is_of_frames, looks_of_frames
 from .python_names import MOST, NEED_ALL, Names, Standing, lasting_objects, operation_of, own_frames
-from .python_tasks import CANCEL, TASKS, Job, foreign_callbacks
-from .python_text import Frame, Look, Row, is_number, looks_of
+from .python_tasks import CANCEL, TASKS, Job
+from .python_text import Frame, Look, Row, callers_of, is_number, looks_of
 from .python_waits import BLOCK, CHILD, DEAD, FUTURE, NEXT, QUIET, Wait, ending_in, unsure
 
 ALARM = "alarm"
+HANDED = ("asked", "caller")  # kinds of subjects that are for an event loop to begin
 NOT_UNDERSTOOD = (AttributeError, KeyError, TypeError, ValueError, IndexError, RecursionError)
 STATES = "the states"  # a path for all, as they say themselves when they were taken
 
 
 @dataclass
 class Subject:
-    """A thread, a task or a coroutine that a loop has been handed, with the look that it is in."""
+    """A thread, a task, a coroutine that a loop has been handed, or what loops will call, with the look that it is in.
+    """
 
     job: Job
-    what: str  # "thread", "task" or "asked"
+    what: str  # "thread", "task", "asked" or "caller"
     key: Any
     row: Any
 
@@ -57,6 +59,8 @@ class Subject:
         return f"{self.job.look.pid}/{native}" if native else ""
 
     def loop(self) -> Optional[Dict[str, Any]]:
+        if self.what == "caller":
+            return self.job.look.loops.get(self.row.loops[0])
         return self.job.loop_of(self.row) if self.what == "task" else self.job.loop_of_asked(self.row)
 
 
@@ -159,11 +163,12 @@ def alarm_of(subject: Subject, moment: Jobs) -> str:
 
 
 def callback_of(subject: Subject, moment: Jobs) -> str:
-    """Returns which function of the program may cancel a task, or nothing."""
-    if subject.what == "task" and subject.loop() is None:
+    """Returns why it isn't known what may cancel a task, or nothing."""
+    loop = subject.loop() if subject.what == "task" else {"callers": {}}
+    if loop is None:
         return "its event loop isn't in the state"
-    found = foreign_callbacks(subject.loop()) if subject.what != "thread" else ""
-    return f"its event loop will call {found}, which may end its wait" if found else ""
+    is_shown = callers_of(loop) is not None
+    return "" if is_shown else "its event loop will call what the state doesn't show, which may end its wait"
 
 
 def tasks_of(subject: Subject, moment: Jobs) -> str:
@@ -261,21 +266,23 @@ class PythonRecorder(Recorder):
     def processes(self, moment: Jobs) -> Iterator[Subject]:
         for job in moment.jobs:
             kinds: Dict[str, Dict[Any, Any]] = {
-                "thread": job.look.threads, "task": job.look.tasks, "asked": job.look.asked}
+                "thread": job.look.threads, "task": job.look.tasks, "asked": job.look.asked,
+                "caller": job.ending_callers()}
             for what, rows in kinds.items():
                 for key, row in rows.items():
                     yield Subject(job, what, key, row)
 
     def wait_of(self, subject: Subject, moment: Jobs) -> Process:
         """Returns the process of a row. A row that is odd makes it unknown, whatever is odd in it."""
-        wait_of = {"thread": wait_of_thread, "task": wait_of_task, "asked": wait_of_asked}[subject.what]
+        wait_of = {"thread": wait_of_thread, "task": wait_of_task, "asked": wait_of_asked,
+                   "caller": wait_of_caller}[subject.what]
         try:
             process = wait_of(subject)
         except NOT_UNDERSTOOD:
             process = process_of(subject, [], unsure("its row in the state isn't understood"))
         if None in process.whom:
             process.become_unknown("what it waits for isn't in the state")
-        if subject.what != "asked" and subject.row.fault:
+        if subject.what not in HANDED and subject.row.fault:
             process.become_unknown(subject.row.fault)
             process.is_spoilt, process.proposal = True, "none"
         if process.kind != RUNS:
@@ -292,9 +299,9 @@ class PythonRecorder(Recorder):
     def count(self, process: Process, subject: Subject) -> None:
         """Gives a process the count of its waits, and says of it how it was read. The main thread is woken by each
         signal that asks for states, so its count holds only for the states of one signal."""
-        thread = subject.thread() if subject.what != "asked" else subject.job.thread_of(subject.loop())
+        thread = subject.thread() if subject.what not in HANDED else subject.job.thread_of(subject.loop())
         number = subject.row.more.get("wait") if subject.what == "task" else None
-        is_held = subject.what == "asked" or subject.what == "task" and held(subject)
+        is_held = subject.what in HANDED or subject.what == "task" and held(subject)
         counts = [number] if subject.what == "task" else []
         if subject.what == "thread" or is_held:
             counts.append(stops_of(thread, len(self.signals[subject.job.look.place()]) == 1))
@@ -383,6 +390,15 @@ def wait_of_asked(subject: Subject) -> Process:
                    "handed to the event loop, and not begun", because=wait.because)
 
 
+def wait_of_caller(subject: Subject) -> Process:
+    """What loops will call from outside ends waits as a thread would that accepts, and seldom those here. A timer may
+    have been set for that."""
+    wait, (kind, _, called) = subject.job.wait_of_caller(subject.key, subject.row), subject.key.partition(" ")
+    is_likely = subject.key in subject.job.named_callers or kind == "timer"
+    return Process(subject.name, wait.kind, wait.whom, wait.reason, subject.job.site, subject.key, [kind], called,
+                   because=wait.because, proposal="none" if is_likely else "frees")
+
+
 def process_of(subject: Subject, frames: List[Frame], wait: Wait, standing: Optional[Standing] = None) -> Process:
     """Returns the process of a wait, with what tells it from the next."""
     operation, objects = operation_of(standing) if standing else ("", [])
@@ -398,6 +414,6 @@ def process_of(subject: Subject, frames: List[Frame], wait: Wait, standing: Opti
                    is_idle=wait.is_idle, count=wait.count, besides=list(dict.fromkeys(wait.besides)),
                    is_collective=operation in NEED_ALL, thread=subject.kernel_thread(),
                    is_open=wait.is_open or subject.what == "task" and wait.kind == ANY,
-                   candidates=[*wait.likely, COMPLETE] if wait.likely else [],
-                   bound=wait.bound, bound_by=[premise(QUIET)] if wait.bound is not None else [],
+                   candidates=[*wait.likely, *([COMPLETE] if wait.likely and wait.proposal != "frees" else [])],
+                   bound=wait.bound, bound_by=wait.bound_by if wait.bound is not None else [],
                    scope=subject.job.names.processes[subject.job.look.place()] if wait.is_inside else "")

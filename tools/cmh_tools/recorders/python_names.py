@@ -33,6 +33,8 @@ class Names:
                     self.add(look, row.key, label(row), str(row.more.get("native") or row.more.get("number")))
             for key, asked in look.asked.items():
                 self.add(look, key, f"coroutine {asked.get('name')}", "")
+            for key in look.callers:
+                self.add(look, key, key, "")
 
     def add(self, look: Look, key: Any, name: str, number: str) -> None:
         full = f"{self.processes[look.place()]}/{name}"
@@ -43,8 +45,9 @@ class Names:
         self.of_look[id(look), key] = self.names[identity]
 
     def of(self, look: Look, key: Any) -> Optional[str]:
-        """The name of a thread, a task or a coroutine that is handed over, or None if it isn't in the state."""
-        there = key in look.threads or key in look.tasks or key in look.asked
+        """The name of a thread, a task, a coroutine that is handed over, or what a loop will call, or None if it isn't
+        in the state."""
+        there = key in look.threads or key in look.tasks or key in look.asked or key in look.callers
         return self.of_look.get((id(look), key)) if there else None
 
 
@@ -141,10 +144,12 @@ def holders_in(look: Look) -> Dict[Any, List[Any]]:
 
 
 def cancelling_in(look: Look) -> List[Any]:
-    """Returns the keys of the threads and tasks that the state doesn't say of that they cancel nobody."""
+    """Returns the keys of the threads, the tasks and what loops will call that the state doesn't say of that they
+    cancel nobody."""
     if look.cancelling is None:
         rows = [*look.threads.values(), *look.tasks.values()]
         look.cancelling = [row.key for row in rows if row.more.get("cancels") is not False]
+        look.cancelling += [key for key, caller in look.callers.items() if caller.cancelling]
     return look.cancelling
 
 

@@ -5,18 +5,23 @@ All tasks of a loop need its thread. Where a task keeps it, as in a call that bl
 from __future__ import annotations
 
 import re
+from dataclasses import replace
 from typing import Any, Dict, List, Optional
 
+from ..files import shown
 from ..sketch import ALL, ANY, RUNS, UNKNOWN, premise
 from .linux_text import Owner, Thread
 from .linux_waits import SLEEPS, has_limit
 from .python_cancel import Cancellers
 from .python_names import Names, Standing, is_idle_loop
-from .python_text import Frame, Look, Row
+from .python_text import Caller, Frame, Look, Row, callers_of
 from .python_waits import (Wait, besides_of, by_block, by_names, by_work, idle_wait, limited, resolve_all, resolve_wait,
                            thread_wait, unsure)
 
 EVENTS = "waits for events"  # how a loop is idle
+TIMER = "timer "
+COMING = {"server": "a client may come", "signal": "a signal may come", "timer": "its time will come",
+          "reader": "data may come", "connection": "data may come"}
 CANCEL, TASKS = "cancel", "tasks"  # premises
 # Frames of a thread that runs an event loop, also of one that isn't asyncio's own.
 RUN = re.compile(r"asyncio\.(base_events\.(\w+\.)?(run_forever|run_until_complete|_run_once)|runners\.(\w+\.)?run"
@@ -39,6 +44,8 @@ class Job:
         self.takers, self.sharers, self.ending = takers, sharers, ending
         self.site = names.sites[look.place()]
         self.cancellers = Cancellers(look)
+        named = [row for row in (*look.wakers.values(), *look.queues.values()) if isinstance(row, list)]
+        self.named_callers = {key for keys in named for key in keys if key in look.callers}
         tasks: Dict[str, List[Any]] = {}
         for row in look.tasks.values():
             tasks.setdefault(str(row.more.get("loop")), []).append(row.key)
@@ -113,13 +120,14 @@ class Job:
         loop = self.loop_of(row)
         thread = self.thread_of(loop)
         if loop is None or thread is None:
-            return unsure("no thread runs its event loop", premise(CANCEL))
+            return self.with_callers(unsure("no thread runs its event loop", premise(CANCEL)), row)
         if loop.get("current") == row.key:
             return thread_wait(self.standing(thread, standing.frames))
         own = self.cancellers.add_to(task_wait(row, standing), row.key, self.name_of)
         if own.kind != RUNS:
             own = besides_of(own, standing.others_with(row.key))
             own.because = [*own.because, premise(CANCEL)]
+            own = self.with_callers(own, row)
         holder = self.holder(loop)
         return own if holder is None else self.behind(holder, own, loop)
 
@@ -127,6 +135,29 @@ class Job:
         """Returns the wait of a coroutine that the loop has been handed and hasn't begun."""
         holder = self.holder(self.loop_of_asked(row) or {})
         return Wait(RUNS, reason="it is about to begin") if holder is None else Wait(ANY, [self.name_of(holder.key)])
+
+    def cancelling_callers(self, loop: Any) -> List[str]:
+        """What a loop will call that may cancel its tasks."""
+        return [key for key, caller in self.look.callers.items() if loop in caller.cancelling]
+
+    def with_callers(self, own: Wait, row: "Row") -> Wait:
+        """The wait of a task that what its loop will call may end too, by cancelling it."""
+        keys = self.cancelling_callers(row.more.get("loop"))
+        timers = [self.name_of(key) for key in keys if key.startswith(TIMER)]
+        own = besides_of(own, [self.name_of(key) for key in keys if not key.startswith(TIMER)])
+        return with_timers(own, timers) if timers else own
+
+    def ending_callers(self) -> Dict[str, Caller]:
+        """What loops will call that may end somebody's wait."""
+        return {key: caller for key, caller in self.look.callers.items()
+                if caller.cancelling or key in self.named_callers}
+
+    def wait_of_caller(self, key: str, caller: Caller) -> Wait:
+        """Returns the wait of what loops will call: as long as each of their threads is kept, for those who have them.
+        """
+        found = [self.holder(self.look.loops.get(loop) or {}) for loop in caller.loops]
+        held = [self.name_of(row.key) for row in found if row is not None]
+        return Wait(ANY, held) if len(held) == len(found) else Wait(RUNS, reason=COMING[key.partition(" ")[0]])
 
     def loop_of_asked(self, row: Dict[str, Any]) -> Optional[Dict[str, Any]]:
         return self.look.loops.get(row.get("loop"))
@@ -147,17 +178,20 @@ class Job:
         its_wait = thread_wait(self.standing(thread, frames))
         if own.kind != RUNS and its_wait.kind == RUNS:
             return own
-        if not foreign_callbacks(loop) and (own.kind == ALL or own.kind == ANY and len(own.whom) == 1):
+        is_alone = callers_of(loop) is not None and not self.cancelling_callers(loop.get("runs"))
+        if is_alone and (own.kind == ALL or own.kind == ANY and len(own.whom) == 1):
             return Wait(ALL, [name, *own.whom], because=own.because, is_open=own.is_open)
         return Wait(ANY, [name])
 
 
-def foreign_callbacks(loop: Optional[Dict[str, Any]]) -> str:
-    """Returns which function of the program a loop will call by a timer, for a socket or for a signal, or nothing."""
-    found = [(loop or {}).get(name) for name in ("callbacks", "signals")]
-    if not all(isinstance(some, list) for some in found):
-        return "what the state doesn't show"
-    return ", ".join(str(each) for some in found for each in some or ())
+def with_timers(own: Wait, timers: List[str]) -> Wait:
+    """The wait of a task that timers may end too. They are set for something, so no guess says that they end nothing.
+    """
+    if own.kind == ANY:
+        return replace(own, kind=UNKNOWN, whom=[], reason=f"{shown(timers[0])} may end its wait", proposal="frees",
+                       bound=[*dict.fromkeys([*own.whom, *timers])], bound_by=own.because, likely=timers)
+    made = besides_of(own, timers)
+    return made if own.kind == ALL else replace(made, likely=[], bound=None, proposal="maybe")
 
 
 def task_wait(row: "Row", standing: Standing) -> Wait:

@@ -55,6 +55,15 @@ class Row:
 
 
 @dataclass
+class Caller:
+    """What event loops will call for a timer, a socket or a signal, as 'server Desk.answer': the keys of these loops,
+    and of those whose tasks it may cancel."""
+
+    loops: List[Any] = field(default_factory=list)
+    cancelling: List[Any] = field(default_factory=list)
+
+
+@dataclass
 class Look:
     """A state of one OS process. `seconds` is the time between the two looks that cmh_state.py takes, `head` its first
     row, `children` the OS processes that it has begun and not seen end. `pools` and `holders` keep what is looked up in
@@ -78,6 +87,7 @@ class Look:
     tasks: Dict[Any, Row] = field(default_factory=dict)
     loops: Dict[Any, Dict[str, Any]] = field(default_factory=dict)
     asked: Dict[Any, Dict[str, Any]] = field(default_factory=dict)
+    callers: Dict[str, Caller] = field(default_factory=dict)
     wakers: Dict[Any, Any] = field(default_factory=dict)
     stopped: Set[str] = field(default_factory=set)
     endless: Set[str] = field(default_factory=set)
@@ -216,6 +226,7 @@ def add_row(look: Look, row: Dict[str, Any], path: str, at: int) -> None:
             add_one(look.tasks, str(row["task"]), row)
         elif "runs" in row:
             look.loops[row["runs"]] = row
+            add_callers(look, row)
         elif "asked" in row:
             look.asked[str(row["asked"])] = row
         elif "wait" in row:
@@ -240,6 +251,23 @@ def add_row(look: Look, row: Dict[str, Any], path: str, at: int) -> None:
         look.is_whole = False
         look.warnings.append(f"{shown(path)}:{at}: this line of a state isn't understood, so what it shows is "
                              "missing")
+
+
+def add_callers(look: Look, loop: Dict[str, Any]) -> None:
+    """Adds what a loop will call, if its row says that."""
+    for name, is_cancelling in (callers_of(loop) or {}).items():
+        caller = look.callers.setdefault(name, Caller())
+        caller.loops.append(loop["runs"])
+        caller.cancelling += [loop["runs"]] if is_cancelling else []
+
+
+def callers_of(loop: Dict[str, Any]) -> Optional[Dict[str, bool]]:
+    """Returns the names of what a loop will call, each with whether that may cancel a task, or None if its row doesn't
+    say it. An older one doesn't say what the loop calls it for."""
+    is_older = loop.get("callbacks") == loop.get("signals") == []
+    found = loop.get("callers", {} if is_older else None)
+    is_known = isinstance(found, dict) and all(isinstance(each, bool) for each in found.values())
+    return {**found} if isinstance(found, dict) and is_known else None
 
 
 def add_one(rows: Dict[Any, Row], key: Any, row: Dict[str, Any]) -> None:

@@ -50,6 +50,7 @@ class Wait:
     proposal: str = ""
     is_inside: bool = False
     bound: Optional[List[str]] = None
+    bound_by: List[str] = field(default_factory=lambda: [premise(QUIET)])
 
     def has_limit(self) -> bool:
         return self.kind == RUNS and premise(LIMIT) in self.because

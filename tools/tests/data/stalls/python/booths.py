@@ -1,0 +1,136 @@
+"""Services whose event loop has a server, a protocol, a handler of a signal, a reader or a timer that may cancel tasks,
+and healthy twins in which it will cancel one that others wait for. Usage: booths.py NAME
+
+`record NAME` keeps the states of one.
+"""
+import cmh_state
+
+import asyncio
+import os
+import signal
+import socket
+import sys
+
+LONG = 600
+
+
+class Booth:
+    """Two tasks take two locks in two orders, beside a heartbeat. `jobs` are those that may be dropped."""
+
+    def __init__(self):
+        self.rooms, self.seats = asyncio.Lock(), asyncio.Lock()
+        self.jobs, self.beats, self.kept = {}, 0, None
+
+    async def reserve(self):
+        async with self.rooms:
+            await asyncio.sleep(0.2)
+            async with self.seats:
+                self.beats += 1
+
+    async def refund(self):
+        async with self.seats:
+            await asyncio.sleep(0.2)
+            async with self.rooms:
+                self.beats += 1
+
+    async def beat(self):
+        while True:
+            await asyncio.sleep(0.5)
+            self.beats += 1
+
+    def drop_jobs(self):
+        for job in self.jobs.values():
+            job.cancel()
+
+    async def answer(self, reader, writer):
+        if await reader.readline() == b"drop\n":
+            self.drop_jobs()
+        writer.close()
+
+    async def serve(self):
+        self.kept = await asyncio.start_server(self.answer, "127.0.0.1", 0)
+
+    async def serve_by_protocol(self):
+        self.kept = await asyncio.get_running_loop().create_server(lambda: Desk(self), "127.0.0.1", 0)
+
+    async def hear(self):
+        asyncio.get_running_loop().add_signal_handler(signal.SIGHUP, self.drop_jobs)
+
+    async def read(self):
+        self.kept = os.pipe()
+        asyncio.get_running_loop().add_reader(self.kept[0], self.drop_jobs)
+
+    async def expire_later(self):
+        self.kept = asyncio.get_running_loop().call_later(LONG, self.expire)
+
+    def expire(self):
+        self.drop_jobs()
+
+    async def connect(self):
+        self.kept = socket.create_server(("127.0.0.1", 0))
+        await asyncio.get_running_loop().create_connection(lambda: Desk(self), *self.kept.getsockname())
+
+    async def run(self, prepare, is_healthy):
+        await prepare(self)
+        tasks = [asyncio.create_task(work(), name=work.__name__) for work in (self.beat, self.reserve, self.refund)]
+        self.jobs["reserve" if is_healthy else "beat"] = tasks[1 if is_healthy else 0]
+        await asyncio.wait(tasks[1:])
+
+
+class Desk(asyncio.Protocol):
+    def __init__(self, booth):
+        self.booth = booth
+
+    def data_received(self, data):
+        self.booth.drop_jobs()
+
+
+# A task waits for an order, which the handler of a server puts. In the stuck one nobody will connect.
+
+
+class Orders:
+    def __init__(self):
+        self.queue, self.done = asyncio.Queue(), asyncio.Event()
+
+    async def take(self, reader, writer):
+        self.queue.put_nowait(await reader.readline())
+        writer.close()
+
+    async def work(self):
+        while True:
+            await self.queue.get()
+            self.done.set()
+
+    async def report(self):
+        await self.done.wait()
+
+    async def run(self):
+        kept = await asyncio.start_server(self.take, "127.0.0.1", 0)
+        tasks = [asyncio.create_task(work(), name=work.__name__) for work in (self.work, self.report)]
+        await asyncio.wait(tasks)
+        kept.close()
+
+
+def book(prepare, is_healthy=False):
+    asyncio.run(Booth().run(prepare, is_healthy))
+
+
+JOBS = {
+    "booth_server": lambda: book(Booth.serve),
+    "booth_server_cancels": lambda: book(Booth.serve, True),
+    "booth_protocol": lambda: book(Booth.serve_by_protocol),
+    "booth_protocol_cancels": lambda: book(Booth.serve_by_protocol, True),
+    "booth_connection": lambda: book(Booth.connect),
+    "booth_connection_cancels": lambda: book(Booth.connect, True),
+    "booth_signal": lambda: book(Booth.hear),
+    "booth_signal_cancels": lambda: book(Booth.hear, True),
+    "booth_reader": lambda: book(Booth.read),
+    "booth_reader_cancels": lambda: book(Booth.read, True),
+    "booth_timer": lambda: book(Booth.expire_later),
+    "booth_timer_cancels": lambda: book(Booth.expire_later, True),
+    "booth_orders": lambda: asyncio.run(Orders().run()),
+}
+
+if __name__ == "__main__":
+    assert cmh_state.PRINTER, "no state is printed on a signal"
+    JOBS[sys.argv[1]]()
