@@ -1062,6 +1062,16 @@ def is_bare_future(value):
     return type(value) in (getattr(module, "Future", None), getattr(module, "_PyFuture", None)) and module is not None
 
 
+class WithoutCallers:
+    """This module, as it is where event loops call nothing for the program."""
+
+    def __getattr__(self, name):
+        return globals()[name]
+
+    def handles_of(self, loop):
+        return [handle for kind, handle in handles_by_kind(loop) if caller_name(kind, handle) is None]
+
+
 class Wakers:
     """Who is likely to end each of some waits. `stacks` is as `stacks_of_all` returns it. Once the time is over,
     whoever is left may come to any name."""
@@ -1130,11 +1140,17 @@ class Wakers:
         return [self.quiet[0]] if "cmh_quiet" in globals() and (self.targets or self.shared) else []
 
     def look_at_all(self):
-        """The row of those, what is known of all whose code is, by their keys, and which calls of event loops are."""
+        """The row of those, what is known of all whose code is, by their keys, and which calls of event loops are.
+        Where what the program has loops call may end waits, that is left out, and said to be."""
         stacks = {key: row for key, row in self.stacks.items() if not is_caller(key)}
         tasks = any(type(key) is str and key != SIGNALLED for key in stacks)
         is_wanted = "cmh_quiet" in globals() and (self.targets or self.shared or tasks)
-        return cmh_quiet.quiet_rows(stacks, sys.modules[__name__], self.places()) if is_wanted else ({}, {}, ())
+        callers = [key for key in self.stacks if is_caller(key)]
+        found = cmh_quiet.quiet_rows(stacks, sys.modules[__name__], self.places()) if is_wanted else ({}, {}, ())
+        if callers and found[0].get("loops") is False or None in found[0].get("apart", {}).values():
+            other = cmh_quiet.quiet_rows(stacks, WithoutCallers(), self.places())
+            return ({**other[0], "callers": callers}, *other[1:]) if other[0]["loops"] else found
+        return found
 
     def known(self, key):
         """What a row says of one all of whose code is known."""

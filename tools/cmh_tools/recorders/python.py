@@ -22,6 +22,7 @@ from ..moments import APART, GROWN, ONCE, PARTS, WHOLE, Reading
 from ..sketch import ANY, COMPLETE, LIMIT, REST, RUNS, UNKNOWN, Process, Sketch, premise
 from . import State
 from .base import Moment, Premise, Recorder
+from .python_callers import FREES, set_apart
 from .python_frames import is_of_frames, looks_of_frames
 from .python_names import MOST, NEED_ALL, Names, Standing, lasting_objects, operation_of, own_frames
 from .python_tasks import CANCEL, TASKS, Job
@@ -312,6 +313,9 @@ class PythonRecorder(Recorder):
             process.moment = ONCE
 
     def finish(self, sketch: Sketch, moments: List[Jobs]) -> None:
+        callers = {self.names.of(look, key) for moment in moments for look in moment.rows() for key in look.callers}
+        if callers:
+            set_apart(sketch, callers)
         readers = [look.reader() for moment in moments for look in moment.rows()]
         sketch.readers = list(dict.fromkeys(filter(None, readers)))
         lines = [line for moment in moments for look in moment.rows() for line in look.warnings]
@@ -391,12 +395,12 @@ def wait_of_asked(subject: Subject) -> Process:
 
 
 def wait_of_caller(subject: Subject) -> Process:
-    """What loops will call from outside ends waits as a thread would that accepts, and seldom those here. A timer may
-    have been set for that."""
+    """What loops will call from outside seldom ends a wait here, as a thread that accepts. A timer may be set for that.
+    """
     wait, (kind, _, called) = subject.job.wait_of_caller(subject.key, subject.row), subject.key.partition(" ")
     is_likely = subject.key in subject.job.named_callers or kind == "timer"
     return Process(subject.name, wait.kind, wait.whom, wait.reason, subject.job.site, subject.key, [kind], called,
-                   because=wait.because, proposal="none" if is_likely else "frees")
+                   because=wait.because, proposal="none" if is_likely else FREES)
 
 
 def process_of(subject: Subject, frames: List[Frame], wait: Wait, standing: Optional[Standing] = None) -> Process:
@@ -414,6 +418,6 @@ def process_of(subject: Subject, frames: List[Frame], wait: Wait, standing: Opti
                    is_idle=wait.is_idle, count=wait.count, besides=list(dict.fromkeys(wait.besides)),
                    is_collective=operation in NEED_ALL, thread=subject.kernel_thread(),
                    is_open=wait.is_open or subject.what == "task" and wait.kind == ANY,
-                   candidates=[*wait.likely, *([COMPLETE] if wait.likely and wait.proposal != "frees" else [])],
+                   candidates=[*wait.likely, *([COMPLETE] if wait.likely and wait.proposal != FREES else [])],
                    bound=wait.bound, bound_by=wait.bound_by if wait.bound is not None else [],
                    scope=subject.job.names.processes[subject.job.look.place()] if wait.is_inside else "")

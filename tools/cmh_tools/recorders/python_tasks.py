@@ -5,13 +5,12 @@ All tasks of a loop need its thread. Where a task keeps it, as in a call that bl
 from __future__ import annotations
 
 import re
-from dataclasses import replace
 from typing import Any, Dict, List, Optional
 
-from ..files import shown
 from ..sketch import ALL, ANY, RUNS, UNKNOWN, premise
 from .linux_text import Owner, Thread
 from .linux_waits import SLEEPS, has_limit
+from .python_callers import COMING, TIMER, with_timers
 from .python_cancel import Cancellers
 from .python_names import Names, Standing, is_idle_loop
 from .python_text import Caller, Frame, Look, Row, callers_of
@@ -19,9 +18,6 @@ from .python_waits import (Wait, besides_of, by_block, by_names, by_work, idle_w
                            thread_wait, unsure)
 
 EVENTS = "waits for events"  # how a loop is idle
-TIMER = "timer "
-COMING = {"server": "a client may come", "signal": "a signal may come", "timer": "its time will come",
-          "reader": "data may come", "connection": "data may come"}
 CANCEL, TASKS = "cancel", "tasks"  # premises
 # Frames of a thread that runs an event loop, also of one that isn't asyncio's own.
 RUN = re.compile(r"asyncio\.(base_events\.(\w+\.)?(run_forever|run_until_complete|_run_once)|runners\.(\w+\.)?run"
@@ -150,7 +146,7 @@ class Job:
     def ending_callers(self) -> Dict[str, Caller]:
         """What loops will call that may end somebody's wait."""
         return {key: caller for key, caller in self.look.callers.items()
-                if caller.cancelling or key in self.named_callers}
+                if caller.cancelling or key in self.named_callers or key in self.look.loud}
 
     def wait_of_caller(self, key: str, caller: Caller) -> Wait:
         """Returns the wait of what loops will call: as long as each of their threads is kept, for those who have them.
@@ -182,16 +178,6 @@ class Job:
         if is_alone and (own.kind == ALL or own.kind == ANY and len(own.whom) == 1):
             return Wait(ALL, [name, *own.whom], because=own.because, is_open=own.is_open)
         return Wait(ANY, [name])
-
-
-def with_timers(own: Wait, timers: List[str]) -> Wait:
-    """The wait of a task that timers may end too. They are set for something, so no guess says that they end nothing.
-    """
-    if own.kind == ANY:
-        return replace(own, kind=UNKNOWN, whom=[], reason=f"{shown(timers[0])} may end its wait", proposal="frees",
-                       bound=[*dict.fromkeys([*own.whom, *timers])], bound_by=own.because, likely=timers)
-    made = besides_of(own, timers)
-    return made if own.kind == ALL else replace(made, likely=[], bound=None, proposal="maybe")
 
 
 def task_wait(row: "Row", standing: Standing) -> Wait:

@@ -75,7 +75,7 @@ class Look:
     multiprocessing that it has taken, and `queues` by a queue of multiprocessing and an operation the keys of those
     who are likely to end such a wait. `quiet` has the keys of those that end nobody's wait by their code, or is None
     where others than threads and tasks may, `apart` by a wait those besides that don't end this one, or None,
-    and `steady` the tasks that don't fail on purpose."""
+    `loud` the callers that are left out there, and `steady` the tasks that don't fail on purpose."""
 
     where: str
     process: str
@@ -96,6 +96,7 @@ class Look:
     queues: Dict[Tuple[Any, Any], Any] = field(default_factory=dict)
     quiet: Optional[Set[Any]] = None
     apart: Dict[str, Any] = field(default_factory=dict)
+    loud: List[str] = field(default_factory=list)
     steady: Set[Any] = field(default_factory=set)
     is_whole: bool = True
     by_faulthandler: bool = False
@@ -236,6 +237,7 @@ def add_row(look: Look, row: Dict[str, Any], path: str, at: int) -> None:
         elif "quiet" in row:
             look.quiet = {*row["quiet"]} if row["loops"] is True else None
             look.steady = {*row.get("steady", ())}
+            look.loud = [*row.get("callers", ())]
             look.apart = {str(at): keys if keys is None else {*keys} for at, keys in row.get("apart", {}).items()}
         elif "queue" in row:
             look.queues[row["queue"], row["in"]] = row["by"]

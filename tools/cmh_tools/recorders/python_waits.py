@@ -121,7 +121,8 @@ def bound_of(standing: Standing, at: Any) -> Optional[List[str]]:
     if names is None or at is None and not is_shared or at in standing.look.stopped or at in standing.look.endless:
         return None
     found = [name for name in names if name != standing.name_of(standing.row.key)]
-    return None if not found and (is_first(standing) or waits_for_next(standing)) else found
+    is_alone = not set(found) - {*map(standing.name_of, standing.look.loud)}
+    return None if is_alone and (is_first(standing) or waits_for_next(standing)) else found
 
 
 def ending_in(look: Look, name_of: Any, at: Any = None) -> Optional[List[str]]:
@@ -136,6 +137,7 @@ def ending_in(look: Look, name_of: Any, at: Any = None) -> Optional[List[str]]:
     rows = {**look.threads, **look.tasks}
     keys = [key for key in keys if key not in look.quiet and key not in apart]
     names = [name_of(key) for key in keys if rows[key].more.get("at") not in look.stopped]
+    names += map(name_of, look.loud)
     return None if None in names or len(names) > MOST else names
 
 

@@ -111,6 +111,51 @@ class Orders:
         kept.close()
 
 
+# A loader waits for a change, which a writer makes once it has loaded. A client may ask for a change: in the stuck one
+# that waits for the loader too, or the server calls by a table what makes none.
+
+
+class Rows:
+    def __init__(self):
+        self.loaded, self.changed, self.rows = asyncio.Event(), asyncio.Event(), {}
+        self.commands = {b"count": self.count}
+
+    async def load(self):
+        await self.changed.wait()
+        self.loaded.set()
+
+    async def fill(self):
+        await self.loaded.wait()
+        self.rows["a"] = 1
+        self.changed.set()
+
+    def count(self):
+        return len(self.rows)
+
+    async def answer_after(self, reader, writer):
+        await self.fill()
+        writer.close()
+
+    async def answer_at_once(self, reader, writer):
+        self.changed.set()
+        writer.close()
+
+    async def answer_by_table(self, reader, writer):
+        writer.write(str(self.commands[await reader.readline()]()).encode())
+        writer.close()
+
+    async def run(self, answer):
+        kept = await asyncio.start_server(answer, "127.0.0.1", 0)
+        tasks = [asyncio.create_task(work(), name=work.__name__) for work in (self.load, self.fill)]
+        await asyncio.wait(tasks)
+        kept.close()
+
+
+def change(name):
+    rows = Rows()
+    asyncio.run(rows.run(getattr(rows, name)))
+
+
 def book(prepare, is_healthy=False):
     asyncio.run(Booth().run(prepare, is_healthy))
 
@@ -128,6 +173,9 @@ JOBS = {
     "booth_reader_cancels": lambda: book(Booth.read, True),
     "booth_timer": lambda: book(Booth.expire_later),
     "booth_timer_cancels": lambda: book(Booth.expire_later, True),
+    "booth_rows": lambda: change("answer_after"),
+    "booth_rows_changed": lambda: change("answer_at_once"),
+    "booth_table": lambda: change("answer_by_table"),
     "booth_orders": lambda: asyncio.run(Orders().run()),
 }
 
