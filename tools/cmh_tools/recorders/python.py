@@ -22,7 +22,7 @@ from ..moments import APART, GROWN, ONCE, PARTS, WHOLE, Reading
 from ..sketch import ANY, COMPLETE, LIMIT, REST, RUNS, UNKNOWN, Process, Sketch, premise
 from . import State
 from .base import Moment, Premise, Recorder
-from .python_callers import FREES, set_apart
+from .python_callers import FREES, TIMER, ask_at_once, doubt_timers, set_apart
 from .python_frames import is_of_frames, looks_of_frames
 from .python_names import MOST, NEED_ALL, Names, Standing, lasting_objects, operation_of, own_frames
 from .python_tasks import CANCEL, TASKS, Job
@@ -313,9 +313,12 @@ class PythonRecorder(Recorder):
             process.moment = ONCE
 
     def finish(self, sketch: Sketch, moments: List[Jobs]) -> None:
-        callers = {self.names.of(look, key) for moment in moments for look in moment.rows() for key in look.callers}
+        callers = {self.names.of(look, key): key for moment in moments for look in moment.rows()
+                   for key in look.callers}
         if callers:
-            set_apart(sketch, callers)
+            set_apart(sketch, {*callers})
+            doubt_timers(sketch, {name for name, key in callers.items() if key.startswith(TIMER)})
+            ask_at_once(sketch, {*callers})
         readers = [look.reader() for moment in moments for look in moment.rows()]
         sketch.readers = list(dict.fromkeys(filter(None, readers)))
         lines = [line for moment in moments for look in moment.rows() for line in look.warnings]

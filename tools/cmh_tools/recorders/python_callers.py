@@ -5,27 +5,43 @@ cancel tasks of its loop, or end waits by its code. So a wait that it alone migh
 """
 from __future__ import annotations
 
-from dataclasses import replace
 from typing import Any, Dict, List, Set
 
 from ..files import shown
-from ..sketch import ALL, ANY, UNKNOWN, Sketch
-from .python_waits import NEXT, Wait, besides_of
+from ..sketch import ALL, ANY, RUNS, UNKNOWN, Sketch
+from .python_waits import NEXT
 
 TIMER = "timer "
-COMING = {"server": "a client may come", "signal": "a signal may come", "timer": "its time will come",
-          "reader": "data may come", "connection": "data may come"}
+COMING = {"server": "waits for a client", "signal": "waits for a signal", "timer": "waits for its time",
+          "reader": "waits for data", "connection": "waits for data"}
 FREES = "frees"  # the proposal that some end nobody's wait
 
 
-def with_timers(own: Wait, timers: List[str]) -> Wait:
-    """The wait of a task that timers may end too. They are set for something, so no guess says that they end nothing.
-    """
-    if own.kind == ANY:
-        return replace(own, kind=UNKNOWN, whom=[], reason=f"{shown(timers[0])} may end its wait", proposal=FREES,
-                       bound=[*dict.fromkeys([*own.whom, *timers])], bound_by=own.because, likely=timers)
-    made = besides_of(own, timers)
-    return made if own.kind == ALL else replace(made, likely=[], bound=None, proposal="maybe")
+def doubt_timers(sketch: Sketch, timers: Set[Any]) -> None:
+    """Leaves those unknown whom only timers may free, and callers. A timer is set for something, so no guess says that
+    it frees nobody, and the fact is asked for."""
+    inside = closed(sketch, {})
+    for it in sketch.processes:
+        if it.kind == ANY and it.name in inside and not timers.isdisjoint(it.besides):
+            others = [name for name in it.besides if name not in inside]
+            it.bound, it.bound_by, because = [*dict.fromkeys([*it.whom, *others])], it.because, it.because
+            it.become_unknown(f"{shown(others[0])} may end its wait")
+            it.because, it.proposal, it.candidates = because, FREES, others
+
+
+def ask_at_once(sketch: Sketch, callers: Set[Any]) -> None:
+    """Has callers ask for the fact that they free nobody where they may free one whose wait isn't known as yet: else it
+    would be asked for only once that is."""
+    inside = closed(sketch, {})
+    named = {name for it in sketch.processes for name in (*it.candidates, *it.whom)}
+    rows = [it for it in sketch.processes if it.kind != RUNS and not callers.isdisjoint(it.besides)]
+    early = {name for it in rows for name in it.besides if name in callers - named}
+    if any(it.name in inside for it in rows) or not any(it.kind == UNKNOWN for it in rows):
+        return
+    for it in sketch.processes:
+        if it.name in early and it.kind == RUNS:
+            it.become_unknown(it.reason)
+            it.is_idle, it.proposal, it.candidates = True, FREES, sorted(early)
 
 
 def set_apart(sketch: Sketch, callers: Set[Any]) -> None:

@@ -10,7 +10,7 @@ from typing import Any, Dict, List, Optional
 from ..sketch import ALL, ANY, RUNS, UNKNOWN, premise
 from .linux_text import Owner, Thread
 from .linux_waits import SLEEPS, has_limit
-from .python_callers import COMING, TIMER, with_timers
+from .python_callers import COMING
 from .python_cancel import Cancellers
 from .python_names import Names, Standing, is_idle_loop
 from .python_text import Caller, Frame, Look, Row, callers_of
@@ -138,10 +138,7 @@ class Job:
 
     def with_callers(self, own: Wait, row: "Row") -> Wait:
         """The wait of a task that what its loop will call may end too, by cancelling it."""
-        keys = self.cancelling_callers(row.more.get("loop"))
-        timers = [self.name_of(key) for key in keys if key.startswith(TIMER)]
-        own = besides_of(own, [self.name_of(key) for key in keys if not key.startswith(TIMER)])
-        return with_timers(own, timers) if timers else own
+        return besides_of(own, [self.name_of(key) for key in self.cancelling_callers(row.more.get("loop"))])
 
     def ending_callers(self) -> Dict[str, Caller]:
         """What loops will call that may end somebody's wait."""

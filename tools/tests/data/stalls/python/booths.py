@@ -151,6 +151,43 @@ class Rows:
         kept.close()
 
 
+# A feed holds a lock while it waits for room in the box of a sender, which waits for that lock. In the twin the sender
+# only takes long. A client or a timer may cancel the senders.
+
+
+class Hub:
+    def __init__(self, is_healthy):
+        self.lock, self.boxes, self.senders = asyncio.Lock(), [asyncio.Queue(2), asyncio.Queue(2)], []
+        self.is_healthy = is_healthy
+
+    async def feed(self):
+        while True:
+            async with self.lock:
+                for box in self.boxes:
+                    await box.put("news")
+
+    async def send(self, box):
+        while True:
+            await box.get()
+            if box is self.boxes[0]:
+                await asyncio.sleep(LONG if self.is_healthy else 0.1)
+                async with self.lock:
+                    self.senders[1:] = self.senders[1:]
+
+    def expire(self):
+        self.senders[0].cancel()
+
+    async def answer(self, reader, writer):
+        self.senders[int(await reader.readline())].cancel()
+
+    async def run(self):
+        kept = await asyncio.start_server(self.answer, "127.0.0.1", 0)
+        asyncio.get_running_loop().call_later(LONG, self.expire)
+        self.senders = [asyncio.create_task(self.send(box), name=f"sender-{at}") for at, box in enumerate(self.boxes)]
+        await asyncio.wait([*self.senders, asyncio.create_task(self.feed(), name="feed")])
+        kept.close()
+
+
 def change(name):
     rows = Rows()
     asyncio.run(rows.run(getattr(rows, name)))
@@ -176,6 +213,8 @@ JOBS = {
     "booth_rows": lambda: change("answer_after"),
     "booth_rows_changed": lambda: change("answer_at_once"),
     "booth_table": lambda: change("answer_by_table"),
+    "booth_hub": lambda: asyncio.run(Hub(False).run()),
+    "booth_hub_slow": lambda: asyncio.run(Hub(True).run()),
     "booth_orders": lambda: asyncio.run(Orders().run()),
 }
 
