@@ -1147,7 +1147,8 @@ class Wakers:
         is_wanted = "cmh_quiet" in globals() and (self.targets or self.shared or tasks)
         callers = [key for key in self.stacks if is_caller(key)]
         found = cmh_quiet.quiet_rows(stacks, sys.modules[__name__], self.places()) if is_wanted else ({}, {}, ())
-        if callers and found[0].get("loops") is False or None in found[0].get("apart", {}).values():
+        is_open = found[0].get("loops") is False or None in found[0].get("apart", {}).values()
+        if callers and (self.targets or self.shared) and is_open:
             other = cmh_quiet.quiet_rows(stacks, WithoutCallers(), self.places())
             return ({**other[0], "callers": callers}, *other[1:]) if other[0]["loops"] else found
         return found

@@ -453,14 +453,18 @@ def resolve(standing: Standing, value: Any) -> Optional[Wait]:
 
 
 def resolve_gather(standing: Standing, value: Dict[str, Any]) -> Optional[Wait]:
-    """The wait for a gather: the first that fails ends it, unless it gathers errors too. One that is steady doesn't."""
+    """The wait for a gather: the first that fails ends it, unless it gathers errors too. One that is steady doesn't.
+    If all are, each has to come. Whoever cancels one that is steady ends it too."""
     if value.get("raises") is False:
         return resolve_all(standing, value["all"])
-    left = [each for each in value["all"] if not isinstance(each, dict) or each.get("id") not in standing.look.steady]
-    wait = resolve_all(standing, left or value["all"], True)
-    if wait is not None and len(left) < len(value["all"]):
-        wait.because = list(dict.fromkeys([*wait.because, premise(QUIET)]))
-    return wait
+    steady = [each["id"] for each in value["all"] if isinstance(each, dict) and each.get("id") in standing.look.steady]
+    left = [each for each in value["all"] if not isinstance(each, dict) or each.get("id") not in steady]
+    wait = resolve_all(standing, left, True) if left else resolve_all(standing, value["all"])
+    if wait is None or wait.kind == RUNS or not steady:
+        return wait
+    wait.because = list(dict.fromkeys([*wait.because, premise(QUIET)]))
+    others = [standing.others_with(key) for key in steady]
+    return besides_of(wait, None if None in others else [name for some in others for name in some or ()])
 
 
 def with_holders(standing: Standing, value: Dict[str, Any], wait: Optional[Wait]) -> Optional[Wait]:

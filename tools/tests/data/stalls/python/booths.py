@@ -188,6 +188,44 @@ class Hub:
         kept.close()
 
 
+# A task gathers two that wait and a heartbeat, and would free both in the end. The twin gathers two that take two locks
+# in two orders, and another task will cancel the heartbeat, which ends the gathering.
+
+
+class Shift:
+    def __init__(self):
+        self.opened, self.closed, self.beats = asyncio.Event(), asyncio.Event(), 0
+
+    async def open(self):
+        await self.closed.wait()
+        self.opened.set()
+
+    async def serve(self):
+        await self.opened.wait()
+
+    async def beat(self):
+        while True:
+            await asyncio.sleep(0.5)
+            self.beats += 1
+
+    async def run(self):
+        await asyncio.gather(*(asyncio.create_task(work(), name=work.__name__)
+                               for work in (self.open, self.serve, self.beat)))
+        self.closed.set()
+
+
+async def cancel_later(task):
+    await asyncio.sleep(LONG)
+    task.cancel()
+
+
+async def gather_booth():
+    booth = Booth()
+    tasks = [asyncio.create_task(work(), name=work.__name__) for work in (booth.beat, booth.reserve, booth.refund)]
+    booth.kept = asyncio.create_task(cancel_later(tasks[0]), name="keeper")
+    await asyncio.gather(*tasks)
+
+
 def change(name):
     rows = Rows()
     asyncio.run(rows.run(getattr(rows, name)))
@@ -215,6 +253,8 @@ JOBS = {
     "booth_table": lambda: change("answer_by_table"),
     "booth_hub": lambda: asyncio.run(Hub(False).run()),
     "booth_hub_slow": lambda: asyncio.run(Hub(True).run()),
+    "booth_shift": lambda: asyncio.run(Shift().run()),
+    "booth_shift_ended": lambda: asyncio.run(gather_booth()),
     "booth_orders": lambda: asyncio.run(Orders().run()),
 }
 
