@@ -143,7 +143,8 @@ class LinuxRecorder(Recorder):
 
     def finish(self, sketch: Sketch, moments: List[Computer]) -> None:
         """Leaves out what couldn't be read, wasn't asked for and stands in nobody's list. Adds what no state shows."""
-        wanted = self.asked.union(name for process in sketch.processes for name in (*process.whom, *process.besides))
+        wanted = self.asked.union(name for process in sketch.processes
+                                  for name in (*process.whom, *process.besides, *(process.bound or ())))
         sketch.processes = [it for it in sketch.processes if it.frames != [UNREADABLE] or it.name in wanted]
         sketch.processes += [unknown(name, why, frames=[name], is_idle=True, proposal="ended")
                              for name, why in self.unseen.items() if name in wanted]

@@ -2,6 +2,7 @@
 import contextlib
 import ctypes
 import fcntl
+import mmap
 import os
 import select
 import signal
@@ -778,6 +779,7 @@ def tokens_closed(is_slow=False):
 # Processes that can't be read, of another user
 
 
+FUTEX = 202  # the number of its call on x86-64
 of_process_1 = []  # the ends of pipes that it has
 
 
@@ -822,6 +824,23 @@ def user_orphan(is_slow=False):
         os.wait()
     become_user()
     wait_for_each_other(*handles, False)
+
+
+def user_shared(is_slow=False):
+    """Two workers wait at words of the memory that they share with who has started them. In the twin one of them works
+    for a long time instead. Process 1 can't be read, and might have that memory too."""
+    become_user()
+    signal.signal(signal.SIGINT, signal.SIG_DFL)
+    memory = mmap.mmap(-1, 4096)
+    address = ctypes.addressof(ctypes.c_char.from_buffer(memory))
+
+    def wait_at(word):
+        LIBC.syscall(FUTEX, ctypes.c_void_p(address + word), 0, 0, None)  # FUTEX_WAIT
+
+    first = start("first", wait_at, 0)
+    start("second", *((rest,) if is_slow else (wait_at, 64)))
+    call_me("shop")
+    os.waitpid(first, 0)
 
 
 # Runtimes of which the kernel shows the outside
