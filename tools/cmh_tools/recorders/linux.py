@@ -18,7 +18,7 @@ from .base import Moment, Premise, Recorder, one_line
 from .linux_locks import SETLKW, ends_of_lock
 from .linux_stacks import BARRIER, STACK, add_stacks, ends_of_futex, hint, meeting_of, own_frames, system_of
 from .linux_text import ENDED as GONE
-from .linux_text import READS, WRITES, Machine, Owner, Row, Thread, readings_of, rows_of
+from .linux_text import READS, WRITES, Machine, Owner, Row, Thread, call_threads, readings_of, rows_of
 from .linux_unread import Branches
 from .linux_waits import (ACCEPTS, CONNECTS, ENDING, EPOLLS, FIFO, FILES, FOR_SIGNALS, FORKS, FRONT, GROUP, IPC,
                           KEYLESS, MEMORY, MOVES, OPENS, PIPE, QUEUE, QUEUES, READ, REMOTE, RESTS, SETS, SIGCHLD,
@@ -125,6 +125,7 @@ class LinuxRecorder(Recorder):
         if paths[1:]:
             raise Refusal(f"{shown(paths[1])}: one state of Linux is expected, which has both readings, and "
                           f"{shown(paths[0])} is one")
+        call_threads([reading.rows[0] for reading in readings])
         for reading in readings:
             add_stacks(reading.rows[0], self.stacks)
         unread = list({it.pid: it for reading in readings for it in reading.rows[0].owners if it.why}.values())
@@ -165,7 +166,8 @@ class LinuxRecorder(Recorder):
             return unknown(name, why, frames=[thread.owner.command], operation="polls", **more)
         if is_awake:
             return runs(name, "it computes", [SYSTEM], **more)
-        more["frames"] = [*(own_frames(thread) or [thread.owner.command]), *filter(None, [thread.title])]
+        own = own_frames(thread)
+        more["frames"] = [*own, *filter(None, [thread.kin, "" if own else thread.owner.command])]
         more["objects"] = [" ".join([thread.call, *thread.row.get("args", [])])]
         if thread.counts:
             more["count"] = f"{thread.owner.row.get('start')} {thread.counts[0]}"
@@ -288,7 +290,7 @@ def whole_note(thread: Thread, ends: Ends) -> str:
     places = own_frames(thread)[:1]
     command = one_line(str(thread.owner.row.get("command", "")), WIDTH)
     is_told = thread.tid == thread.owner.pid and " " in command
-    told = f" [{command}]" if is_told else f" [thread {shown(thread.title)}]" if thread.title else ""
+    told = f" [{command}]" if is_told else f" [thread {thread.tid}]" if thread.called else ""
     return " in ".join([note_of(thread, ends), *places]) + told
 
 

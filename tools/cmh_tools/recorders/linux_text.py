@@ -21,6 +21,7 @@ SIGMASK = "sigmask:"  # which signals a descriptor of them takes
 NO_KEYS = ("lock:", CARRIES, RING, SIGMASK)  # what of a descriptor doesn't tell its file from others
 OPEN = "open "  # how the name of an open file begins, which several descriptors may share
 ENDED = "ZX"  # the states of those that have ended
+NUMBER, NUMBERED = re.compile(r"\d+"), re.compile(r"(.* )?\d+")  # within the name of a thread, and at its end
 HEX = re.compile(r"(0x)?[0-9a-f]{1,16}")
 THREAD = {"tid": int, "state": str, "inner?": int, "comm?": str, "call?": str, "args?": [HEX] * 6,
           "counts?": [int, int], "set?": [[int]], "words?": re.compile("([0-9a-f]{2})*"), "range?": [int] * 4,
@@ -79,11 +80,14 @@ class Owner:
 
 @dataclass(eq=False)
 class Thread:
-    """A thread, as one reading shows it. `stack` has its frames, where they were asked for."""
+    """A thread, as one reading shows it. `stack` has its frames, where they were asked for. `called` is what it is called
+    within its process, and `kin` the same for all whose names differ by a number alone."""
 
     owner: Owner
     row: Row
     stack: List[Tuple[str, str]] = field(default_factory=list)
+    called: str = ""
+    kin: str = ""
 
     def __post_init__(self) -> None:
         self.tid, self.state = int(self.row["tid"]), str(self.row.get("state", "?"))
@@ -102,7 +106,7 @@ class Thread:
 
     @property
     def name(self) -> str:
-        return self.owner.name if self.tid == self.owner.pid else f"{self.owner.name}/{self.tid}"
+        return self.owner.name if self.tid == self.owner.pid else f"{self.owner.name}/{self.called or self.tid}"
 
     @property
     def is_addressed(self) -> bool:
@@ -179,6 +183,24 @@ class Machine:
     def children(self, pid: int) -> List[Owner]:
         """Returns the processes that a process waits for by `wait`: its children, and those that it traces."""
         return [it for it in self.owners if pid in (it.parent, it.tracer)]
+
+
+def call_threads(machines: List[Machine]) -> None:
+    """Has threads called as their programs have named them, in all readings as in the first that shows one. Those whose
+    names don't tell them from others, or may be numbers of threads, have their own numbers besides."""
+    titles: Dict[int, Dict[int, str]] = {}
+    for owner in (it for machine in machines for it in machine.owners):
+        for thread in owner.threads:
+            titles.setdefault(owner.pid, {}).setdefault(thread.tid, thread.title)
+    counts = {pid: Counter(some.values()) for pid, some in titles.items()}
+    kin = {pid: Counter(NUMBER.sub("*", title) for title in some.values()) for pid, some in titles.items()}
+    for owner in (it for machine in machines for it in machine.owners):
+        for thread in owner.threads:
+            title = titles[owner.pid][thread.tid]
+            is_own = counts[owner.pid][title] == 1 and not NUMBERED.fullmatch(title)
+            thread.called = title if is_own or not title else f"{title} {thread.tid}"
+            family = NUMBER.sub("*", title)
+            thread.kin = family if kin[owner.pid][family] > 1 else title
 
 
 def keys_of(it: List[str]) -> Iterator[str]:

@@ -380,8 +380,8 @@ def ends_of_signals(machine: Machine, thread: Thread, mask: int, sharers: Sequen
     children = list(dict.fromkeys(it for owner in owners for it in machine.children(owner.pid)))
     why = doubt_of_signals(thread, mask, children)
     more = [it for owner in owners for it in new_children(machine, thread, machine.children(owner.pid))]
-    return Ends(threads_of(children, thread, False), why, what="the end of a child", others=children, is_exact=True,
-                besides=more)
+    what = "the end of a child" if mask >> SIGCHLD - 1 & 1 else "a signal"
+    return Ends(threads_of(children, thread, False), why, what=what, others=children, is_exact=True, besides=more)
 
 
 def doubt_of_signals(thread: Thread, mask: int, children: List[Owner]) -> str:
