@@ -36,10 +36,12 @@ NOBODY = frozenset(("chan receive (nil chan)", "chan send (nil chan)", "select (
 OF_THE_SYSTEM = frozenset(("IO wait", "syscall"))
 END_OF_MAIN = "waits in the empty select of main"
 YIELD = "runtime.Gosched"
-READER = "sync.RWMutex.RLock"
+READER, WRITER = "sync.RWMutex.RLock", "sync.RWMutex.Lock"
 NAMED = 3  # names in a reason
 MOST = 200  # more who have what one waits at in a frame tell nothing of it
-WRITERS = "a writer ends this wait, which holds the lock or waits in Lock, and no reader; the state doesn't show which"
+ENDERS = {
+    READER: "a writer ends this wait, which holds the lock or waits in Lock, and no reader; the state doesn't show which",
+    WRITER: "who holds the lock now ends this wait, and nobody who waits for it; the state doesn't show who that is"}
 ANOTHER = "another wait"  # beside the objects of one that has left its place between two states
 INTENT = "empty-select"
 
@@ -128,7 +130,8 @@ class GoRecorder(Recorder):
             return spoilt(name, goroutine.fault, site=SITE)
         place = moment.places[goroutine.number]
         process = self.wait_at(goroutine, place, name, moment)
-        process.site, process.proposal = SITE, "all" if place.operation in NEEDS_ALL else "any"
+        needs_all = place.operation in NEEDS_ALL and place.operation != WRITER  # (all readers: also those that hold none)
+        process.site, process.proposal = SITE, "all" if needs_all else "any"
         self.guess_of(process, goroutine, place, moment)
         process.frames, process.operation = place.frames, process.operation or place.operation
         process.meeting = next(iter(place.objects), name) if place.operation in NEEDS_ALL else ""
@@ -181,23 +184,30 @@ class GoRecorder(Recorder):
         if not state:
             return unknown(name, "it has no state")
         others = [name for at in place.objects for name in moment.seen[at]]
-        who = WRITERS if place.operation == READER else "the state doesn't show what ends this wait"
+        who = ENDERS.get(place.operation, "the state doesn't show what ends this wait")
         return unknown(name, f"{state}: {who}{also_at(others)}", candidates=self.guess(goroutine, place, moment))
 
     def guess(self, goroutine: Goroutine, place: Place, moment: Goroutines) -> List[str]:
         """Returns who may end a wait, as words of facts for people to complete: its children, if it waits for all of
         them, or who has what it waits at in a frame. Most texts don't show a channel, and an object in a frame says
         nothing of which of its channels a wait is at."""
-        if place.operation in NEEDS_ALL and goroutine.number in self.parents:
+        children = moment.likely.children(goroutine, place)
+        coming = [it.number for it in children if self.may_come(it, moment)]
+        if coming == [it.number for it in children] and goroutine.number in self.parents and children:
             return ["children"]
-        started = [it for it in moment.likely.children(goroutine, place) if not moment.places[it].idle]
-        if started:
-            return [*map(self.names.__getitem__, started), COMPLETE]
+        if coming:
+            return [*map(self.names.__getitem__, coming), COMPLETE]
         if sum(len(moment.seen[address]) for address in place.objects) > MOST:
             return []
         found = dict.fromkeys(name for address in place.objects for name in moment.seen[address])
         found.pop(self.names[goroutine.number], None)
         return [*found, COMPLETE] if found else []
+
+    def may_come(self, goroutine: Goroutine, moment: Goroutines) -> bool:
+        """Whether one of those that another one has created is likely to be among all for whom that one waits: no
+        heartbeat, none that waits for work, and none that can never end."""
+        is_over = goroutine.state in NOBODY or goroutine.is_leaked
+        return not (is_over or moment.places[goroutine.number].idle or moment.likely.is_named_timed(goroutine))
 
     def finish(self, sketch: Sketch, moments: List[Goroutines]) -> None:
         """Adds the warnings, and for each creator the group of those that it has created."""

@@ -90,14 +90,22 @@ class Likely:
         is_given = last.arguments != "" or has_word(place.function, TAKES)
         return bool(by_creator) or is_given and not self.has_handlers
 
-    def children(self, goroutine: Goroutine, place: Place) -> List[str]:
-        """Returns the numbers of those whom one that waits for all of some has likely started, where the text doesn't
-        say which goroutine has started whom: those that its function has started, if it alone stands there."""
-        if goroutine.state != "semacquire" or place.operation not in NEEDS_ALL or place.operation.endswith("Lock"):
+    def is_named_timed(self, goroutine: Goroutine) -> bool:
+        """Whether the function that a goroutine was started with is called as one that only wakes now and then."""
+        own = [it.function for it in goroutine.frames if is_own(it)]
+        return bool(own) and has_word(own[-1], TIMED)
+
+    def children(self, goroutine: Goroutine, place: Place) -> List[Goroutine]:
+        """Returns those whom one that waits for all of some has started, or where the text doesn't say which goroutine
+        has started whom, has likely started: those that its function has started, if it alone stands there."""
+        if place.operation not in NEEDS_ALL or place.operation.endswith("Lock"):
             return []
+        known = [it for it in self.rows if it.parent == goroutine.number]
+        if known or goroutine.state != "semacquire":
+            return known
         own = [it.function for it in goroutine.frames if is_own(it)]
         for function in own:
-            found = [it.number for it in self.rows if it.created_by == function and not it.parent]
+            found = [it for it in self.rows if it.created_by == function and not it.parent]
             if found:
                 return found if len(self.standing[function]) == 1 else []
         return []
