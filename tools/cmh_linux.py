@@ -16,6 +16,7 @@ it: descriptors have names of files, and command lines may have passwords.
 from __future__ import annotations
 
 import argparse
+import bisect
 import contextlib
 import ctypes
 import functools
@@ -974,6 +975,300 @@ def let_go(pid: int) -> None:
         time.sleep(0.02)
 
 
+# The machine code that a sleeping thread may still come to
+
+
+# Calls of libraries that end nobody's wait, and those that may only end one at a file, or only one at a futex.
+PLAIN = re.compile(
+    r"sleep|usleep|nanosleep|clock_\w+|time|gettimeofday|(local|gm)time(_r)?|mktime|strftime|getpid|gettid|pthread_self"
+    r"|sched_yield|s?rand|random|mem(cpy|set|move|cmp)|str(n?cpy|n?cat|n?cmp|n?len|r?chr|str|tou?l|error_r)|ato[il]"
+    r"|v?sn?printf|__(mem|str|v?sn?printf|stpcpy)\w*_chk|malloc|calloc|realloc|free|pthread_setname_np|getloadavg"
+    r"|sysinfo|__errno_location|__stack_chk_fail|_Zn[wa]m\w*|_Zd[la]Pv\w*|_ZNSt6chrono\w*3nowEv|_ZNSt6thread6_StateD2Ev"
+    r"|_ZNSt11this_thread11__sleep_for\w+|_ZSt\d+__throw_(bad_alloc|bad_array_new_length|length_error|system_error)\w*"
+    r"|_ZSt9terminatev|_Unwind_Resume|_ZNK?St7__cxx1112basic_string\w+|accept4?|__libc_start_main")
+OF_FILES = re.compile(
+    r"(open|lseek|f?stat|fopen|fdopen)(64)?|read|write|close|unlink|rename|fsync|fclose|fflush|f?puts|f?putc|putchar"
+    r"|fwrite|fread|fgets|v?[fd]?printf|__v?[fd]?printf_chk|getline|send(to|msg)?|recv\w*|syslog")
+OF_FUTEXES = re.compile(r"pthread_(mutex|cond|rwlock|spin)_\w+|sem_(post|wait|trywait)|_ZNSt18condition_variable\w+")
+# What lets calls of libraries come to other code of the program.
+BY_A_WAY = re.compile(r" (fopencookie|register_printf_\w+|pthread_key_create|\w*thread_(at)?exit\w*|\w+setrobust\w*"
+                      r"|(make|swap|set)context|_*(sig)?(set|long)jmp\w*|__morestack\w*|__\w+_hook)\b")
+END_OF_HANDLER = bytes.fromhex("48c7c00f0000000f05")  # to where a handler of a signal returns
+LIBRARY = re.compile(r"/(usr/)?lib(64)?/.*")
+OF_THE_SYSTEM = re.compile(r".*/(libc|libpthread|libstdc\+\+|libm|libgcc_s|librt|libdl|ld-linux-x86-64)[.-][^/]*")
+SYMBOL = re.compile(r"^([0-9a-f]+) .{7} \.\S+\t([0-9a-f]+) +(?:\.hidden )?(\S+)$", re.M)
+STEP = re.compile(r"^ +([0-9a-f]+):\t((?:(?:notrack|bnd|rep\w*|lock|data16|cs) )*)(\S+)(?: +(.*))?$")
+TARGET = re.compile(r"(?:\*0x[0-9a-f]+\(%rip\) +# )?([0-9a-f]+) <([^>]+)>")
+RUNS = re.compile(r"(_ZNSt6thread11_State_implI.*E)6_M_runEv")  # what runs a thread of C++, and its object's end
+ODD = re.compile(r"sys(call|enter)|u?iret\w?|int\d?|l(ret|jmp|call)\w?|\(bad\)|xbegin|wrpkru|enter\w?|loop\w*")
+MOVES_STACK = re.compile(r".*,%(rsp|esp|sp)|%(rsp|esp|sp)")
+MAPPED_CODE = re.compile(r"^([0-9a-f]+)-([0-9a-f]+) (....) [0-9a-f]+ \S+ \d+ *(.*)$", re.M)
+BEHIND_CALL = re.compile(rb"\xe8.{4}$|\xff[\x10-\x1f\xd0-\xdf\x50-\x5f\x90-\x9f].{0,5}$", re.S)  # the bytes of a call
+LARGE, STACK, FUNCTIONS = 1 << 26, 1 << 18, 300  # bytes of a program and of a stack, and functions, that are looked at
+OUTER = 2  # calls of the C library that lead to what a thread was started with
+
+
+def output_of(*words: str) -> str:
+    """Returns what a command prints, or nothing."""
+    try:
+        ran = subprocess.run(words, stdin=subprocess.DEVNULL, capture_output=True, timeout=20, check=False)
+    except (OSError, subprocess.TimeoutExpired):
+        return ""
+    return ran.stdout.decode("utf-8", "backslashreplace")
+
+
+class Unclear(Exception):
+    """The code of a thread does something that isn't followed."""
+
+
+class Program:
+    """The machine code of a program, as objdump shows it, function by function."""
+
+    def __init__(self, path: str, size: int) -> None:
+        self.path = path
+        found = sorted({(int(at, 16), int(size, 16), name) for at, size, name in SYMBOL.findall(
+            output_of("objdump", "-t", path) if size < LARGE else "") if int(size, 16)})
+        self.functions, self.starts = found, [at for at, _, _ in found]
+        dynamic = output_of("objdump", "-T", path) if found else ""
+        own = [line.split()[-1] for line in dynamic.split("\n") if " .text\t" in line and "__cxx11" not in line]
+        known = (PLAIN, OF_FILES, OF_FUTEXES)
+        self.is_clear = bool(found) and not BY_A_WAY.search(dynamic) and not any(
+            names.fullmatch(it) for names in known for it in own)
+        self.steps: Dict[int, Tuple[int, str, str]] = {}  # by its address: where the next one is, its name, its words
+        self.known: Set[int] = set()
+
+    def function_at(self, address: int) -> Tuple[int, int, str]:
+        at = bisect.bisect_right(self.starts, address) - 1
+        if at < 0 or address >= self.functions[at][0] + self.functions[at][1]:
+            raise Unclear
+        return self.functions[at]
+
+    def read(self, address: int) -> None:
+        """Reads the function that an address is in."""
+        start, size, _ = self.function_at(address)
+        if start in self.known:
+            return
+        if len(self.known) >= FUNCTIONS:
+            raise Unclear
+        self.known.add(start)
+        text = output_of("objdump", "-d", "-w", "--no-show-raw-insn", f"--start-address={start}",
+                         f"--stop-address={start + size}", self.path)
+        rows = [(int(it[1], 16), it[3], it[4] or "") for it in map(STEP.match, text.split("\n")) if it]
+        before = ""
+        for (at, name, words), (after, *_) in zip(rows, [*rows[1:], (start + size, "", "")]):
+            self.steps[at] = after, "(bad)" if name.startswith("ret") and before else name, words
+            before = words if name.startswith("push") or words.endswith(",(%rsp)") else ""
+
+    def is_behind_call(self, address: int) -> bool:
+        """Whether an address is one to which a call returns. Raises Unclear where it is in no known function, and isn't
+        the beginning of one."""
+        with contextlib.suppress(Unclear):
+            return bool(self.call_before(address))
+        if address not in self.starts:
+            raise Unclear
+        return False
+
+    def call_before(self, address: int) -> str:
+        """Returns the words of the call to which one returns at an address, or nothing if there is none before it."""
+        self.read(address - 1)
+        start, size, _ = self.function_at(address - 1)
+        return next((words for at, (after, name, words) in self.steps.items() if start <= at < start + size
+                     and after == address and name.startswith("call")), "")
+
+
+class Reach:
+    """All that a thread may still come to: the calls of libraries (`calls`), and the functions in which it returns."""
+
+    def __init__(self, program: Program) -> None:
+        self.program, self.calls, self.returns = program, set(), set()  # type: Program, Set[str], Set[str]
+        self.seen: Set[int] = set()
+        self.left: List[int] = []
+
+    def follow(self, addresses: Iterable[int]) -> None:
+        """Follows the code from some addresses. Raises Unclear where it can't."""
+        self.left += addresses
+        while self.left:
+            at = self.left.pop()
+            if at not in self.seen:
+                self.seen.add(at)
+                self.program.read(at)
+                if at not in self.program.steps:
+                    raise Unclear
+                self.left += self.after(at, *self.program.steps[at])
+
+    def after(self, at: int, following: int, name: str, words: str) -> List[int]:
+        """Returns where one comes to from a step."""
+        start, size, function = self.program.function_at(at)
+        if name.startswith("call"):  # (one at the end of its function doesn't come back)
+            return [*([following] if following < start + size else []), *self.target(words)]
+        if name.startswith("ret"):
+            self.returns.add(function)
+            return []
+        if name.startswith("j"):
+            return [*([] if name.startswith("jmp") else [following]), *self.target(words)]
+        is_odd = ODD.fullmatch(name) or name.startswith("xchg") and "%rsp" in words
+        if is_odd or MOVES_STACK.fullmatch(words) and not is_plain_move(name, words):
+            raise Unclear
+        return [] if name in ("ud2", "hlt") else [following]
+
+    def target(self, words: str) -> List[int]:
+        """Returns to which address of the program a call or a jump goes, and notes that of a library."""
+        found = TARGET.fullmatch(words)
+        if found is None:
+            raise Unclear
+        name = found[2].partition("@")[0]
+        if "@" in found[2]:
+            self.calls.add(name)
+            return []
+        if words.startswith("*") or "thunk" in name:
+            raise Unclear
+        return [int(found[1], 16)]
+
+
+def is_plain_move(name: str, words: str) -> bool:
+    """Whether a step moves the stack as compilers do: by a number, or back to where a function has begun."""
+    if name.startswith(("sub", "add", "and")):
+        return words.startswith("$")
+    if name.startswith("lea"):
+        return re.match(r"-?0x[0-9a-f]+\(%r[bs]p\),", words) is not None
+    return name.startswith("mov") and words == "%rbp,%rsp" or name.startswith(("cmp", "test"))
+
+
+class Standing:
+    """Where a thread stands: `words` has the addresses of code on its stack to which it may return, innermost first,
+    each with its file. Raises Unclear where it isn't in a call of a plain library of the system, or code is mapped that
+    is of no such library."""
+
+    def __init__(self, row: Row, thread: Row) -> None:
+        self.folder, self.exe = f"/proc/{row['living']}/task/{thread['tid']}", str(row["exe"])
+        before = self.moment()
+        pointer, place = (int(it, 16) for it in before[0].split()[7:9])
+        self.maps = [(int(first, 16), int(last, 16), ways, path)
+                     for first, last, ways, path in MAPPED_CODE.findall(whole(f"{self.folder}/maps"))]
+        self.code = [it for it in self.maps if "x" in it[2] and it[3] not in ("[vdso]", "[vsyscall]")]
+        libraries = [it[3] for it in self.code if it[3] != self.exe]
+        self.has_others = not all(map(OF_THE_SYSTEM.fullmatch, libraries))
+        self.is_main = thread["tid"] == row["pid"]
+        stack = next((it for it in self.maps if it[0] <= pointer < it[1]), (0, 0, "", ""))
+        self.memory = Memory(self.folder)
+        try:
+            self.words = self.words_of(pointer, stack[1] - pointer)
+            if not all(map(LIBRARY.fullmatch, libraries)) or self.path_at(place) == self.exe \
+                    or self.is_main != (stack[3] == "[stack]") or self.moment() != before:
+                raise Unclear
+        finally:
+            self.memory.close()
+
+    def moment(self) -> Tuple[str, str]:
+        """Returns the call of a thread that sleeps, with how often it has gone to sleep so far."""
+        call = slurp(f"{self.folder}/syscall")
+        if call.startswith(("running", "-1")):
+            raise Unclear
+        return call, field(slurp(f"{self.folder}/status"), "voluntary_ctxt_switches")
+
+    def path_at(self, address: int) -> str:
+        """Returns of which file the code at an address is, or nothing if there is none."""
+        path = next((it[3] for it in self.code if it[0] <= address < it[1]), "")
+        if path and path != self.exe and not OF_THE_SYSTEM.fullmatch(path):
+            raise Unclear
+        return path
+
+    def words_of(self, pointer: int, size: int) -> List[Tuple[str, int]]:
+        """Returns what on a stack may be addresses of code behind a call, each with its file. Raises Unclear where that
+        is a handler of a signal, and where there is no such stack."""
+        data = self.memory.read(pointer, size) if 0 < size <= STACK else b""
+        found = []
+        for word, in struct.iter_unpack("=Q", data[:len(data) // 8 * 8]):
+            path = self.path_at(word)
+            if path and self.memory.read(word, len(END_OF_HANDLER)) == END_OF_HANDLER:
+                raise Unclear
+            if path and BEHIND_CALL.search(self.memory.read(word - 7, 7)):
+                found.append((path, word))
+        if not data:
+            raise Unclear
+        return found
+
+    def base(self) -> int:
+        """Returns where the program begins in memory, if it isn't where its file says."""
+        with open(f"{self.folder}/exe", "rb") as file:
+            is_fixed = file.read(18)[16:18] == b"\2\0"
+        return 0 if is_fixed else min(it[0] for it in self.maps if it[3] == self.exe)
+
+
+def add_spares(rows: Sequence[Row]) -> None:
+    """Adds to each sleeping thread what waits its code can't end from now on. What can't be read soon is left out."""
+    found: Dict[Tuple[int, int], List[str]] = {}
+    if platform.machine() == "x86_64" and shutil.which("objdump"):
+        worker = threading.Thread(target=find_spares, args=(rows, found), daemon=True)
+        worker.start()
+        worker.join(2 * PATIENCE)
+    known = found.copy()
+    for row in rows:
+        for thread in row.get("threads", ()):
+            spares = known.get((row["pid"], thread["tid"]))
+            thread.update({"spares": spares} if spares else {})
+
+
+def find_spares(rows: Sequence[Row], found: Dict[Tuple[int, int], List[str]]) -> None:
+    programs: Dict[Tuple[int, int], Program] = {}
+    asleep = [(row, it) for row in rows if "living" in row for it in row["threads"] if it["state"] == "S"]
+    for row, thread in asleep:
+        with contextlib.suppress(OSError, Unclear, ValueError):
+            found[row["pid"], thread["tid"]] = spares_of(row, thread, programs)
+
+
+def spares_of(row: Row, thread: Row, programs: Dict[Tuple[int, int], Program]) -> List[str]:
+    """Returns what waits a thread can't end: those at files, at futexes, or both, by all calls of the code to which it
+    returns. Raises Unclear where that isn't known."""
+    standing, path = Standing(row, thread), f"/proc/{row['living']}/exe"
+    status = os.stat(path)
+    key = status.st_dev, status.st_ino
+    program = programs[key] if key in programs else programs.setdefault(key, Program(path, status.st_size))
+    reach, frames = Reach(program), frames_of(standing, program)
+    names = [program.function_at(it - 1)[2] for it in frames]
+    for address, name in zip(frames, names):
+        start, size, _ = program.function_at(address - 1)
+        call = program.call_before(address)
+        if call.startswith("*") and "<" not in call and RUNS.fullmatch(name) and address != frames[0]:
+            continue  # (that calls what the thread was started with, which is further in)
+        reach.follow([*reach.target(call), *([address] if address < start + size else [])])
+    reach.follow([it for it, name in zip(frames, names) if RUNS.fullmatch(name)])
+    ends = reach.returns.intersection(names)
+    if standing.is_main and (names[-1] != "main" or "main" in ends) or standing.has_others and ends:
+        return []
+    for run in filter(None, map(RUNS.fullmatch, ends)):
+        reach.follow([at for at, _, it in program.functions if it in (f"{run[1]}D0Ev", f"{run[1]}D2Ev")])
+    plain = {it for it in reach.calls if PLAIN.fullmatch(it)}
+    spares = ["futexes"] if all(map(OF_FILES.fullmatch, reach.calls - plain)) else []
+    return spares + (["files"] if all(map(OF_FUTEXES.fullmatch, reach.calls - plain)) else [])
+
+
+def frames_of(standing: Standing, program: Program) -> List[int]:
+    """Returns the addresses of a program to which a thread returns, the innermost first, up to main or what the thread
+    was started with. Raises Unclear where a library may have called the program besides."""
+    if not program.is_clear:
+        raise Unclear
+    base = standing.base()
+    own = [(word - base if path == standing.exe else 0, path) for path, word in standing.words]
+    steps = [(address, path) for address, path in own if not address or program.is_behind_call(address)]
+    ends = [at for at, (address, _) in enumerate(steps) if address and (
+        not standing.is_main or program.function_at(address - 1)[2] == "main")]
+    begin = next((at for at, (address, _) in enumerate(steps) if address), 0)
+    found = [address for address, _ in steps[begin:ends[-1] + 1]] if ends else []
+    if not found or 0 in found or not standing.is_main and not is_start(
+            program.function_at(found[-1] - 1)[2], [path for _, path in steps[ends[-1] + 1:]]):
+        raise Unclear
+    return found
+
+
+def is_start(name: str, paths: List[str]) -> bool:
+    """Whether libraries call a function as where a thread is started: two calls of the C library, and for one of C++ a
+    call of that before them."""
+    is_run = RUNS.fullmatch(name) is not None
+    of_cpp = [path for path in paths if "libstdc++" in path]
+    return len(of_cpp) == is_run and of_cpp == paths[:is_run] and len(paths) == OUTER + is_run
+
+
 # Both readings
 
 
@@ -987,15 +1282,10 @@ def collect(pids: Sequence[int], seconds: float = 5.0, stacks: bool = False) -> 
     for pid in pids:
         if pid not in readings[0].rows:
             raise LookupError(f"there is no process {pid}")
+    add_spares(readings[0].rows_of(kept_of(readings, pids)))  # (before the others, which show who was woken till then)
     time.sleep(seconds)
     readings.append(Reading())
-    kept: Set[int] = set()
-    left = [pid for reading in readings for pid in reading.tree(pids) | reading.carriers()]
-    while left:
-        pid = left.pop()
-        if pid > 0 and pid not in kept:
-            kept.add(pid)
-            left += [it for reading in readings for it in reading.around(pid)]
+    kept = kept_of(readings, pids)
     rows: List[Row] = [{"version": 1, "machine": platform.machine(), "release": platform.release(),
                         "asked": list(pids), "seconds": seconds, "outside": outside(), "space": space(),
                         "with_stacks": stacks}]
@@ -1004,6 +1294,18 @@ def collect(pids: Sequence[int], seconds: float = 5.0, stacks: bool = False) -> 
     rows += stacks_of(sorted(kept), readings[1]) if stacks else []
     rows.append({"end": "state"})
     return "".join(f"cmh-linux {json.dumps(row)}\n" for row in rows)
+
+
+def kept_of(readings: List[Reading], pids: Iterable[int]) -> Set[int]:
+    """Returns the processes of a state: some, with those below, and whoever may end the waits of these."""
+    kept: Set[int] = set()
+    left = [pid for reading in readings for pid in reading.tree(pids) | reading.carriers()]
+    while left:
+        pid = left.pop()
+        if pid > 0 and pid not in kept:
+            kept.add(pid)
+            left += [it for reading in readings for it in reading.around(pid)]
+    return kept
 
 
 def outside() -> str:

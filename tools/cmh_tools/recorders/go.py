@@ -40,7 +40,8 @@ READER, WRITER = "sync.RWMutex.RLock", "sync.RWMutex.Lock"
 NAMED = 3  # names in a reason
 MOST = 200  # more who have what one waits at in a frame tell nothing of it
 ENDERS = {
-    READER: "a writer ends this wait, which holds the lock or waits in Lock, and no reader; the state doesn't show which",
+    READER: "a writer ends this wait, which holds the lock or waits in Lock, and no reader; the state doesn't show "
+            "which",
     WRITER: "who holds the lock now ends this wait, and nobody who waits for it; the state doesn't show who that is"}
 ANOTHER = "another wait"  # beside the objects of one that has left its place between two states
 INTENT = "empty-select"
@@ -130,7 +131,7 @@ class GoRecorder(Recorder):
             return spoilt(name, goroutine.fault, site=SITE)
         place = moment.places[goroutine.number]
         process = self.wait_at(goroutine, place, name, moment)
-        needs_all = place.operation in NEEDS_ALL and place.operation != WRITER  # (all readers: also those that hold none)
+        needs_all = place.operation in NEEDS_ALL and place.operation != WRITER  # (of whose readers some hold no lock)
         process.site, process.proposal = SITE, "all" if needs_all else "any"
         self.guess_of(process, goroutine, place, moment)
         process.frames, process.operation = place.frames, process.operation or place.operation

@@ -24,12 +24,12 @@ from .linux_waits import (ACCEPTS, CONNECTS, ENDING, EPOLLS, FIFO, FILES, FOR_SI
                           KEYLESS, MEMORY, MOVES, OPENS, PIPE, QUEUE, QUEUES, READ, REMOTE, RESTS, SETS, SIGCHLD,
                           SIGINT, SLEEPS, SUSPENDS, TRAPS, UNTIMED, WRITE, Ends, choice_of, ends_of, ends_of_connect,
                           ends_of_ipc, ends_of_set, ends_of_signals, ends_of_wait, has_limit, int32, is_shell, note_of,
-                          only_sleeps, threads_of, timed_parents)
+                          only_sleeps, threads_of, timed_parents, without_sparing)
 
 SIGNALS_OF_KERNEL = {14: "SIGALRM", 29: "SIGIO"}  # which come unseen: an alarm, an event at a descriptor
 NO_FACT = ", and no fact on its place decides that"
 OWN_THREADS = ("erlang", "go", "jvm", "mpi")  # whose runtimes have threads that are none of the job's
-SIGNALS, OUTSIDE, ABOVE, MADE = "signals", "outside", "above", "made"
+SIGNALS, OUTSIDE, ABOVE, MADE, CODE = "signals", "outside", "above", "made", "code"
 UNREADABLE = "unreadable"  # the frame of a process that can't be read, by which facts decide it
 # Where the kernel holds a thread, whatever its call: of a group that is frozen in get_signal.
 ELSEWHERE = re.compile(r"freez|refrigerator|seccomp|userfault|get_signal")
@@ -46,6 +46,15 @@ class Computer(Moment):
     unread: List[List[Owner]]
     names: List[str]
     branches: Branches
+
+
+def keep_spares(machines: List[Machine]) -> None:
+    """Lets what the code of a thread can't do count in later readings too: it can't from then on."""
+    known = {(owner.pid, owner.row.get("start"), it.tid): it.row["spares"] for machine in machines[:1]
+             for owner in machine.owners for it in owner.threads if "spares" in it.row}
+    for owner in (it for machine in machines[1:] for it in machine.owners):
+        for thread in owner.threads:
+            thread.row["spares"] = known.get((owner.pid, owner.row.get("start"), thread.tid), [])
 
 
 def signal_of(thread: Thread, moment: Computer) -> str:
@@ -97,6 +106,8 @@ class LinuxRecorder(Recorder):
         RESTS: Premise("the program `sleep` only sleeps: it neither reads, writes nor unlocks what it has inherited"),
         UNTIMED: Premise("a socket has no limit of its own (SO_RCVTIMEO, SO_SNDTIMEO, TCP_USER_TIMEOUT)"),
         REMOTE: Premise("who is outside of this machine, or may still connect, goes on by itself"),
+        CODE: Premise("a thread that sleeps comes to no code but what its stack leads to, and no call of the C library "
+                      "there does more than its name says, or fails"),
         STACK: Premise("what a stack shows right after both readings was so in them"),
     }
 
@@ -126,6 +137,7 @@ class LinuxRecorder(Recorder):
             raise Refusal(f"{shown(paths[1])}: one state of Linux is expected, which has both readings, and "
                           f"{shown(paths[0])} is one")
         call_threads([reading.rows[0] for reading in readings])
+        keep_spares([reading.rows[0] for reading in readings])
         for reading in readings:
             add_stacks(reading.rows[0], self.stacks)
         unread = list({it.pid: it for reading in readings for it in reading.rows[0].owners if it.why}.values())
@@ -211,6 +223,9 @@ class LinuxRecorder(Recorder):
         because += [SYSTEM, premise(SIGNALS), premise(ABOVE)]
         because += [premise(OUTSIDE)] if self.outside == "container" and not ends.is_exact else []
         strangers = [] if ends.is_exact else self.strangers(thread, moment)
+        left = without_sparing(ends.whom, thread)
+        if left and len(left) < len(ends.whom) and not (ends.needs_all or ends.choice):
+            ends.whom, because = left, [*because, premise(CODE)]
         because += [premise(MADE)] if len(strangers) < len(self.unread) and not ends.is_exact else []
         whom, more["besides"] = self.whom_of(thread, moment, ends, strangers)
         if ends.choice:
@@ -225,12 +240,14 @@ class LinuxRecorder(Recorder):
         """
         if ends.bound is None or signal_of(thread, moment) or timer_above(thread, moment):
             return {}
+        left = without_sparing(ends.bound, thread)
         strangers = [] if ends.is_exact else self.strangers(thread, moment)
         more = [] if ends.is_exact else [*ends.premises, *([OUTSIDE] if self.outside == "container" else []),
                                          *([MADE] if len(strangers) < len(self.unread) else [])]
         others = timed_parents(moment.machine, thread.owner)
         others += [] if ends.is_exact else threads_of(moment.machine.carriers, thread, False)
-        whom = [*(it.name for it in [*ends.bound, *others]), *strangers]
+        more += [CODE] if len(left) < len(ends.bound) else []
+        whom = [*(it.name for it in [*left, *others]), *strangers]
         return {"bound": list(dict.fromkeys(whom)), "bound_by": list(map(premise, [SIGNALS, ABOVE, *more]))}
 
     def strangers(self, thread: Thread, moment: Computer) -> List[str]:

@@ -19,14 +19,20 @@ READS, WRITES = 1, 4  # the events of poll for what can be read and what can be 
 CARRIES, RING = "scm_fds:", "UserFiles:"  # a socket with descriptors on their way, an io_uring that keeps files
 SIGMASK = "sigmask:"  # which signals a descriptor of them takes
 NO_KEYS = ("lock:", CARRIES, RING, SIGMASK)  # what of a descriptor doesn't tell its file from others
+# Calls that wait at what only others' calls at files, or of System V, change.
+OF_FILES = ("read", "readv", "recvfrom", "recvmsg", "recvmmsg", "write", "writev", "sendto", "sendmsg", "sendmmsg",
+            "poll", "ppoll", "select", "pselect6", "epoll_wait", "epoll_pwait", "epoll_pwait2", "mq_timedsend",
+            "mq_timedreceive")
+OF_IPC = ("semop", "semtimedop", "msgsnd", "msgrcv")
 OPEN = "open "  # how the name of an open file begins, which several descriptors may share
+TID = 0x3FFFFFFF  # the number of a thread in the word of a lock, or of a join
 ENDED = "ZX"  # the states of those that have ended
 NUMBER, NUMBERED = re.compile(r"\d+"), re.compile(r"(.* )?\d+")  # within the name of a thread, and at its end
 HEX = re.compile(r"(0x)?[0-9a-f]{1,16}")
 THREAD = {"tid": int, "state": str, "inner?": int, "comm?": str, "call?": str, "args?": [HEX] * 6,
           "counts?": [int, int], "set?": [[int]], "words?": re.compile("([0-9a-f]{2})*"), "range?": [int] * 4,
           "path?": str, "wchan?": str, "memory?": str, "mask?": HEX, "key?": int, "users?": [int],
-          "changed?": int}
+          "changed?": int, "spares?": [str]}
 OWNER = {"pid": int, "ppid?": int, "comm": str, "group?": int, "session?": int,
          "exe?": str, "TracerPid?": re.compile(r"\d{1,9}"), "SigCgt?": HEX,
          "fds?": {str: [str]}, "threads?": [THREAD], "kin?": [int], "traps?": bool, "collects?": bool}
@@ -80,8 +86,8 @@ class Owner:
 
 @dataclass(eq=False)
 class Thread:
-    """A thread, as one reading shows it. `stack` has its frames, where they were asked for. `called` is what it is called
-    within its process, and `kin` the same for all whose names differ by a number alone."""
+    """A thread, as one reading shows it. `stack` has its frames, where they were asked for. `called` is what it is
+    called within its process, and `kin` the same for all whose names differ by a number alone."""
 
     owner: Owner
     row: Row
@@ -107,6 +113,16 @@ class Thread:
     @property
     def name(self) -> str:
         return self.owner.name if self.tid == self.owner.pid else f"{self.owner.name}/{self.called or self.tid}"
+
+    def spares(self, thread: "Thread") -> bool:
+        """Whether its code comes to nothing that could end the wait of another thread: at a futex, at a file, or for
+        the end of its process. Its own end may do that at a futex which has its number, as that of a join."""
+        kinds = self.row.get("spares", ())
+        if thread.call == "futex":
+            return "futexes" in kinds and self.inner not in (thread.arguments[2] & TID, thread.word(0) & TID)
+        if thread.call in ("wait4", "waitid"):
+            return bool(kinds)
+        return "files" in kinds and (thread.call in OF_FILES or "futexes" in kinds and thread.call in OF_IPC)
 
     @property
     def is_addressed(self) -> bool:

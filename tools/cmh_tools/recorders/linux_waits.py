@@ -115,6 +115,14 @@ def with_rest(premises: List[str], owners: List[Owner]) -> List[str]:
     return [*premises, RESTS] if len(able(owners)) < len(owners) else [*premises]
 
 
+def without_sparing(found: List[Thread], thread: Thread) -> List[Thread]:
+    """Returns those of some threads who could end the wait of a thread by their code. One that is alone in its process
+    could end this too, and so let go of what it has."""
+    staying = {id(it.owner) for it in found if thread.call == "futex"}
+    staying.update(id(it.owner) for it in found if any(not other.spares(thread) for other in it.owner.living))
+    return [it for it in found if id(it.owner) not in staying or not it.spares(thread)]
+
+
 # Descriptors
 
 

@@ -576,6 +576,8 @@ def main():
     if pid == 0:
         if story.startswith("cpp_"):
             os.execv("./stalls", ["stalls", story[4:], "slow" if is_slow else "stuck"])
+        if story.startswith("tick_"):
+            os.execv("./ticks", ["ticks", story[5:], "slow" if is_slow else "stuck"])
         if story.startswith("most_"):
             os.setsid()
             os.execv("./bounds", ["bounds", story[5:], "slow" if is_slow else "stuck"])
