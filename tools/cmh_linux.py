@@ -87,6 +87,7 @@ AT_FIRST = ("read", "write", "pread64", "pwrite64", "readv", "writev", "preadv",
 QUEUES = ("mq_timedsend", "mq_timedreceive")
 PAIRS = {"sendfile": (1, 0), "splice": (0, 2), "tee": (0, 1)}  # which arguments are descriptors: from, to
 EPOLLS = ("epoll_wait", "epoll_pwait", "epoll_pwait2")
+SLEEPS = ("nanosleep", "clock_nanosleep")
 
 
 def calls_of(machine: str) -> Dict[int, str]:
@@ -814,15 +815,16 @@ class Reading:
         """Returns the processes that may have a file which no descriptor shows: on its way, or used by an io_uring."""
         return {row["pid"] for row in self.rows.values() if any(map(may_carry, row.get("fds", {}).values()))}
 
-    def around(self, pid: int) -> Set[int]:
-        """Returns the processes that may end a wait of one: that have another end of it, or are its children."""
+    def around(self, pid: int, is_near: bool = False) -> Set[int]:
+        """Returns the processes that may end a wait of one: that have another end of it, or are its children, and those
+        that may use what has no key, unless only the near ones are asked for."""
         row = self.rows.get(pid)
         if row is None:
             return set()
         found = self.children.get(pid, set()) | {int(row.get("TracerPid", "0")), *row.get("kin", ())}
         for thread in row.get("threads", ()):
             found = found | self.threads.get(owner_of(thread), set())
-            if thread.get("key") == NO_KEY:
+            if thread.get("key") == NO_KEY and not is_near:
                 tops = {self.top(it) for it in [row, *self.rows_of(thread["users"])]}
                 found = found | self.tree(tops.union(*map(self.later_branches, tops)))
             for key in self.keys_of_wait(row, thread):
@@ -1142,7 +1144,8 @@ class Standing:
     def __init__(self, row: Row, thread: Row) -> None:
         self.folder, self.exe = f"/proc/{row['living']}/task/{thread['tid']}", str(row["exe"])
         before = self.moment()
-        pointer, place = (int(it, 16) for it in before[0].split()[7:9])
+        number, *_, pointer, place = (int(it, 0) for it in before[0].split()[:9])
+        self.is_asleep = calls_of(platform.machine()).get(number, "") in SLEEPS
         self.maps = [(int(first, 16), int(last, 16), ways, path)
                      for first, last, ways, path in MAPPED_CODE.findall(whole(f"{self.folder}/maps"))]
         self.code = [it for it in self.maps if "x" in it[2] and it[3] not in ("[vdso]", "[vsyscall]")]
@@ -1206,7 +1209,7 @@ def add_spares(rows: Sequence[Row]) -> None:
     for row in rows:
         for thread in row.get("threads", ()):
             spares = known.get((row["pid"], thread["tid"]))
-            thread.update({"spares": spares} if spares else {})
+            thread.update({"spares": spares} if spares is not None else {})
 
 
 def find_spares(rows: Sequence[Row], found: Dict[Tuple[int, int], List[str]]) -> None:
@@ -1226,18 +1229,18 @@ def spares_of(row: Row, thread: Row, programs: Dict[Tuple[int, int], Program]) -
     program = programs[key] if key in programs else programs.setdefault(key, Program(path, status.st_size))
     reach, frames = Reach(program), frames_of(standing, program)
     names = [program.function_at(it - 1)[2] for it in frames]
-    for address, name in zip(frames, names):
+    for address in frames:
         start, size, _ = program.function_at(address - 1)
         call = program.call_before(address)
-        if call.startswith("*") and "<" not in call and RUNS.fullmatch(name) and address != frames[0]:
-            continue  # (that calls what the thread was started with, which is further in)
-        reach.follow([*reach.target(call), *([address] if address < start + size else [])])
-    reach.follow([it for it, name in zip(frames, names) if RUNS.fullmatch(name)])
+        is_inside = standing.is_asleep and address != frames[0] and "@" not in call
+        called = [] if is_inside else reach.target(call)  # (what was called is further in on the stack)
+        reach.follow([*called, *([address] if address < start + size else [])])
     ends = reach.returns.intersection(names)
     if standing.is_main and (names[-1] != "main" or "main" in ends) or standing.has_others and ends:
-        return []
-    for run in filter(None, map(RUNS.fullmatch, ends)):
-        reach.follow([at for at, _, it in program.functions if it in (f"{run[1]}D0Ev", f"{run[1]}D2Ev")])
+        raise Unclear
+    run = RUNS.fullmatch(names[-1])  # (what a thread of C++ was started with is destroyed at its end)
+    wanted = re.compile(re.escape(run[1]) + "D[02]Ev" if run else r"_ZNSt6thread11_State_impl.*D[02]Ev")
+    reach.follow([at for at, _, it in program.functions if ends and wanted.fullmatch(it)])
     plain = {it for it in reach.calls if PLAIN.fullmatch(it)}
     spares = ["futexes"] if all(map(OF_FILES.fullmatch, reach.calls - plain)) else []
     return spares + (["files"] if all(map(OF_FUTEXES.fullmatch, reach.calls - plain)) else [])
@@ -1264,9 +1267,9 @@ def frames_of(standing: Standing, program: Program) -> List[int]:
 def is_start(name: str, paths: List[str]) -> bool:
     """Whether libraries call a function as where a thread is started: two calls of the C library, and for one of C++ a
     call of that before them."""
-    is_run = RUNS.fullmatch(name) is not None
-    of_cpp = [path for path in paths if "libstdc++" in path]
-    return len(of_cpp) == is_run and of_cpp == paths[:is_run] and len(paths) == OUTER + is_run
+    of_cpp = len([path for path in paths if "libstdc++" in path])
+    is_known = of_cpp == 1 if RUNS.fullmatch(name) else of_cpp <= 1
+    return is_known and all("libstdc++" in path for path in paths[:of_cpp]) and len(paths) == OUTER + of_cpp
 
 
 # Both readings
@@ -1282,7 +1285,8 @@ def collect(pids: Sequence[int], seconds: float = 5.0, stacks: bool = False) -> 
     for pid in pids:
         if pid not in readings[0].rows:
             raise LookupError(f"there is no process {pid}")
-    add_spares(readings[0].rows_of(kept_of(readings, pids)))  # (before the others, which show who was woken till then)
+    # (Before the others are read, which show who was woken till then.)
+    add_spares(readings[0].rows_of(kept_of(readings, pids, True)))
     time.sleep(seconds)
     readings.append(Reading())
     kept = kept_of(readings, pids)
@@ -1291,20 +1295,21 @@ def collect(pids: Sequence[int], seconds: float = 5.0, stacks: bool = False) -> 
                         "with_stacks": stacks}]
     for number, reading in enumerate(readings, 1):
         rows += reading.text(number, kept)
-    rows += stacks_of(sorted(kept), readings[1]) if stacks else []
+    rows += stacks_of(sorted(kept_of(readings, pids, True)), readings[1]) if stacks else []
     rows.append({"end": "state"})
     return "".join(f"cmh-linux {json.dumps(row)}\n" for row in rows)
 
 
-def kept_of(readings: List[Reading], pids: Iterable[int]) -> Set[int]:
-    """Returns the processes of a state: some, with those below, and whoever may end the waits of these."""
+def kept_of(readings: List[Reading], pids: Iterable[int], is_near: bool = False) -> Set[int]:
+    """Returns the processes of a state: some, with those below, and whoever may end the waits of these. The near ones
+    are without those that may be strangers to them, which have nothing in common but where they descend from."""
     kept: Set[int] = set()
-    left = [pid for reading in readings for pid in reading.tree(pids) | reading.carriers()]
+    left = [pid for reading in readings for pid in reading.tree(pids) | (set() if is_near else reading.carriers())]
     while left:
         pid = left.pop()
         if pid > 0 and pid not in kept:
             kept.add(pid)
-            left += [it for reading in readings for it in reading.around(pid)]
+            left += [it for reading in readings for it in reading.around(pid, is_near)]
     return kept
 
 

@@ -54,7 +54,8 @@ def keep_spares(machines: List[Machine]) -> None:
              for owner in machine.owners for it in owner.threads if "spares" in it.row}
     for owner in (it for machine in machines[1:] for it in machine.owners):
         for thread in owner.threads:
-            thread.row["spares"] = known.get((owner.pid, owner.row.get("start"), thread.tid), [])
+            kinds = known.get((owner.pid, owner.row.get("start"), thread.tid))
+            thread.row.update({"spares": kinds} if kinds is not None else {})
 
 
 def signal_of(thread: Thread, moment: Computer) -> str:
@@ -197,6 +198,7 @@ class LinuxRecorder(Recorder):
             more["operation"], more["note"] = f"timed {thread.call}", whole_note(thread, ends)
             why = "it sleeps" if thread.call in SLEEPS else "it waits with a limit"
             is_main = thread.tid == thread.owner.pid and thread.call in SLEEPS and len(thread.owner.threads) > 1
+            is_main = is_main and thread.row.get("spares") != []  # (whose code is known, and may end waits)
             proposal = "nobody" if only_sleeps(thread.owner) else "frees" if is_main else "any"
             return runs(thread.name, why, [premise(LIMIT)], **more, proposal=proposal)
         return self.decided(thread, moment, ends, more)

@@ -112,6 +112,20 @@ static void clock_ends() {
     worker.join();
 }
 
+// Two workers wait for a round that the main thread opens after a while.
+static void opens() {
+    auto work = [] {
+        std::unique_lock<std::mutex> held(lock);
+        turn.wait(held);
+    };
+    std::thread one(work), two(work);
+    sleep(600);
+    turn.notify_all();
+    one.join();
+    two.join();
+    for (;;) pause();
+}
+
 // The ways: what each one can never end stands before it.
 
 // futexes files
@@ -239,6 +253,7 @@ int main(int, char **words) {
     if (name == "sides") sides();
     if (name == "gang") gang();
     if (name == "clock") clock_ends();
+    if (name == "opens") opens();
     if (name == "ways") ways();
-    sleep(600);
+    for (;;) sleep(600);
 }
