@@ -1007,6 +1007,7 @@ MOVES_STACK = re.compile(r".*,%(rsp|esp|sp)|%(rsp|esp|sp)")
 MAPPED_CODE = re.compile(r"^([0-9a-f]+)-([0-9a-f]+) (....) [0-9a-f]+ \S+ \d+ *(.*)$", re.M)
 BEHIND_CALL = re.compile(rb"\xe8.{4}$|\xff[\x10-\x1f\xd0-\xdf\x50-\x5f\x90-\x9f].{0,5}$", re.S)  # the bytes of a call
 LARGE, STACK, FUNCTIONS = 1 << 26, 1 << 18, 300  # bytes of a program and of a stack, and functions, that are looked at
+AT_ENTRY = 9  # in what the kernel has told a program: where that begins
 OUTER = 2  # calls of the C library that lead to what a thread was started with
 
 
@@ -1192,10 +1193,13 @@ class Standing:
         return found
 
     def base(self) -> int:
-        """Returns where the program begins in memory, if it isn't where its file says."""
-        with open(f"{self.folder}/exe", "rb") as file:
-            is_fixed = file.read(18)[16:18] == b"\2\0"
-        return 0 if is_fixed else min(it[0] for it in self.maps if it[3] == self.exe)
+        """Returns how far the program is in memory from where its file says, by where both say that it begins."""
+        with open(f"{self.folder}/exe", "rb") as program, open(f"{self.folder}/auxv", "rb") as file:
+            begin, = struct.unpack_from("=Q", program.read(32), 24)
+            values = dict(struct.iter_unpack("=QQ", file.read()))
+        if AT_ENTRY not in values:
+            raise Unclear
+        return int(values[AT_ENTRY]) - int(begin)
 
 
 def add_spares(rows: Sequence[Row]) -> None:
@@ -1213,9 +1217,13 @@ def add_spares(rows: Sequence[Row]) -> None:
 
 
 def find_spares(rows: Sequence[Row], found: Dict[Tuple[int, int], List[str]]) -> None:
+    """Finds what the threads of some processes can't end, as long as there is time."""
     programs: Dict[Tuple[int, int], Program] = {}
     asleep = [(row, it) for row in rows if "living" in row for it in row["threads"] if it["state"] == "S"]
+    last = time.monotonic() + 2 * PATIENCE
     for row, thread in asleep:
+        if time.monotonic() > last:
+            return
         with contextlib.suppress(OSError, Unclear, ValueError):
             found[row["pid"], thread["tid"]] = spares_of(row, thread, programs)
 

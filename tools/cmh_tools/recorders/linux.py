@@ -225,8 +225,10 @@ class LinuxRecorder(Recorder):
         because += [SYSTEM, premise(SIGNALS), premise(ABOVE)]
         because += [premise(OUTSIDE)] if self.outside == "container" and not ends.is_exact else []
         strangers = [] if ends.is_exact else self.strangers(thread, moment)
-        left = without_sparing(ends.whom, thread)
-        if left and len(left) < len(ends.whom) and not (ends.needs_all or ends.choice):
+        is_plain = not (ends.needs_all or ends.choice or ends.operation)
+        is_plain = is_plain and (not ends.is_exact or thread.call in ("wait4", "waitid"))
+        left = without_sparing(ends.whom, thread) if is_plain else ends.whom
+        if left and len(left) < len(ends.whom):
             ends.whom, because = left, [*because, premise(CODE)]
         because += [premise(MADE)] if len(strangers) < len(self.unread) and not ends.is_exact else []
         whom, more["besides"] = self.whom_of(thread, moment, ends, strangers)

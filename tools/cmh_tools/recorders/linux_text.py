@@ -121,7 +121,7 @@ class Thread:
         if thread.call == "futex":
             return "futexes" in kinds and self.inner not in (thread.arguments[2] & TID, thread.word(0) & TID)
         if thread.call in ("wait4", "waitid"):
-            return bool(kinds)
+            return bool(kinds) and not self.owner.tracer  # (who traces it sees each call)
         return "files" in kinds and (thread.call in OF_FILES or "futexes" in kinds and thread.call in OF_IPC)
 
     @property
