@@ -1196,10 +1196,10 @@ class Standing:
         """Returns how far the program is in memory from where its file says, by where both say that it begins."""
         with open(f"{self.folder}/exe", "rb") as program, open(f"{self.folder}/auxv", "rb") as file:
             begin, = struct.unpack_from("=Q", program.read(32), 24)
-            values = dict(struct.iter_unpack("=QQ", file.read()))
-        if AT_ENTRY not in values:
+            places = [int(value) for key, value in struct.iter_unpack("=QQ", file.read()) if key == AT_ENTRY]
+        if not places:
             raise Unclear
-        return int(values[AT_ENTRY]) - int(begin)
+        return places[0] - int(begin)
 
 
 def add_spares(rows: Sequence[Row]) -> None:
