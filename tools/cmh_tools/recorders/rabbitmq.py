@@ -16,8 +16,8 @@ from typing import Any, Dict, List, Optional, Set, Tuple
 
 from ..files import Refusal, shown
 from ..moments import APART, Reading
-from ..sketch import (COMPLETE, LIMIT, RUNS, SYSTEM, UNKNOWN, Process, Sketch, premise, quote, read_json, runs, spoilt,
-                      unknown, waits_for_any)
+from ..sketch import (COMPLETE, LIMIT, RUNS, SYSTEM, Process, Sketch, premise, quote, read_json, runs, spoilt, unknown,
+                      waits_for_any)
 from . import State
 from .base import Moment, Premise, Recorder, fits, misfits
 from .rabbitmq_bounds import SENTENCES, Server, add_bound

@@ -1,7 +1,7 @@
 #!/usr/bin/env python3
 """Services of shops that stall, and their slow twins, by the package python3-pika. Each is a process of its own.
 
-Usage: shops.py NAME. It prints `ready` once all have done what they can.
+Usage: clerks.py NAME. It prints `ready` once all have done what they can.
 
 `settled`: a coordinator has as many orders as it may, and waits for the event by which each payment is settled. That has
 a key by which no queue is bound. A monitor tells a dashboard that it lives.
