@@ -114,7 +114,7 @@ def feed(sketch: Sketch, facts: Facts, spared: Dict[str, Fact]) -> None:
     for _ in range(FED):
         inside = stuck_names(sketch)
         some = [it for it in sketch.processes if it.kind == UNKNOWN and it.name in spared] if inside else []
-        hungry = [it for it in some if it.is_fed or waits_for_others(it, inside)]
+        hungry = [it for it in some if waits_for_others(it, inside)]
         lines = [(f"{place_words(*place)} -> any {OTHERS}", names) for place, names in places_of(hungry).items()]
         lines += [(fed_by(it), [it.name]) for it in some if it not in hungry and is_fed_by(it, sketch, inside)]
         if not lines:

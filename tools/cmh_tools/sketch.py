@@ -88,9 +88,8 @@ class Process:
     read, if not as others of its system. `is_spoilt` says that no fact on its place decides it, as where its text in a
     state isn't understood. `thread` is the thread of the kernel that it is all the time, as PID/TID. `choice` says of
     one that waits for one of its list, or for all of it, why that isn't known, and who may end its wait besides.
-    `is_fed` says of one that waits for its next message that this is likely to come from those who are there, and
-    `may_rest` of a wait that those stand at too who have nothing to do, or of one who only ticks. `is_likely` says of
-    one that stands for others that these are likely to be there.
+    `may_rest` says of a wait that those stand at too who have nothing to do, or of one who only ticks. `is_likely` says
+    of one that stands for others that these are likely to be there.
     `scope` is the beginning of the names of those who alone can end its wait, if that is known, as of the threads of
     one process of the system: what stands before the '/'. `bound` has of one that is unknown all who may end its wait,
     by the premises `bound_by`, though some of them may not: it is stuck if all of these are. It is None where anybody
@@ -128,7 +127,6 @@ class Process:
     bound: Optional[List[str]] = None
     bound_by: List[str] = field(default_factory=list)
     choice: Optional[Tuple[str, List[str]]] = None
-    is_fed: bool = False
     may_rest: bool = False
     is_likely: bool = False
     at_rest: bool = False

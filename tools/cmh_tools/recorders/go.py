@@ -147,13 +147,12 @@ class GoRecorder(Recorder):
         return process
 
     def guess_of(self, process: Process, goroutine: Goroutine, place: Place, moment: Goroutines) -> None:
-        """Says what is likely of one whose wait no text shows, or who runs: whether it is fed by others, goes on by the
-        outside, or frees nobody."""
+        """Says what is likely of one whose wait no text shows, or who runs: whether it goes on by the outside, may have
+        nothing to do, or frees nobody."""
         is_sleeping_main = goroutine.number == MAIN and process.operation == "timed sleep"
         is_lone = is_sleeping_main or any(it.function == TAKER for it in goroutine.frames)
         if process.kind == UNKNOWN:
             process.proposal = moment.likely.proposal(goroutine, place) or process.proposal
-            process.is_fed = moment.likely.is_fed(goroutine, place)
             process.may_rest = may_rest(goroutine, place)
         elif is_lone:
             process.proposal = "frees"

@@ -7,10 +7,9 @@ from typing import DefaultDict, List, Pattern, Set
 
 from .go_frames import NEEDS_ALL, Place, is_own
 from .go_starters import MAIN
-from .go_text import TAKER, Goroutine
+from .go_text import Goroutine
 
-# Words of functions that go on by a timer or a signal, and free nobody, and how words begin of those that take from a
-# channel what others there give.
+# Words of functions that go on by a timer or a signal, and free nobody.
 TIMED = re.compile(
     "heart|(?:heart)?beats?|tick(?:s|er|ing)?|pulse|metrics?|stats|statistics|telemetry|report(?:s|er|ing)?|uptime|cron"
     "|monitor(?:s|ing)?|watchdog|janitor|sweep(?:s|er)?|reap(?:s|er)?|evict(?:s|or|ion)?|clean(?:s|er|up)?|health|alive"
@@ -18,22 +17,17 @@ TIMED = re.compile(
     "|signals?|sighup|ping(?:s|er)?|keepalive|probes?")
 # Names of methods that say nothing: those of their types count too.
 PLAIN = re.compile("run|loop|start|serve|work|main|go|do|background|daemon|forever")
-TAKES = re.compile(
-    "(?:consum|collect|receiv|recv|drain|work|process|handl|sink|aggregat|merg|join|a?wait|pump|dispatch|deliver|writ"
-    "|print|read|client|customer|subscri|listen|watch|ship|pick|pack|stor|sav|persist|index|pars|transform|encod|decod"
-    "|send|notif|mail|publish|upload|download|fetch|assembl|bill|sort|render)[a-z]*")
 CALLS = re.compile("(?:call|ask|request|quer|invok|rpc|exchang|lookup)[a-z]*")
-SHALLOW = 2  # frames of one that takes its next job
 WORD = re.compile(r"[A-Z]+(?![a-z])|[A-Z]?[a-z]+")
 CLOSURE = re.compile(r"func\d+|\d+|gowrap\d+")
 SLEEP, SHORT = "time.Sleep", 60 * 10 ** 9  # nanoseconds: a heartbeat sleeps no longer
 BY_TIMERS = ("chan receive", "select", "sleep")
 RESTS = ("chan receive", "select", "sync.Cond.Wait", "sync.WaitGroup.Wait")  # waits of those with nothing to do
 BY_SYSTEM = ("IO wait", "syscall")
-READS, SHALLOW = "internal/poll.(*FD).Read", 2  # of a socket, and frames down to where one reads its next message
+READS = "internal/poll.(*FD).Read"  # of a socket
+SHALLOW = 2  # frames down to where one takes its next job or message
 ASKS = "net/http.(*persistConn).roundTrip"  # who has asked a server, and waits for its answer
 BLOCKED = ("chan send", "semacquire", "sync.Mutex.Lock", "sync.RWMutex.Lock", "sync.RWMutex.RLock")
-ACCEPTS = ("net.(*TCPListener).Accept", "net.(*UnixListener).Accept")
 SIGNALS, SERVES = "os/signal.signal_recv", ("net/http.(*conn).serve", "google.golang.org/grpc.(*Server).handleStream")
 
 
@@ -42,13 +36,11 @@ class Likely:
     it, and `minutes` is how long somebody has waited who isn't at its next message."""
 
     def __init__(self, goroutines: List[Goroutine]) -> None:
-        self.rows, self.has_signals, self.has_handlers = goroutines, False, False
+        self.rows, self.has_signals = goroutines, False
         self.minutes = max((it.minutes for it in goroutines if it.state in BLOCKED and it.number != MAIN), default=0)
         self.standing: DefaultDict[str, Set[str]] = defaultdict(set)
         for it in goroutines:
             functions = {frame.function for frame in it.frames}
-            is_server = it.number == MAIN and not functions.isdisjoint(ACCEPTS)
-            self.has_handlers = self.has_handlers or is_server or is_handler(it) and TAKER not in functions
             self.has_signals = self.has_signals or SIGNALS in functions
             for function in functions:
                 self.standing[function].add(it.number)
@@ -76,19 +68,6 @@ class Likely:
         """Whether it is main that waits for a signal, as a service does that ends by one."""
         return goroutine.number == MAIN and goroutine.state in BY_TIMERS[:2] and self.has_signals \
             and len(place.frames) == 1
-
-    def is_fed(self, goroutine: Goroutine, place: Place) -> bool:
-        """Whether one that waits for its next message is likely to get it from those that are there: main, one that
-        answers a request, one whose creator's function others stand in, or one that was given what it waits at, where
-        no requests from outside are served."""
-        if goroutine.state != "chan receive" or self.is_timed(goroutine) or self.is_at_signals(goroutine, place):
-            return False
-        if goroutine.number == MAIN or is_handler(goroutine):
-            return True
-        by_creator = self.standing[goroutine.created_by] - {MAIN, goroutine.number}
-        last = next((it for it in reversed(goroutine.frames) if is_own(it)), goroutine.creator)
-        is_given = last.arguments != "" or has_word(place.function, TAKES)
-        return bool(by_creator) or is_given and not self.has_handlers
 
     def is_named_timed(self, goroutine: Goroutine) -> bool:
         """Whether the function that a goroutine was started with is called as one that only wakes now and then."""
