@@ -1370,7 +1370,7 @@ def is_library_module(name):
     if path is None:
         spec = attributes_of(module).get("__spec__")
         return name in sys.builtin_module_names or name.startswith("typing.") or getattr(spec, "origin", "") == "frozen"
-    return name != "__main__" and (is_standard(str(path)) or path == __file__ or name == "cmh_quiet")
+    return name != "__main__" and (is_standard(str(path)) or path == __file__ or name.split(".")[0] == "cmh_quiet")
 
 
 def wrapped_in(value):

@@ -1,0 +1,204 @@
+"""The steps of a code, and what each may come to."""
+import builtins
+import contextlib
+import sys
+import threading
+import types
+
+from .calls import Calls
+from .library import KEEPERS, OF_FILES, OF_NETS, PLAIN_BLOCKS, WAITED_AT
+from .steps import BLOCKS, CALLS, CHECKS, STORING, given_to, is_in_for, method_of_call, steps_of, way_ahead
+from .values import (DYNAMIC, OF_BLOCKS, SUSPENDED, SUSPENDING, NotKnown, Own, full_name, is_in_table, kept_by,
+                     may_keep, require, step_into)
+
+MOST = 400  # functions that are looked at for one thread or task
+BY_OBJECTS = {"has_no_iterators", "has_no_factories"}  # what rests on objects that are looked at
+# Steps that aren't followed: what they run isn't named in the code.
+REFUSED = {"LOAD_BUILD_CLASS", "MATCH_KEYS", "IMPORT_STAR", "LOAD_FROM_DICT_OR_GLOBALS"}
+TOUCHES = {"FOR_ITER", "UNPACK_SEQUENCE", "UNPACK_EX", "LIST_EXTEND", "SET_UPDATE", "DICT_UPDATE", "DICT_MERGE",
+           "CONTAINS_OP", "GET_YIELD_FROM_ITER", "CALL_FUNCTION_EX", "DELETE_SUBSCR", "DELETE_ATTR",
+           "STORE_SUBSCR", "STORE_ATTR", "STORE_GLOBAL", "DELETE_GLOBAL", "STORE_NAME", "DELETE_NAME", "STORE_DEREF",
+           "DELETE_DEREF", "DELETE_FAST", "GET_AITER", "GET_ANEXT", "MATCH_CLASS"}
+
+
+class Reading(Calls):
+    """What is read of codes: all steps of a function that is called, and those ahead of one that is on a stack."""
+
+    def run(self):
+        """Looks at all, with what lies somewhere and is iterated, and with what makes what tables lack."""
+        self.read_all()
+        while self.flags & BY_OBJECTS - self.taken:
+            name = (self.flags & BY_OBJECTS - self.taken).pop()
+            self.taken.add(name)
+            self.take_lying() if name == "has_no_iterators" else self.take_factories()
+            self.read_all()
+        require(not (self.is_limited and self.is_sharing))  # (a limit cancels what is awaited)
+        self.program.check(self.flags - BY_OBJECTS)
+
+    def read_all(self):
+        while self.todo:
+            code, names, places, ahead = self.todo.pop()
+            key = code, ahead is None, tuple(sorted((name, id(value)) for name, value in places.items()))
+            if key not in self.seen:
+                self.seen.add(key)
+                self.ahead, self.given = ahead, given_to(code)
+                require(len(self.seen) <= MOST)
+                self.read(code, names, dict(places), ahead)
+
+    def take_lying(self):
+        require(self.program.lying is not None)
+        for value in self.program.lying:
+            self.resume(value)
+
+    def take_factories(self):
+        for value in self.program.factories:
+            self.make(value) if isinstance(value, type) else self.call_known(value)
+
+    def read(self, code, names, places, ahead):
+        """Looks at the steps of a code, or some of them. `names` are its globals, `places` what its variables stand
+        for, if that is known."""
+        steps, self.constants = steps_of(code), code.co_consts
+        if code in self.program.makers:
+            places = {code.co_varnames[0]: Own(self.program.makers[code]), **places}
+        for at in range(len(steps)) if ahead is None else ahead:
+            step = steps[at]
+            require(step.opname not in REFUSED)
+            self.is_raising = self.is_raising or step.opname == "RAISE_VARARGS"
+            self.stores.update([step.argval] if step.opname in ("STORE_ATTR", "STORE_GLOBAL", "DELETE_ATTR") else ())
+            self.flags.update(["has_no_iterators"] if step.opname in TOUCHES else ())
+            is_taking = step.opname == "BINARY_SUBSCR" or step.opname == "BINARY_OP" and step.argrepr.startswith("%")
+            self.flags.update(["has_no_factories"] if is_taking else ())
+            if step.opname == "CALL_FUNCTION_EX" and step.arg & 1:
+                self.call_by_names(steps, at, names, places)
+            if step.opname == "MATCH_CLASS":
+                self.match(steps, at)
+            if step.opname == "IMPORT_NAME":
+                require(step.argval in sys.modules)
+            elif step.opname in (*BLOCKS, "GET_AWAITABLE"):
+                self.flags.update([] if steps[at - 1].opname in CALLS else ["has_no_iterators"])
+                is_shared = step.opname == "GET_AWAITABLE" and steps[at - 1].opname not in (*CALLS, *BLOCKS)
+                self.is_sharing = self.is_sharing or is_shared and steps[at - 1].opname != "WITH_EXCEPT_START"
+                for _, name, value in self.program.alive if step.opname in BLOCKS else ():
+                    self.load(value if name in OF_BLOCKS else None)
+            elif step.opname == "MAKE_FUNCTION":
+                require(steps[at + 1].opname not in CALLS)  # (a decorator)
+            elif step.opname in ("LOAD_CONST", "KW_NAMES"):
+                value = code.co_consts[step.arg] if step.opname == "KW_NAMES" else step.argval
+                self.read_constant(value, steps, at, names, places)
+            else:
+                self.read_name(steps, at, names, places)
+
+    def read_constant(self, value, steps, at, names, places):
+        if type(value) is types.CodeType:
+            stored = {step.argval for step in (*steps, *steps_of(value)) if step.opname in STORING}
+            inner = {name: places[name] for name in value.co_freevars if name in places and name not in stored}
+            self.todo.append((value, names, inner, None))
+        if type(value) is tuple and (steps[at].opname == "KW_NAMES" or steps[at + 1].opname == "CALL_KW"):
+            self.call_named(value, steps, at, names, places)
+
+    def read_name(self, steps, at, names, places):
+        step = steps[at]
+        has_mark = bool(step.arg and step.arg & 1)
+        if step.opname in ("LOAD_GLOBAL", "LOAD_NAME"):
+            value = names.get(step.argval, vars(builtins).get(step.argval, NotKnown))
+            is_called = step.opname == "LOAD_GLOBAL" and has_mark
+            self.call_from(steps, at, names, places) if is_called else self.load(value)
+        elif step.opname == "LOAD_METHOD" or step.opname in ("LOAD_ATTR", "LOAD_SUPER_ATTR") and has_mark \
+                and sys.version_info >= (3, 12):
+            self.call_method(step.argval, self.owner_of(steps, at, names, places), steps, at, names, places)
+        elif step.opname in ("LOAD_ATTR", "STORE_ATTR", "DELETE_ATTR", "LOAD_SUPER_ATTR"):
+            require(step.argval not in DYNAMIC)
+            owner = self.owner_of(steps, at, names, places)
+            exact = self.exact(step.argval, owner)
+            if exact is not None or is_in_table(owner, step.argval):
+                self.load(exact, owner)
+                return
+            for function in self.program.functions.get(step.argval, ()):
+                self.follow(function)
+        elif step.opname == "PUSH_NULL":
+            self.call_any(steps, at, names, places)
+
+    def take(self, frame, ways, coroutine=None):
+        """Takes what a frame comes to once the call in it returns or fails, as `ways` say. Returns the same of it."""
+        code = frame.f_code
+        require(not code.co_flags & 0x220)  # (it is no generator)
+        require(not any(isinstance(value, SUSPENDING) for value in list(frame.f_locals.values())))
+        self.flags.update(["has_no_iterators"] if may_keep(list(frame.f_locals.values())) else ())
+        if coroutine is None or getattr(coroutine, "cr_running", True):
+            for steps, changed in self.state.blocks_at(code, frame.f_lasti):
+                require(not {*changed} & {str(step.argval) for step in steps})
+                self.leave(steps[-1:] and self.state.called_at(frame, steps)[2], frame, steps)
+        for each in kept_by(coroutine):
+            self.leave(each)
+        is_time = frame.f_globals.get("time") is sys.modules.get("time") and "time" not in self.program.late
+        self.ahead, self.given = way_ahead(code, frame.f_lasti, *ways, (), is_time)[0], given_to(code)
+        decided = self.decide(steps_of(code), frame)
+        ahead, ways = way_ahead(code, frame.f_lasti, *ways, decided, is_time)
+        self.todo.append((code, frame.f_globals, frame.f_locals, ahead))
+        self.flags.update(["has_no_iterators"] if is_in_for(code, frame.f_lasti) else ())
+        self.flags.update(["has_no_iterators"] if any(step.opname == "GET_ANEXT" for step in steps_of(code)) else ())
+        return ways
+
+    def decide(self, steps, frame):
+        """The places of the steps that jump by an event, or by an attribute that is a bool, each with whether they do
+        so as long as nobody changes that."""
+        found = []
+        for at, step in enumerate(steps if self.is_deciding else ()):
+            before = at - 1 - (steps[at - 1].opname == "TO_BOOL")
+            is_jump = step.opname.endswith(("_IF_TRUE", "_IF_FALSE")) and not step.is_jump_target
+            value = self.value_of(steps, before, frame) if is_jump else None
+            if type(value) is bool:
+                found.append((at, value == step.opname.endswith("_IF_TRUE")))
+        return tuple(found)
+
+    def value_of(self, steps, at, frame):
+        """What an attribute is that a step loads, or whether the event is set that it calls, if that is known."""
+        if steps[at].opname == "CALL":
+            at = method_of_call(steps, at)
+            owner = self.owner_of(steps, at, frame.f_globals, frame.f_locals) if steps[at].argval in CHECKS else None
+            if type(owner) is not threading.Event or owner.is_set():
+                return None
+            self.program.objects[id(owner)] = owner
+            self.needs.add(id(owner))
+            return False
+        is_attribute = steps[at].opname == "LOAD_ATTR" and not steps[at].argval.startswith("_is_")  # (as of a thread)
+        owner = self.owner_of(steps, at, frame.f_globals, frame.f_locals) if is_attribute else NotKnown
+        owner = NotKnown if self.state.is_library(type(owner)) else owner
+        value = step_into(owner, steps[at].argval) if is_in_table(owner, steps[at].argval) else None
+        self.needs.update([steps[at].argval] if type(value) is bool else ())
+        return value
+
+    def leave(self, value, frame=None, steps=()):
+        """Takes the end of a block that one is in, of an object, or of what some steps make."""
+        is_made = any(step.opname in CALLS for step in steps)
+        if is_made:
+            value = self.state.first_in(frame, steps)
+            require(self.state.is_harmless(value))
+        elif full_name(type(value)) in WAITED_AT:
+            names = [step.argval for step in steps if step.opname in ("LOAD_ATTR", "LOAD_GLOBAL", "LOAD_METHOD")]
+            require(self.program.late.isdisjoint(names))
+            self.touch(value, "leave")
+        elif isinstance(value, contextlib._GeneratorContextManagerBase):
+            self.resume(value.gen)
+        elif self.state.is_library(type(value)):
+            kind = type(value)
+            require(kind.__module__ in PLAIN_BLOCKS and not isinstance(value, KEEPERS))
+            self.flags.update(["queries_plainly"] if kind.__module__ == "sqlite3" else ())
+            self.flags.update(["writes_plainly"] if kind.__module__ in OF_FILES else ())
+            self.flags.update(["asks_plainly"] if kind.__module__.startswith(OF_NETS) else ())
+        else:
+            ends = [self.exact(name, value) for name in ("__exit__", "__aexit__")]
+            require(any(ends))
+            for each in filter(None, ends):
+                self.follow(each, value)
+
+    def resume(self, value):
+        """Takes what a generator or a coroutine that is suspended comes to, by any way."""
+        frame = getattr(value, dict(SUSPENDED)[type(value)])
+        if frame is None or id(frame) in self.resumed:
+            return
+        self.resumed.add(id(frame))
+        for each in kept_by(value):
+            self.leave(each)
+        ahead = way_ahead(frame.f_code, frame.f_lasti, True, True)[0] if frame.f_lasti >= 0 else None
+        self.todo.append((frame.f_code, frame.f_globals, frame.f_locals, ahead))

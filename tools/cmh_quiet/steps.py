@@ -1,0 +1,227 @@
+"""The steps of a code: which may come after which, and where the arguments of a call begin."""
+import dis
+import functools
+import sys
+
+from .library import ENCODINGS
+from .values import BEGINNING, SETTING
+
+JUMPS = {*dis.hasjrel, *dis.hasjabs}
+JUMPS_ALWAYS = ("JUMP_FORWARD", "JUMP_BACKWARD", "JUMP_BACKWARD_NO_INTERRUPT")
+LAST = ("RETURN_VALUE", "RETURN_CONST", "RAISE_VARARGS", "RERAISE")
+CALLS = ("CALL", "PRECALL", "CALL_KW", "CALL_FUNCTION_EX")
+BLOCKS = ("BEFORE_WITH", "BEFORE_ASYNC_WITH")
+CHANGES = ("STORE_GLOBAL", "STORE_NAME", "STORE_ATTR", "DELETE_GLOBAL", "DELETE_NAME", "DELETE_ATTR")
+STORING = ("STORE_FAST", "STORE_DEREF", "DELETE_FAST", "DELETE_DEREF")
+MIXES = ("BINARY_", "COMPARE_", "IS_OP", "CONTAINS_OP")  # how steps begin that take two values
+CHECKS = ("wait", "is_set")  # methods that say whether an event is set
+BY_SIGNALS = {"KeyboardInterrupt", "SystemExit"}  # errors that only a signal raises
+# Steps that raise nothing, beside those of a sleep.
+SAFE = {"NOP", "RESUME", "CACHE", "LOAD_CONST", "LOAD_FAST", "STORE_FAST", "POP_TOP", "PUSH_NULL", "LOAD_GLOBAL",
+        "JUMP_FORWARD", "JUMP_BACKWARD", "EXTENDED_ARG", "RETURN_VALUE", "RETURN_CONST"}
+# Functions that have the one that they are given called at any step.
+WATCHING = {"settrace", "setprofile", "settrace_all_threads", "setprofile_all_threads", "addaudithook"}
+
+
+@functools.lru_cache(maxsize=5000)
+def steps_of(code):
+    return list(dis.get_instructions(code))
+
+
+@functools.lru_cache(maxsize=1000)
+def flow_of(code):
+    """The places of the steps that may come after each step of a code, and that to which its errors go, or None."""
+    steps = steps_of(code)
+    places = {step.offset: at for at, step in enumerate(steps)}
+    table = list(dis.Bytecode(code).exception_entries)
+    after, handlers = [], []
+    for at, step in enumerate(steps):
+        found = [places[step.argval]] if step.opcode in JUMPS else []
+        is_last = step.opname in LAST or step.opname in JUMPS_ALWAYS or is_of_signals(steps, at)
+        after.append(found + ([] if is_last or at + 1 == len(steps) else [at + 1]))
+        target = next((entry.target for entry in table if entry.start <= step.offset < entry.end), None)
+        handlers.append(places.get(target))
+    return steps, after, handlers
+
+
+def is_of_signals(steps, at):
+    """Whether a step jumps but for errors that only signals raise."""
+    if "IF_FALSE" not in steps[at].opname or steps[at - 1].opname != "CHECK_EXC_MATCH":
+        return False
+    start = at - 1
+    while start > 0 and steps[start - 1].opname in ("LOAD_GLOBAL", "LOAD_NAME", "BUILD_TUPLE"):
+        start -= 1
+    return {step.argval for step in steps[start:at - 1] if step.opname != "BUILD_TUPLE"} <= BY_SIGNALS
+
+
+def is_safe(steps, at, is_time=True):
+    """Whether a step raises nothing: a plain one, or one of a call of time.sleep with a number, if that is Python's."""
+    if steps[at].opname in SAFE or not is_time:
+        return steps[at].opname in SAFE
+    start = at
+    while start > 0 and steps[start].opname not in ("LOAD_GLOBAL", "LOAD_NAME"):
+        start -= 1
+    words = [step.argval for step in steps[start:start + 4] if step.opname.startswith("LOAD_")]
+    is_number = len(words) == 3 and isinstance(words[2], (int, float))
+    return words[:2] == ["time", "sleep"] and is_number and steps[at].opname in (
+        "LOAD_METHOD", "LOAD_ATTR", "PRECALL", "CALL")
+
+
+@functools.lru_cache(maxsize=1000)
+def way_ahead(code, last, returns, fails, decided=(), is_time=True):
+    """The places of the steps of a code to which it may come from a call in it on that returns or fails, and whether it
+    may return and fail then. Some steps are decided: whether they jump."""
+    steps, after, handlers = flow_of(code)
+    after = [*after]
+    for at, is_jumping in decided:
+        after[at] = after[at][:1] if is_jumping else after[at][1:]
+    start = max(at for at, step in enumerate(steps) if step.offset <= last)
+    fails = fails and not (returns and is_safe(steps, start, is_time))
+    left = (after[start] if returns else []) + ([handlers[start]] if fails and handlers[start] is not None else [])
+    found, is_failing = set(), fails and handlers[start] is None
+    while left:
+        at = left.pop()
+        if at in found:
+            continue
+        found.add(at)
+        is_risky = not is_safe(steps, at, is_time)
+        left += after[at] + ([handlers[at]] if is_risky and handlers[at] is not None else [])
+        is_failing = is_failing or is_risky and handlers[at] is None
+    is_returning = any(steps[at].opname.startswith("RETURN_") for at in found)
+    return tuple(sorted(found)), (is_returning, is_failing)
+
+
+def is_in_for(code, last):
+    """Whether a step is in a loop over something, which goes on with what its iterator gives."""
+    return any(step.opname == "FOR_ITER" and step.offset <= last < step.argval for step in steps_of(code))
+
+
+def effect_of(step):
+    return dis.stack_effect(step.opcode, step.arg if step.opcode >= dis.HAVE_ARGUMENT else None)
+
+
+def start_of(steps, end):
+    """The place where the steps begin that make the value on top of the stack behind a step, or None if they jump."""
+    height = 0
+    for at in range(end, -1, -1):
+        height += effect_of(steps[at])
+        if steps[at].opcode in JUMPS or height > 1:
+            return None
+        if height == 1:
+            return at
+        if steps[at].is_jump_target:
+            return None
+    return None
+
+
+def call_of(steps, at):
+    """The place of the call of what a step loads with its mark, or None if a step before that jumps."""
+    if not steps:
+        return None
+    is_before, height = sys.version_info >= (3, 13) and steps[at + 1].opname == "PUSH_NULL", 2
+    for place in range(at + 1 + is_before, len(steps)):
+        if steps[place].opcode in JUMPS or steps[place].is_jump_target:
+            return None
+        height += effect_of(steps[place])
+        if height < 2:
+            return place if steps[place].opname in CALLS else None
+    return None
+
+
+def is_argument(steps, start, end):
+    """Whether what some steps load is an argument by itself, and no part of what makes one."""
+    after = steps[end + 1]
+    is_called = steps[start].opname == "LOAD_GLOBAL" and steps[start].arg & 1 \
+        or sys.version_info >= (3, 13) and after.opname == "PUSH_NULL" or after.opname in ("LOAD_ATTR", "LOAD_METHOD")
+    is_next = after.opname.startswith(("LOAD_", "CALL", "PRECALL", "KW_NAMES", "BUILD_", "PUSH_NULL", "MAKE_", "SET_F"))
+    return is_next and not is_called and not after.is_jump_target
+
+
+def is_called_at_once(steps, at):
+    """Whether what stands on the stack before a step is called with what the steps from there on make, and not
+    something that these make of it."""
+    height = 2
+    for step in steps[at:]:
+        is_taken = height == 2 and step.opname.startswith(("LOAD_ATTR", "STORE"))
+        if step.opcode in JUMPS or is_taken or height == 3 and step.opname.startswith(MIXES):
+            return False
+        height += dis.stack_effect(step.opcode, step.arg if step.opcode >= dis.HAVE_ARGUMENT else None)
+        if height < 2:
+            return step.opname in CALLS
+    return False
+
+
+def arguments_after(steps, at):
+    """How many arguments the next call has, or nobody's if there is none."""
+    return next((step.arg for step in steps[at + 1:] if step.opname in ("CALL", "CALL_KW", "CALL_FUNCTION_EX")), 0)
+
+
+def is_encoding(steps, at):
+    """Whether a call of a method has no more than the name of an encoding that Python knows: one of the program may be
+    called, and a handler of errors."""
+    count = arguments_after(steps, at)
+    return count == 0 or count == 1 and steps[at + 1].argval in ENCODINGS and type(steps[at + 1].argval) is str
+
+
+def method_of_call(steps, at):
+    """The place of the step that loads the method which a call calls with plain arguments, or 0."""
+    start = at - 1
+    while start > 0 and steps[start].opname in ("LOAD_CONST", "LOAD_FAST", "LOAD_ATTR", "PRECALL", "KW_NAMES") \
+            and steps[start].argval not in CHECKS:
+        start -= 1
+    given = [step for step in steps[start:at] if step.opname in ("LOAD_CONST", "LOAD_FAST")]
+    is_new = sys.version_info >= (3, 12)
+    is_method = steps[start].opname == ("LOAD_ATTR" if is_new else "LOAD_METHOD") and not (
+        is_new and not steps[start].arg & 1)
+    return start if is_method and len(given) == steps[at].arg else 0
+
+
+def own_of(step):
+    """The variable that a step loads last."""
+    some = step.argval if type(step.argval) is tuple else (step.argval,)
+    return {*some[-1:]} if step.opname.startswith("LOAD_FAST") else set()
+
+
+def given_to(code):
+    """The names of the arguments of a code."""
+    count = code.co_argcount + code.co_kwonlyargcount + bool(code.co_flags & 4) + bool(code.co_flags & 8)
+    return code.co_varnames[:count]
+
+
+@functools.lru_cache(maxsize=20000)
+def changes_in(code):
+    """The places of the steps of a code that put another value into the place of one that may be there, as those of a
+    class and of a new object's own begin don't."""
+    steps = steps_of(code)
+    own = code.co_varnames[:1] if code.co_name in BEGINNING and code.co_argcount else ()
+    kept = [at for at, step in enumerate(steps) if at and step.opname == "STORE_ATTR"
+            and not own_of(steps[at - 1]).isdisjoint(own)]
+    return [at for at, step in enumerate(steps)
+            if step.opname in CHANGES and not step.opname.endswith("_NAME") and at not in kept]
+
+
+@functools.lru_cache(maxsize=20000)
+def cells_stored(code):
+    """The names of the variables that functions share which a code stores, twice if it may do so again."""
+    steps = steps_of(code)
+    stored = [step for step in steps if step.opname in ("STORE_DEREF", "DELETE_DEREF")]
+    loops = [(step.argval, step.offset) for step in steps if step.opcode in JUMPS and step.argval < step.offset] \
+        if stored else []
+    again = [step.argval for step in stored if step.argval in (*code.co_freevars, *given_to(code))
+             or any(start <= step.offset <= end for start, end in loops)]
+    return [step.argval for step in stored] + again
+
+
+def watches(code):
+    """Whether a code may have something called at each step. What `threading` has for that is asked itself."""
+    steps = steps_of(code) if not WATCHING.isdisjoint(code.co_names) else []
+    return any(step.argval in WATCHING and steps[at - 1].argval != "threading" for at, step in enumerate(steps))
+
+
+def sets_any(code):
+    """Whether a code may set any attribute to a function: what is the result of adding up is none."""
+    steps = steps_of(code)
+    calls = [at for at, step in enumerate(steps) if step.opname == "CALL" and step.arg == 3]
+    plain = [at for at in calls if steps[at - 1 - (steps[at - 1].opname == "PRECALL")].opname == "BINARY_OP"]
+    named = [step for step in steps if step.argval in SETTING]
+    return len(named) > len(plain) or any(step.argval != "setattr" for step in named)
