@@ -1,5 +1,6 @@
 """What the calls in a code may come to."""
 import builtins
+import collections
 import contextlib
 import functools
 import itertools
@@ -7,13 +8,15 @@ import operator
 import sys
 import types
 
-from .library import (ASKS, BASES, BEGINS_TASKS, CACHED, CALLED_BACK, CALLING, COMPUTING, ENDING, FILES, HARMLESS,
-                      ITERATING, LOGS, MADE, MAILS, OF_BASES, OF_BUILTINS, OF_FILES, OF_MODULES, OF_NETS, OUTSIDE,
-                      PLAIN_ERRORS, PLAIN_OWNERS, PRINTS, QUERIES, ROWS, TOUCHING, TO_FILES, WAITED_AT)
+from .library import (ANSWERS, ASKS, BASES, BEGINS_TASKS, BEGUN, CACHED, CALLED_BACK, CALLING, CALLING_BACK, COMPLETES,
+                      COMPUTING, ENDING, FILES, HARMLESS, ITERATING, LATER, LOGS, MADE, MAILS, OF_BASES, OF_BUILTINS,
+                      OF_DATA, OF_FILES, OF_MODULES, OF_NETS, OUTSIDE, PLAIN_ERRORS, PLAIN_OWNERS, PRINTS, QUERIES,
+                      ROWS, SERVERS, TOUCHING, TO_FILES, WAITED_AT)
 from .names import Names
-from .steps import arguments_after, call_of, is_argument, is_called_at_once, is_encoding, start_of
-from .values import (BEGINNING, DYNAMIC, ENDS_ALL, FINDERS, Fresh, NotKnown, Own, full_name, full_name_of, is_in_table,
-                     is_plain_format, is_special, require, step_into)
+from .steps import (CALLS, STORING, arguments_after, call_of, is_argument, is_called_at_once, is_encoding, names_in,
+                    start_of)
+from .values import (BEGINNING, COMPARES, DYNAMIC, ENDS_ALL, FINDERS, SETTERS, Fresh, NotKnown, Own, full_name,
+                     full_name_of, is_in_table, is_plain_format, is_special, require, step_into)
 
 
 class Calls(Names):
@@ -86,6 +89,7 @@ class Calls(Names):
             if name == "iter" and (call_of(steps, at) is None or steps[call_of(steps, at)].arg != 1):
                 self.call_argument(0, steps, at, names, places)
             self.flags.update(["prints_plainly"] if name == "print" else ())
+            self.follow_named(["keys"] if name == "dict" else ())
         elif isinstance(value, type) and full_name(value) not in CALLING:
             self.call_class(name, value, steps, at)
         elif type(value) is CACHED and not self.program.is_of_library(value.__wrapped__):
@@ -96,7 +100,7 @@ class Calls(Names):
             self.call_argument(CALLING[full_name_of(value)], steps, at, names, places)
         elif type(value) is types.FunctionType and (
                 not self.program.is_of_library(value) or hasattr(value, "__wrapped__")):
-            self.call_own(value)
+            self.call_own(value, None, self.arguments(value, steps, at, names, places))
         else:
             require(self.is_known(value) and self.is_short(name, steps, at))
             self.rest_on_module(value, steps, at)
@@ -113,10 +117,10 @@ class Calls(Names):
             require(self.is_short(name, steps, at))
             self.make(value)
 
-    def call_own(self, function, own=None):
+    def call_own(self, function, own=None, given=()):
         """A function of the program is called. By another name than its own an object that is there may begin anew."""
         require(type(function) is types.FunctionType and function.__code__.co_name not in BEGINNING)
-        self.follow(function, own)
+        self.follow(function, own, given)
 
     def make(self, kind):
         """An object of a class is made."""
@@ -124,9 +128,11 @@ class Calls(Names):
             self.call_method("close", NotKnown)
             return
         if self.state.is_library(kind):
-            require(kind.__name__ in HARMLESS | MADE or issubclass(kind, BaseException))
+            is_plain = kind.__name__ in HARMLESS | MADE or kind.__module__ in OF_DATA
+            require(is_plain or issubclass(kind, BaseException))
             self.flags.add("has_no_iterators")
-            self.flags.update(["writes_plainly"] if kind.__module__ in OF_FILES else [])
+            self.follow_named(["keys"] if issubclass(kind, (dict, collections.UserDict)) else ())
+            self.write_to(kind.__module__ in OF_FILES)
             self.flags.update(["asks_plainly"] if kind.__module__.startswith(OF_NETS) else [])
             return
         require(self.state.is_library(type(kind)))
@@ -152,9 +158,12 @@ class Calls(Names):
             require(name != "dumps" or owner.__name__ in ("json", "pickle", "_pickle"))
             self.call_global(name, self.state.attributes_of(owner).get(name, NotKnown), steps, at, names, places)
             return
-        require(name not in ("encode", "decode") or is_encoding(steps, at))
+        require(name not in ("encode", "decode") or is_encoding(steps, at, self.constants))
         require(name not in ("format", "format_map") or is_plain_format(steps[at - 1].argval))
-        if type(owner) in PLAIN_OWNERS or owner is Fresh:
+        if name in SETTERS:
+            require(is_super and self.hands_on(name, steps, at) or self.sets_at_first(name, owner, steps, at))
+            return
+        if type(owner) in PLAIN_OWNERS or owner is Fresh or name in COMPARES and name not in self.program.stored:
             self.flags.add("has_no_iterators")
             return
         if self.touches_only(name, owner) or self.call_pool(name, owner, steps, at, names, places):
@@ -162,20 +171,39 @@ class Calls(Names):
         exact = self.exact(name, owner)
         if exact is not None:
             require(name in BEGINNING or exact.__code__.co_name not in BEGINNING)
-            self.follow(exact, owner)
+            self.follow(exact, owner, self.arguments(exact, steps, at, names, places, 1))
         elif not self.call_stored(name, owner) and not self.call_of_class(name, owner):
             self.call_named_method(name, owner, steps, at)
+
+    def sets_at_first(self, name, owner, steps, at):
+        """Whether `object.__setattr__` gives an attribute to a new object, of a name that stands there."""
+        given = [step.argval for step in steps[at + 1:at + 3]]
+        is_first = self.code.co_name in BEGINNING and given[:1] == [*self.code.co_varnames[:1]]
+        return owner is object and name == "__setattr__" and is_first and type(given[1]) is str \
+            and steps[at + 2].opname == "LOAD_CONST"
+
+    def hands_on(self, name, steps, at):
+        """Whether a method that sets an attribute calls that of its base class with what it is given itself."""
+        given = self.code.co_varnames[1:1 + SETTERS[name]]
+        is_stored = any(step.opname.startswith(STORING) and not set(given).isdisjoint(names_in(step)) for step in steps)
+        words, place = (), at + 1
+        while steps[place].opname.startswith("LOAD_FAST"):
+            words, place = (*words, *names_in(steps[place])), place + 1
+        return self.code.co_name == name and not is_stored and words == given and steps[place].opname in CALLS
 
     def call_pool(self, name, owner, steps, at, names, places):
         """A pool is given a function. Returns whether that is."""
         if name == "submit" and full_name(type(owner)) == "concurrent.futures.thread.ThreadPoolExecutor":
             require(self.state.attributes_of(owner).get("_initializer", self) is None)
             self.call_back(steps, at, 0, names, places)
-        elif name == "run_in_executor" and not self.program.functions.get(name) and name not in self.program.stored:
-            self.call_argument(1, steps, at, names, places)
+        elif name == "map" and full_name(type(owner)) == "concurrent.futures.thread.ThreadPoolExecutor":
+            require(self.state.attributes_of(owner).get("_initializer", self) is None)
+            self.call_argument(0, steps, at, names, places)
+        elif name in LATER and not self.program.functions.get(name) and name not in self.program.stored:
+            self.call_argument(LATER[name], steps, at, names, places)
         else:
             return False
-        self.touches.add((None, "set_result"))
+        self.touches.update([(None, "set_result")] if name in ("submit", "map", "run_in_executor") else ())
         return True
 
     def touches_only(self, name, owner):
@@ -185,8 +213,9 @@ class Calls(Names):
         is_own = value is not None and getattr(value, "__self__", self) is not getattr(owner, "_lock", None)
         if name not in WAITED_AT.get(full_name(type(owner)), ()) or is_own:
             return False
-        called = list(getattr(owner, "_callbacks", None) or ()) if name in ("set_result", "set_exception") else []
-        require(not any(self.program.is_called_back(each) for each, _ in called))
+        called = [*(getattr(owner, "_callbacks", None) or ()), *getattr(owner, "_done_callbacks", ())]
+        called = [each[0] if type(each) is tuple else each for each in called] if name in COMPLETES else []
+        require(not any(map(self.program.is_called_back, called)))
         self.is_outside = self.is_outside or type(owner).__module__ == "queue"
         if name not in ("acquire", "join"):
             self.touch(owner, name)
@@ -220,16 +249,49 @@ class Calls(Names):
         is_own = owner is not NotKnown and not isinstance(owner, type) and (
             name in self.state.attributes_of(owner) or not any(name in kind.__dict__ for kind in type(owner).__mro__))
         require(not is_own and name not in self.program.stored and not (self.program.sets_any and owner is NotKnown))
-        require(name not in self.program.hooked)
+        require(name not in self.program.hooked or name in BEGINNING)  # (a new object keeps nothing yet)
         is_own = functions and name not in self.program.special and name not in self.program.inherited
+        if name == "start":
+            self.begin_others(owner, steps, at)
+            return
         is_ending = owner is NotKnown and name in ENDING
         self.is_outside = self.is_outside or is_ending
-        self.touches.update([(None, name)] if is_ending else ())
-        require(name in HARMLESS and name != "dumps" or name == "acquire" or is_own or is_ending)
+        is_completing = is_ending and name in COMPLETES
+        self.touches.update([(None, "set_exception" if is_completing else name)] if is_ending else ())
+        self.flags.update(["completes_plainly"] if is_completing else ())
+        is_plain = name in HARMLESS and name != "dumps" or name == "acquire"
+        require(is_plain or is_own or is_ending or self.is_of_data(name, owner))
         require(self.is_short(name, steps, at))
         require(name != "cursor" or arguments_after(steps, at) == 0)  # (its class is made)
-        self.rest_on(name)
+        self.rest_on(name, owner)
+        self.answer(name)
         self.follow_named(FILES if name in FILES else [name])
+
+    def answer(self, name):
+        """A handler of a server answers by the methods that it has in the place of the library's."""
+        for kind in self.program.kinds.values() if name in ANSWERS else ():
+            bases = [each for each in kind.__mro__ if self.state.is_library(each) and each.__module__ in SERVERS]
+            for own in [own for base in bases for own in base.__dict__]:
+                self.load(kind.__dict__.get(own) if own != "handle" else None)
+
+    def is_of_data(self, name, owner):
+        """Whether a method of an object, or all in the library of this name, are of data."""
+        kinds = self.program.methods[name] if owner is NotKnown else {
+            each for each in type(owner).__mro__ if name in each.__dict__}
+        modules = {kind.__module__ for kind in kinds if kind not in PLAIN_OWNERS}
+        self.flags.update(["has_no_iterators", *(["queries_plainly"] if "sqlite3" in modules else [])])
+        self.follow_named([] if modules.isdisjoint({"select", "selectors"}) else ["fileno"])
+        return name not in CALLING_BACK and bool(kinds) and modules <= OF_DATA
+
+    def begin_others(self, owner, steps, at):
+        """A thread or a process is begun: what it runs is looked at where that is named, or where its class is."""
+        some = {full_name(each) for each in type(owner).__mro__} if owner is not NotKnown else BEGUN
+        require(not some.isdisjoint(BEGUN) and "run" not in self.program.stored)
+        self.flags.add("begins_plainly")
+        for kind in self.program.kinds.values():
+            is_begun = any(full_name(each) in BEGUN for each in kind.__mro__)
+            self.load(kind.__dict__.get("run") if is_begun else None)
+        self.follow_named(["start"])
 
     def is_known(self, value):
         """Whether a function of the library ends no wait, and calls nothing of the program."""
@@ -246,17 +308,20 @@ class Calls(Names):
         known = OF_MODULES.get(value.__module__, ())
         return value.__name__ in HARMLESS or value.__module__ in COMPUTING or value.__name__ in known
 
-    def rest_on(self, name):
+    def rest_on(self, name, owner=NotKnown):
         self.flags.update(["encodes_plainly"] if name in ("dumps", "dump") else ())
         self.flags.update(["decodes_plainly"] if name in ("load", "loads") else ())
-        self.flags.update(["prints_plainly"] if name in PRINTS else ["writes_plainly"] if name in ROWS else ())
+        self.follow_named(["read"] if name in ("load", "loads") else ["keys"] if name == "update" else ())
+        self.flags.update(["prints_plainly"] if name in PRINTS else ())
+        self.write_to(name in ROWS)
         self.flags.update(["queries_plainly"] if name in QUERIES else ["asks_plainly"] if name in ASKS | MAILS else ())
         self.flags.update(["logs_plainly"] if name in LOGS or name == "getLogger" else ())
-        self.flags.update(["has_no_iterators"] if name in TOUCHING else ["has_no_barriers"] if name == "wait" else ())
+        is_barrier = name == "wait" and full_name(type(owner)) not in WAITED_AT
+        self.flags.update(["has_no_iterators"] if name in TOUCHING else ["has_no_barriers"] if is_barrier else ())
 
     def rest_on_module(self, value, steps, at):
         """A function of the library is called, of a module that calls something by itself."""
-        self.flags.update(["writes_plainly"] if value.__module__ in OF_FILES else [])
+        self.write_to(value.__module__ in OF_FILES | {"copy", "_pickle"} or value.__name__ in TO_FILES)
         self.flags.update(["copies_plainly"] if value.__module__ in ("copy", "_pickle") else [])
         self.flags.update(["forks_plainly"] if value.__module__ == "subprocess" else [])
         if value.__module__ == "_sqlite3":
@@ -264,7 +329,7 @@ class Calls(Names):
             self.flags.add("queries_plainly")
         if value.__module__ == "dataclasses" or value.__module__ == "copy":
             self.copy_any()
-        if value.__module__ == "select":
+        if value.__module__ in ("select", "fcntl"):
             self.call_method("fileno", NotKnown)
         self.is_limited = self.is_limited or value.__module__ == "asyncio.timeouts"
 

@@ -55,26 +55,22 @@ HARMLESS = LOGS | PRINTS | QUERIES | MAILS | ASKS - {"urlopen"} | ROWS | {
     "formatTime", "formatException", "formatStack", "formatMessage", "usesTime", "getMessage", "getLevelName",
     "handleError", "asctime", "connect", "connect_ex", "create_task",
     "symmetric_difference_update", "quantize", "setLevel", "getEffectiveLevel", "at_eof", "write_eof",
-    "from_iterable"}
+    "from_iterable", "result"}
 
 # Functions by their modules, which no method is called like, or which a method of the program may be. The rest of their
 # module may do anything.
 OF_MODULES = {module: {*names.split()} for module, names in {
     "json": "dump load loads",
-    "traceback": "format_exc format_exception print_exc",
-    "posix": "access chmod fsync getcwd getppid getuid link listdir lstat mkdir readlink remove rename replace rmdir "
-             "scandir stat statvfs symlink truncate uname unlink urandom utime",
+    "traceback": "extract_stack format_exc format_exception format_stack print_exc print_stack",
+    "warnings": "warn",
+    "shlex": "join quote",
+    "xml.etree.ElementTree": "Comment SubElement fromstring indent tostring",
+    "posix": "access chmod close dup fdatasync fsync fstat ftruncate getcwd getppid getuid isatty link listdir lseek "
+             "lstat mkdir open pipe pread pwrite read readlink remove rename replace rmdir scandir sched_getaffinity "
+             "stat statvfs symlink sysconf times truncate umask uname unlink urandom utime write",
     "os": "cpu_count fdopen fsdecode fsencode getenv makedirs walk",
-    "genericpath": "commonprefix exists getatime getctime isdir isfile samefile",
-    "posixpath": "commonpath expanduser expandvars isabs islink ismount lexists normcase normpath realpath relpath "
-                 "split splitext",
     "shutil": "copy copy2 copyfile copyfileobj copytree disk_usage get_terminal_size rmtree which",
-    "statistics": "fmean harmonic_mean mean median median_high median_low mode multimode pstdev quantiles stdev "
-                  "variance",
-    "textwrap": "dedent fill indent shorten wrap",
     "tempfile": "NamedTemporaryFile TemporaryFile gettempdir mkdtemp mkstemp",
-    "uuid": "uuid1 uuid3 uuid5",
-    "secrets": "choice randbelow token_bytes token_hex token_urlsafe",
     "sys": "exc_info getrecursionlimit getsizeof intern",
     "gc": "get_count",
     "logging": "getLevelName getLogger",
@@ -82,8 +78,6 @@ OF_MODULES = {module: {*names.split()} for module, names in {
     "asyncio.events": "get_event_loop get_running_loop",
     "_asyncio": "get_event_loop get_running_loop",
     "asyncio.tasks": "all_tasks current_task",
-    "base64": "b16encode b32decode b32encode b64decode b64encode standard_b64encode urlsafe_b64decode "
-              "urlsafe_b64encode",
     "hashlib": "new",
     "asyncio.timeouts": "timeout timeout_at",
     "random": "seed",
@@ -93,27 +87,31 @@ OF_MODULES = {module: {*names.split()} for module, names in {
     "copy": "copy deepcopy",
     "_pickle": "dump dumps",
     "glob": "escape iglob",
-    "fnmatch": "filter fnmatch fnmatchcase",
     "_csv": "reader writer",
     "select": "select",
     "subprocess": "call check_call check_output run",
     "urllib.request": "urlopen",
     "gzip": "compress decompress",
-    "shlex": "quote",
-    "html": "escape",
     "dataclasses": "asdict astuple fields is_dataclass replace",
     "asyncio.streams": "open_connection",
-    "ipaddress": "ip_address ip_network",
     "hmac": "compare_digest digest",
-    "platform": "node release system",
     "socket": "create_connection getfqdn socketpair",
     "_socket": "getaddrinfo gethostbyname inet_aton inet_ntoa",
-    "_operator": "add and_ contains eq floordiv ge getitem gt le lt mod mul ne neg not_ or_ sub truediv truth xor",
-    "heapq": "merge"}.items()}
+    "_operator": "add and_ contains eq floordiv ge getitem gt le lt mod mul ne neg not_ or_ sub truediv truth "
+                 "xor"}.items()}
 # Modules all whose functions compute, and call at most what objects have for that. None may keep what it is given.
 COMPUTING = {"math", "cmath", "_hashlib", "_md5", "_sha1", "_sha2", "_sha256", "_sha512", "_sha3", "_blake2", "zlib",
              "binascii", "_struct", "_statistics", "unicodedata", "_heapq", "_bisect", "time", "resource",
-             "urllib.parse"}
+             "urllib.parse", "base64", "calendar", "colorsys", "difflib", "fcntl", "fnmatch", "fractions",
+             "genericpath", "grp", "heapq", "html", "ipaddress", "locale", "mimetypes", "platform", "posixpath",
+             "pprint", "pwd", "secrets", "stat", "statistics", "textwrap", "uuid"}
+# Modules all whose classes do so too, and all methods of these. (Those of builtins are in PLAIN_OWNERS.)
+OF_DATA = {"_contextvars", "_hashlib", "_random", "_struct", "array", "calendar", "collections", "collections.abc",
+           "datetime", "decimal", "difflib", "fractions", "hashlib", "hmac", "ipaddress", "os", "pathlib",
+           "posix", "random", "re", "resource", "socket",
+           "_socket", "select", "selectors", "sqlite3", "statistics", "textwrap", "time", "uuid", "zlib", "zoneinfo"}
+CALLING_BACK = {"sub", "subn", "scan", "set_seqs", "set_seq1", "set_seq2", "__missing__", "backup", "iterdump",
+                "from_file", "fromfile", "tofile", "sendfile", "run"}  # methods of these that do more
 OF_BUILTINS = {"abs", "bool", "bytes", "chr", "divmod", "float", "format", "hash", "hex", "id", "int", "isinstance",
                "issubclass", "len", "object", "oct", "ord", "pow", "print", "range", "repr", "round", "str", "super",
                "type", "open", "bytearray", "complex", "slice"}
@@ -121,18 +119,19 @@ OF_BUILTINS = {"abs", "bool", "bytes", "chr", "divmod", "float", "format", "hash
 # by its name. If others may wait at its objects, WAITED_AT has the class.
 MADE = {"Counter", "deque", "OrderedDict", "date", "datetime", "timedelta", "Path", "PurePath", "PosixPath", "Decimal",
         "Random", "Event", "Condition", "Semaphore", "BoundedSemaphore", "Queue", "SimpleQueue", "Lock", "RLock",
-        "lock", "LifoQueue", "PriorityQueue", "UUID", "Fraction", "StringIO", "BytesIO", "suppress",
+        "lock", "Future", "Thread", "LifoQueue", "PriorityQueue", "UUID", "Fraction", "StringIO", "BytesIO", "suppress",
         "ConfigParser", "RawConfigParser", "ZipFile", "GzipFile", "DictWriter", "DictReader", "EmailMessage",
         "MIMEText", "MIMEMultipart", "SMTP", "SMTP_SSL", "Request", "HTTPConnection", "HTTPSConnection", "timezone",
         "ZoneInfo", "socket", "TemporaryDirectory", "itemgetter", "cycle", "repeat", "islice", "chain", "pairwise",
-        "product", "permutations", "combinations", "zip_longest", "compress", "batched"}
+        "product", "permutations", "combinations", "zip_longest", "compress", "batched", "accumulate", "count",
+        "Template", "Element", "ElementTree", "SimpleNamespace", "TemporaryFile"}
 # Classes of the library, and modules of those, of which own ones may be without doing more than their methods say.
 BASES = (object, tuple, dict, list, set, frozenset, int, float, str, bytes, collections.deque, collections.OrderedDict,
          collections.Counter)
 OF_BASES = ("abc", "typing", "enum", "collections.abc")
 OWNERS = (type, types.ModuleType, type(None))  # to which functions are bound that nobody else has
-PLAIN_OWNERS = (dict, list, set, frozenset, str, bytes, tuple, collections.deque, collections.Counter,
-                collections.OrderedDict, type(os.environ))  # whose methods call nothing but what values have for Python
+PLAIN_OWNERS = (dict, list, set, frozenset, str, bytes, bytearray, tuple, int, float, complex, range, collections.deque,
+                collections.Counter, collections.OrderedDict, type(os.environ))  # whose methods call nothing but such
 # Modules whose objects end a block by no more than closing themselves, and those of their classes that do more.
 PLAIN_BLOCKS = {"_io", "io", "socket", "asyncio.timeouts", "asyncio.base_events", "asyncio.taskgroups", "tempfile",
                 "contextlib", "gzip", "zipfile", "smtplib", "http.client", "urllib.response", "sqlite3"}
@@ -160,15 +159,17 @@ OUTSIDE = {"accept", "recv", "send", "sendall", "read", "readline", "readlines",
 OF_QUEUES = {"put", "put_nowait", "get", "get_nowait", "task_done", "join"}
 OF_LOCKS = {"acquire", "release"}
 NOTIFIES = {"notify", "notify_all"}
+COMPLETES = {"set_result", "set_exception"}
 WAITED_AT = {
     **dict.fromkeys([f"{module}.{name}" for module in ("queue", "asyncio.queues")
                      for name in ("Queue", "LifoQueue", "PriorityQueue")], OF_QUEUES), "_queue.SimpleQueue": OF_QUEUES,
     "threading.Event": {"set"}, "asyncio.locks.Event": {"set"}, "threading.Condition": OF_LOCKS | NOTIFIES,
-    "asyncio.locks.Condition": OF_LOCKS | NOTIFIES, "_asyncio.Future": {"set_result", "set_exception"},
+    "asyncio.locks.Condition": OF_LOCKS | NOTIFIES,
+    **dict.fromkeys(["_asyncio.Future", "concurrent.futures._base.Future"], COMPLETES),
     **dict.fromkeys(["_thread.lock", "_thread.RLock", "threading._RLock", "asyncio.locks.Lock", "threading.Semaphore",
                      "threading.BoundedSemaphore", "asyncio.locks.Semaphore", "asyncio.locks.BoundedSemaphore"],
                     OF_LOCKS)}
-ENDING = frozenset().union(*WAITED_AT.values()) - {"acquire", "join", "set_result", "set_exception"}
+ENDING = frozenset().union(*WAITED_AT.values()) - {"acquire", "join"}
 # Functions in which one waits, each with the method by which it takes part in what others wait for. Whoever stands in
 # one goes on as soon as that returns or fails, and it calls nothing of the program on the way.
 ENDS = {"threading.Event.wait": "", "threading.Condition.wait": "", "socket.socket.accept": "",
@@ -183,15 +184,24 @@ ENDS = {"threading.Event.wait": "", "threading.Condition.wait": "", "socket.sock
         "asyncio.queues.Queue.join": "", "threading.Semaphore.acquire": "", "asyncio.locks.Semaphore.acquire": "",
         "asyncio.locks.Lock.acquire": "", "asyncio.locks.Event.wait": "", "asyncio.locks.Condition.wait": "",
         "asyncio.locks._ContextManagerMixin.__aenter__": "", "asyncio.tasks.wait": "", "asyncio.tasks._wait": "",
-        "asyncio.threads.to_thread": ""}
+        "asyncio.threads.to_thread": "", "threading.Condition.wait_for": "", "asyncio.locks.Condition.wait_for": "",
+        "asyncio.streams.StreamReader.__anext__": "", "concurrent.futures._base.as_completed": "",
+        "concurrent.futures._base.wait": "", "threading.Timer.run": "",
+        "contextlib._GeneratorContextManager.__enter__": "", "contextlib._GeneratorContextManager.__exit__": "",
+        "contextlib._AsyncGeneratorContextManager.__aenter__": "",
+        "contextlib._AsyncGeneratorContextManager.__aexit__": "",
+        "http.server.BaseHTTPRequestHandler.handle_one_request": "", "http.server.BaseHTTPRequestHandler.handle": "",
+        "socketserver.BaseRequestHandler.__init__": "", "socketserver.BaseServer.finish_request": "",
+        "socketserver.ThreadingMixIn.process_request_thread": ""}
 FOR_EVER = {"asyncio.base_events.Server.serve_forever"}  # which only somebody else ends, who cancels it
 # Modules of the parts by which these classes work, such as the lock of a condition, and names that make a new object.
 INNER = ("threading", "_thread", "queue", "_queue", "asyncio.locks", "asyncio.queues", "collections")
-MAKES = {"create_future", "Event", "Condition", "Lock", "RLock", "Semaphore", "BoundedSemaphore", "Queue"}
+MAKES = {"create_future", "Event", "Condition", "Lock", "RLock", "Semaphore", "BoundedSemaphore", "Queue", "Future"}
 # Functions of asyncio that begin tasks, and names of those and of its methods that make coroutines.
 BEGINS_TASKS = {"asyncio.tasks.wait_for", "asyncio.tasks.gather", "asyncio.tasks.create_task",
-                "asyncio.threads.to_thread"}
-COROUTINES = {"sleep", "readline", "readexactly", "readuntil", "drain", "wait_closed", "open_connection"}
+                "asyncio.tasks.ensure_future", "asyncio.threads.to_thread", "asyncio.tasks.run_coroutine_threadsafe"}
+COROUTINES = {"sleep", "readline", "readexactly", "readuntil", "drain", "wait_closed", "open_connection", "wait",
+              "read", "acquire", "join", "put"}
 # Modules whose methods end waits, or call functions of the program: a name that they have too isn't the program's own.
 SPECIAL = ("threading", "queue", "asyncio", "concurrent.futures", "multiprocessing", "selectors", "socketserver",
            "sched", "contextlib", "functools", "weakref", "signal", "subprocess", "socket", "ssl", "atexit", "types",
@@ -213,15 +223,23 @@ ITERATORS = (map, filter, itertools.starmap, itertools.takewhile, itertools.drop
 CALLED_BACK = {"key", "default", "object_hook", "target", "callback", "func", "initializer", "cls", "opener", "hook",
                "file", "object_pairs_hook", "parse_float", "parse_int", "parse_constant", "onerror", "onexc", "filter",
                "ignore", "copy_function", "repl", "preexec_fn", "factory", "converters", "dict_type", "interpolation",
-               "default_factory", "reporthook", "quote_via", "errors", "dict_factory", "tuple_factory", "digestmod"}
+               "predicate", "linejunk", "charjunk", "stream", "on_error", "default_factory", "reporthook", "quote_via",
+               "errors", "dict_factory", "tuple_factory", "digestmod"}
 CALLING = {"re.sub": 1, "re.subn": 1, "_functools.reduce": 0, "itertools.starmap": 0, "itertools.takewhile": 0,
            "itertools.dropwhile": 0, "itertools.filterfalse": 0,
-           "collections.defaultdict": 0, "hmac.new": 2}
+           "collections.defaultdict": 0, "hmac.new": 2, "threading.Timer": 1,
+           "difflib.SequenceMatcher": 0}
+# The same of methods, for those of the library that have the name.
+LATER = {"add_done_callback": 0, "call_soon": 0, "call_soon_threadsafe": 0, "call_later": 1, "call_at": 1,
+         "run_in_executor": 1, "wait_for": 0}
+BEGUN = {"threading.Thread", "threading.Timer", "multiprocessing.process.BaseProcess"}  # that `start` begins
 MOST_GIVEN = {"nlargest": 2, "nsmallest": 2, "walk": 2, "rmtree": 2, "copytree": 3, "move": 2, "run": 6, "call": 6,
               "check_call": 6, "check_output": 6, "urlencode": 3, "open": 3, "read_text": 1, "write_text": 2,
-              "ConfigParser": 1, "RawConfigParser": 1}
+              "ConfigParser": 1, "RawConfigParser": 1, "Thread": 0, "accumulate": 1,
+              "indent": 2, "pprint": 1, "pp": 1, "print_stack": 2, "ndiff": 2, "Differ": 0, "HtmlDiff": 2,
+              "HMAC": 2, "parse": 1}
 FILES = {"write", "writelines", "read", "readline", "readinto", "flush", "close", "seek", "tell"}
-TO_FILES = {"dump", "print_exc"}  # that write into what they are given
+TO_FILES = {"dump", "print_exc", "print_stack", "pprint", "pp", "encode", "decode", "copyfileobj"}  # that write to them
 OF_FILES = {"gzip", "bz2", "lzma", "tarfile", "zipfile", "csv", "_csv"}  # modules that write to a file
 # Attributes by which the library's objects make or call something of the program, and the modules that work by them.
 OF_OBJECTS = {"response_class", "optionxform", "header_factory", "message_factory"}
@@ -229,6 +247,7 @@ OF_NETS = ("http", "urllib", "smtplib", "email", "configparser")
 # How somebody hands a function to sqlite3, which no object shows.
 OF_QUERIES = ("create_function", "create_aggregate", "create_collation", "create_window_function", "set_authorizer",
               "set_progress_handler", "set_trace_callback", "row_factory", "text_factory")
+ANSWERS = {"send_response", "send_header", "end_headers", "send_error", "log_message"}  # methods of handlers
 SERVERS = ("socketserver", "http.server")  # whose servers and handlers call nothing but their own methods
 KEPT = {"ExitStack", "AsyncExitStack", "closing", "aclosing", "redirect_stdout", "redirect_stderr"}  # of contextlib
 # Those of the library's classes whose methods call none of what their objects keep for others to call.
@@ -236,6 +255,8 @@ KEEPING = ("threading.Thread", "threading.Timer", "multiprocessing.process.BaseP
            "concurrent.futures._base.Future", "concurrent.futures.thread._WorkItem")
 # Files of the library that make methods for classes, or a function around another one that it keeps.
 OF_CLASSES = ("dataclasses.py", "enum.py", "typing.py", "reprlib.py", "contextlib.py", "_collections_abc.py")
+WAYS = ("lt", "le", "gt", "ge")
+ORDERS = {f"_{one}_from_{other}" for one in WAYS for other in WAYS}  # functions of functools
 OF_TUPLES = {"__repr__", "_make", "_replace", "_asdict", "__getnewargs__"}  # what a namedtuple has
 CACHED = type(functools.lru_cache()(len))  # what keeps the results of a function
 BUFFERS = (io.BufferedWriter, io.BufferedReader, io.BufferedRandom)  # of plain files
@@ -244,4 +265,7 @@ PATCHED = {"math", "heapq", "bisect", "traceback", "shutil", "statistics", "text
            "base64", "hashlib", "genericpath", "contextlib", "collections", "threading", "queue", "time", "logging",
            "socket", "os", "posixpath", "asyncio", "io", "json", "selectors", "re", "csv", "gzip", "zipfile", "sqlite3",
            "urllib", "http", "smtplib", "email", "subprocess", "copy", "pickle", "glob", "fnmatch", "tomllib", "select",
-           "configparser", "functools", "itertools", "operator", "ssl", "pathlib", "datetime", "random", "builtins"}
+           "configparser", "functools", "itertools", "operator", "ssl", "pathlib", "datetime", "random", "builtins",
+           "array", "calendar", "colorsys", "concurrent", "decimal", "difflib", "fcntl", "fractions", "grp", "hmac",
+           "html", "ipaddress", "locale", "mimetypes", "platform", "posix", "pprint", "pwd", "resource", "shlex",
+           "socketserver", "stat", "string", "struct", "unicodedata", "warnings", "xml", "zlib", "zoneinfo"}

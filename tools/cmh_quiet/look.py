@@ -4,7 +4,7 @@ import gc
 import sys
 import types
 
-from .library import ENDS, FOR_EVER, SERVERS
+from .library import ENDS, FOR_EVER, SERVERS, WAITED_AT
 from .reading import Reading
 from .values import full_name, is_of_asyncio, name_of, require
 
@@ -55,13 +55,15 @@ class Look(Reading):
         """Takes what a worker of a pool does once its work is done: it tells those who wait for that, and takes the
         next. What comes later others give it."""
         self.touches.add((None, "set_result"))
-        require(not item or not any(map(self.program.is_called_back, item.future._done_callbacks)))
+        for each in filter(self.program.is_called_back, item.future._done_callbacks if item else ()):
+            self.call_known(each)
         require(frame.f_locals.get("work_queue") is not None)
         for each in self.state.items_in(frame.f_locals["work_queue"]):
             value = getattr(each.fn, "__func__", each.fn)
             require(type(value) is types.FunctionType and not self.program.is_of_library(value))
             self.follow(value, getattr(each.fn, "__self__", None))
-            require(not any(map(self.program.is_called_back, each.future._done_callbacks)))
+            for callback in filter(self.program.is_called_back, each.future._done_callbacks):
+                self.call_known(callback)
 
     def stand(self, frame, name):
         """Takes a frame of the library in which one waits. Returns whether it may return, and whether it may fail."""
@@ -69,6 +71,15 @@ class Look(Reading):
         if ENDS.get(name):
             self.touch(frame.f_locals["self"], ENDS[name])
             self.is_outside = self.is_outside or name.startswith("queue.")
+        own = frame.f_locals.get("self")
+        if name.endswith("Condition.wait_for"):
+            self.call_known(frame.f_locals["predicate"])
+        if name == "threading.Timer.run":
+            self.expire(own)
+        if name == "socketserver.ThreadingMixIn.process_request_thread":
+            self.serve(own)
+        for kind in type(own).__mro__ if name.startswith(SERVERS) else ():
+            self.serve_by(kind)
         return (False, False) if name in FOR_EVER else (True, True)
 
     def stay(self, frame, name, ways):
@@ -83,6 +94,14 @@ class Look(Reading):
         self.program.objects[id(values["self"])] = values["self"]
         self.needs.add(id(values["self"]))
         return (False, not is_thread)
+
+    def expire(self, timer):
+        """Takes what a timer calls once its time is over."""
+        value = timer.function
+        owner = full_name(type(getattr(value, "__self__", None)))
+        require("function" not in self.program.late and (self.program.is_called_back(value) or owner in WAITED_AT))
+        self.call_known(value)
+        self.touch(timer.finished, "set")
 
     def is_steady(self):
         """Whether it raises no error on purpose, and none that comes from outside."""

@@ -5,9 +5,13 @@ import os
 import sys
 import types
 
-from .library import COROUTINES, ENDING, HARMLESS, MAKES, MOST_GIVEN, OF_CLASSES, OF_TUPLES, OWNERS
+from .library import (COROUTINES, ENDING, HARMLESS, MAKES, MOST_GIVEN, OF_CLASSES, OF_TUPLES, ORDERS, OWNERS,
+                      WAITED_AT)
 from .steps import CALLS, STORING, call_of, start_of
-from .values import BEGINNING, Fresh, NotKnown, Own, require, step_into
+from .values import BEGINNING, Fresh, NotKnown, Own, full_name, require, step_into
+
+MOST = 400  # functions that are looked at for one thread or task
+LOADS = ("LOAD_FAST", "LOAD_GLOBAL", "LOAD_NAME", "LOAD_DEREF")
 
 
 class Names:
@@ -22,19 +26,20 @@ class Names:
         self.is_outside = self.is_serving = self.is_sharing = self.is_limited = False
         self.needs, self.stores, self.ahead, self.given, self.constants = set(), set(), None, (), ()
         self.returns = self.is_raising = False
-        self.taken = set()
+        self.taken, self.bound, self.code = set(), {}, None
 
     def touch(self, value, word):
         self.program.objects[id(value)] = value
         self.touches.add((id(value), word))
 
-    def follow(self, function, own=None):
-        """Looks at a function later, as a method of an object, if that is known. One that the library has made for a
-        class runs the function that it wraps."""
+    def follow(self, function, own=None, given=()):
+        """Looks at a function later, as a method of an object and with arguments, if these are known. One that the
+        library has made for a class runs the function that it wraps."""
         code = function.__code__
-        if not self.state.is_standard(code.co_filename):
+        is_order = code.co_filename == functools.__file__ and code.co_name in ORDERS
+        if is_order or not self.state.is_standard(code.co_filename):
             first = code.co_varnames[:1] if code.co_argcount and own is not None else ()
-            places = {**self.state.cells_in(function), **{name: own for name in first}}
+            places = {**dict(given), **self.state.cells_in(function), **{name: own for name in first}}
             self.todo.append((code, function.__globals__, places, None))
             return
         inner = self.state.attributes_of(function).get("__wrapped__")
@@ -43,6 +48,11 @@ class Names:
         require(is_made and type(inner) in (types.FunctionType, type(None)))
         if inner is not None:
             self.follow(inner)
+
+    def write_to(self, is_writing):
+        """Something of the library writes to what it is given."""
+        self.flags.update(["writes_plainly"] if is_writing else ())
+        self.follow_named(["write"] if is_writing else ())
 
     def follow_named(self, names):
         for name, function in [(name, each) for name in names for each in self.program.functions.get(name, ())]:
@@ -77,6 +87,58 @@ class Names:
         else:
             value = names.get(first.argval, NotKnown) if first.opname in ("LOAD_GLOBAL", "LOAD_NAME") else NotKnown
         return functools.reduce(step_into, inner, value)
+
+    def arguments(self, function, steps, at, names, places, start=0):
+        """What the arguments stand for that a call of what a step loads has, by the function's own names for them, of
+        those for which that is known."""
+        call = call_of(steps, at) if steps and len(self.seen) < MOST // 2 else None
+        if call is None or steps[call].opname not in ("CALL", "CALL_KW"):
+            return {}
+        end, code = call - 1, function.__code__
+        words = steps[end].argval if steps[call].opname == "CALL_KW" else ()
+        while steps[end].opname in ("PRECALL", "KW_NAMES") or end == call - 1 and words:
+            words = self.constants[steps[end].arg] if steps[end].opname == "KW_NAMES" else words
+            end -= 1
+        values = self.loaded(steps, end, steps[call].arg, names, places)
+        given = code.co_varnames[start:code.co_argcount]
+        named = code.co_varnames[code.co_posonlyargcount:code.co_argcount + code.co_kwonlyargcount]
+        rows = [*zip(given, values[:len(values) - len(words)])]
+        rows += [row for row in zip(words, values[len(values) - len(words):]) if row[0] in named]
+        return {name: value for name, value in rows if value is not NotKnown}
+
+    def loaded(self, steps, end, count, names, places):
+        """What some arguments stand for whose last ends at a step: functions, methods, what others wait at and objects
+        of the program."""
+        found = []
+        for _ in range(count):
+            start = start_of(steps, end)
+            if start is None:
+                return []
+            found.append(self.argument(steps, start, end, names, places))
+            end = start - 1
+        return found[::-1]
+
+    def argument(self, steps, start, end, names, places):
+        is_path = steps[start].opname in LOADS and all(
+            step.opname == "LOAD_ATTR" and not step.is_jump_target for step in steps[start + 1:end + 1])
+        if not is_path or steps[start].is_jump_target:
+            return NotKnown
+        value = self.owner_of(steps, end + 1, names, places)
+        if value is NotKnown and end > start:
+            return self.method(steps[end].argval, self.owner_of(steps, end, names, places))
+        is_own = not isinstance(value, type) and not self.state.is_library(type(value))
+        is_taken = self.program.is_called_back(value) or full_name(type(value)) in WAITED_AT or is_own
+        return value if is_taken and value is not Fresh and type(value) is not Own else NotKnown
+
+    def method(self, name, owner):
+        """The method of a known object, always the same one, if it is the program's, or of what others wait at."""
+        function = self.exact(name, owner)
+        if function is None and name in WAITED_AT.get(full_name(type(owner)), ()) \
+                and name not in self.state.attributes_of(owner):
+            function = getattr(type(owner), name)
+        if type(function) is not types.FunctionType:
+            return NotKnown
+        return self.bound.setdefault((id(owner), name), types.MethodType(function, owner))
 
     def variable(self, steps, name, names, places):
         """What a variable stands for, if it is stored nowhere, or at one step alone what that has loaded. One for which

@@ -2,7 +2,9 @@
 import collections
 import functools
 import gc
+import itertools
 import logging
+import re
 import signal
 import sys
 import threading
@@ -11,9 +13,14 @@ import warnings
 import weakref
 
 from .library import HARMLESS, ITERATORS, KEPT, OF_OBJECTS, OF_QUERIES, OWNERS, PATCHED, PLAIN_HANDLERS
-from .values import ACTING, SUSPENDED, SUSPENDING, is_end_of, is_file, is_list_of, monitors, require
+from .steps import start_of, steps_of
+from .values import (ACTING, SUSPENDED, SUSPENDING, full_name, is_begin_of, is_end_of, is_file, is_list_of, monitors,
+                     require)
 
 FROZEN = 2000  # objects that Python itself hides from a look at all, at most; a program that hides its own has more
+
+# The types of what holds a generator that it goes on with itself.
+HOLDS_ALONE = ("frame", "coroutine", "async_generator_asend", "async_generator_athrow")
 
 
 class Premises:
@@ -35,7 +42,8 @@ class Premises:
         weak = [each.__callback__ for each in gc.get_objects() if issubclass(type(each), weakref.ref)]
         inner = sys.modules.get("multiprocessing.util")
         weak += [getattr(each, "_callback", None) for each in list(getattr(inner, "_finalizer_registry", {}).values())]
-        weak = [each for each in weak if not isinstance(getattr(each, "__self__", None), (weakref.ref, tuple))]
+        weak = [each for each in weak if not isinstance(getattr(each, "__self__", None), (weakref.ref, tuple))
+                and (type(each) is not types.MethodType or full_name(each) != "multiprocessing.heap.Heap.free")]
         are_plain = are_plain and not any(map(self.may_act, weak))
         return all(hooks) and are_plain and all(map(self.is_of_library, finals)) and not self.is_patched()
 
@@ -102,14 +110,15 @@ class Premises:
         coder = getattr(sys.modules.get("json"), "_default_decoder", None)
         values = list(self.state.attributes_of(coder).values())
         is_plain = type(coder).__name__ == "JSONDecoder" and self.state.is_library(type(coder))
-        return is_plain and not any(map(self.is_called_back, values)) and not self.functions.get("read")
+        return is_plain and not any(map(self.is_called_back, values)) and "read" not in self.stored
 
     def queries_plainly(self):
         """Whether sqlite3 calls nothing of the program: no file of it hands it a function, and no adapter is its."""
         module = sys.modules.get("sqlite3")
         tables = [getattr(module, name, {}) for name in ("adapters", "converters")]
         values = [value for table in tables for value in list(table.values())]
-        return all(map(self.is_of_library, values)) and not any(name in self.stored for name in OF_QUERIES) \
+        stored = {name for name in OF_QUERIES if name in self.stored}
+        return all(map(self.is_of_library, values)) and not stored - ({"row_factory"} if self.makes_rows else set()) \
             and all(map(self.hands_no_function, list(sys.modules)))
 
     def hands_no_function(self, name):
@@ -119,7 +128,16 @@ class Premises:
             return True
         with open(path, "rb") as text:
             found = text.read()
-        return not any(word.encode() in found for word in OF_QUERIES) and path.endswith(".py")
+        rows = re.sub(rb"\brow_factory = sqlite3\.Row\b", b"", found)
+        return not any(word.encode() in rows for word in OF_QUERIES) and path.endswith(".py")
+
+    @functools.cached_property
+    def makes_rows(self):
+        """Whether all that makes what a query returns is the class of sqlite3 for that."""
+        steps = [steps_of(code) for code in self.codes if "row_factory" in code.co_names]
+        ends = [(rows, start_of(rows, at - 1) or 2) for rows in steps for at, step in enumerate(rows)
+                if step.opname == "STORE_ATTR" and step.argval == "row_factory"]
+        return all([step.argval for step in rows[end - 2:end]] == ["sqlite3", "Row"] for rows, end in ends)
 
     def asks_plainly(self):
         """Whether what asks and sends by the network calls nothing of the program."""
@@ -130,7 +148,7 @@ class Premises:
             and OF_OBJECTS.isdisjoint(self.stored) and all(map(self.is_of_library, values))
 
     def writes_plainly(self):
-        return not self.functions.get("write") and "write" not in self.stored
+        return "write" not in self.stored
 
     def copies_plainly(self):
         made = [self.functions.get(name) for name in ("__reduce__", "__reduce_ex__", "__getnewargs_ex__")]
@@ -139,6 +157,27 @@ class Premises:
 
     def forks_plainly(self):
         return signal.getsignal(signal.SIGCHLD) in (signal.SIG_DFL, signal.SIG_IGN, None)
+
+    def completes_plainly(self):
+        """Whether no future that there is calls something of the program once it is completed."""
+        module = sys.modules.get("concurrent.futures._base")
+        kinds = {getattr(each, "Future", self) for each in (sys.modules.get("_asyncio"), module)}
+        some = [each for each in gc.get_objects() if type(each) in kinds]
+        called = [row for each in some for row in (getattr(each, "_callbacks", None) or ())]
+        called += [(row,) for each in some for row in getattr(each, "_done_callbacks", ())]
+        return not any(self.is_called_back(row[0]) for row in called)
+
+    def begins_plainly(self):
+        """Whether all threads and processes have begun, and `start` begins nothing else that there is."""
+        processes = getattr(sys.modules.get("multiprocessing.process"), "BaseProcess", threading.Thread)
+        begun = [each._started.is_set() for each in gc.get_objects() if issubclass(type(each), threading.Thread)]
+        begun += [getattr(each, "_popen", True) is not None for each in gc.get_objects()
+                  if issubclass(type(each), processes)]
+        kinds = {kind for each in gc.get_objects() for kind in type(each).__mro__ if "start" in kind.__dict__}
+        kinds = [kind for kind in kinds if type(kind.__dict__["start"]) is types.FunctionType]
+        others = [kind for kind in kinds if self.state.is_library(kind)
+                  and not issubclass(kind, (threading.Thread, self.state.Printer, processes))]
+        return all(begun) and not others
 
     def has_no_barriers(self):
         """Whether there is nothing that one ends others' waits at by waiting there too."""
@@ -164,8 +203,14 @@ class Premises:
         """What lies somewhere and runs code of the program once it is iterated or closed: generators that are
         suspended and coroutines that nobody awaits. None if a map or an exit stack is among it."""
         found = [value for value in gc.get_objects() if self.may_run(value)]
-        found = [value for value in found if not self.is_of_block(value)]
+        found = [value for value in found if not self.is_of_block(value) and not self.is_on_stack(value, found)]
         return found if all(type(value) in SUSPENDING for value in found) else None
+
+    def is_on_stack(self, value, found):
+        """Whether a generator runs in a thread or task, which alone has it."""
+        frame = getattr(value, dict(SUSPENDED)[type(value)]) if type(value) in SUSPENDING else None
+        others = gc.get_referrers(value) if id(frame) in self.there else [value]
+        return all(each is found or type(each).__name__ in HOLDS_ALONE for each in others)
 
     def is_of_block(self, value):
         """Whether a generator is that of a block alone, as contextlib makes it: only the end of the block has it."""
@@ -178,14 +223,15 @@ class Premises:
         known = {*map(id, ends), *map(id, (ends, first, self.state.attributes_of(owner), owner))}
         known |= {id(frame.f_locals) for frames, _ in self.stacks.values() for frame, _ in frames}
         others = [each for each in first + second if id(each) not in known and type(each) is not types.FrameType]
+        others = list(itertools.filterfalse(functools.partial(is_begin_of, owner), others))
         return bool(ends) and all(map(functools.partial(is_list_of, value), others))  # (that of this search)
 
     def may_run(self, value):
         for kind, name in SUSPENDED:
             if type(value) is kind:
                 frame = getattr(value, name)
-                return frame is not None and id(frame) not in self.there and not self.state.is_standard(
-                    frame.f_code.co_filename)
+                is_running = frame is not None and id(frame) in self.there and kind is types.CoroutineType
+                return frame is not None and not is_running and not self.state.is_standard(frame.f_code.co_filename)
         is_kept = any(kind.__name__ in KEPT for kind in type(value).__mro__)
         calls = self.state.attributes_of(value).get("_exit_callbacks", True) if is_kept else ()
         return bool(calls) or type(value) in ITERATORS and any(map(self.may_act, gc.get_referents(value)))

@@ -7,7 +7,7 @@ import sys
 import threading
 import types
 
-from .library import HARMLESS, INNER, KEEPING, NOTIFIES
+from .library import COMPLETES, HARMLESS, INNER, KEEPING, NOTIFIES, SERVERS
 from .look import Look, is_idle, is_idle_loop
 from .premises import Premises
 from .steps import CHANGES, cells_stored, changes_in, sets_any, steps_of, watches, way_ahead
@@ -34,8 +34,11 @@ class Program(Premises):
         self.sets_any = any(sets_any(code) or not ADDING.isdisjoint(self.functions)
                             for code in self.own_codes(codes) if SETTING.intersection(code.co_names))
         codes |= self.other_codes()
-        for code in self.own_codes(codes):
+        self.codes = self.own_codes(codes)
+        for code in self.codes:
             self.stored.update(step.argval for step in steps_of(code) if step.opname == "STORE_ATTR")
+            is_setting = "__setattr__" in code.co_names
+            self.stored.update(value for value in code.co_consts if is_setting and type(value) is str)
         self.special, self.known = names_of_special(), {}
         self.look_at_objects(codes)
         self.there = {id(frame) for frames, _ in stacks.values() for frame, _ in frames}
@@ -136,6 +139,18 @@ class Program(Premises):
         return {name for name, value in values if callable(value)}.union(inner)
 
     @functools.cached_property
+    def methods(self):
+        """The classes of the library that have a method or the like, by its name."""
+        found, left = collections.defaultdict(set), [object]
+        while left:
+            kind = left.pop()
+            left += [each for each in type.__subclasses__(kind) if each not in found[None]]
+            found[None].update(type.__subclasses__(kind))
+            for name in kind.__dict__ if self.state.is_library(kind) else ():
+                found[name].add(kind)
+        return found
+
+    @functools.cached_property
     def makers(self):
         """The codes of class methods, each with the classes of which it may be called, but for those that a name stands
         for as plain functions too."""
@@ -185,9 +200,9 @@ class Program(Premises):
 
     def is_override(self, kind, name):
         """Whether a method stands for one of a class of the library: its own code may call it. Only a thread's or a
-        process's begin calls `run`."""
-        return name != "run" and any(name in each.__dict__ for each in kind.__mro__[1:]
-                                     if self.state.is_library(each) and each is not object)
+        process's begin calls `run`, and only servers and handlers call their own."""
+        return name != "run" and any(name in each.__dict__ for each in kind.__mro__[1:] if self.state.is_library(each)
+                                     and each is not object and each.__module__ not in SERVERS)
 
     @functools.cached_property
     def coroutines(self):
@@ -268,7 +283,7 @@ class Program(Premises):
         """What is known of one all of whose code is: it calls nothing that cancels, kills or ends others. Who awaits
         what others have too cancels that when he is cancelled himself."""
         is_sharing = key in self.looks and self.looks[key].is_sharing
-        sets = any(word in ("set_result", "set_exception") and number is not None for number, word in touched)
+        sets = any(word in COMPLETES and (number is not None or word == "set_exception") for number, word in touched)
         return {"ends": [], "releases": any(map(self.is_release, touched)), **({} if is_sharing else {"holds": []}),
                 **({} if sets else {"cancels": False})}
 
@@ -282,12 +297,22 @@ class Program(Premises):
         """Whether a wait at an object that ends by some words, or by its release, may end by what is touched."""
         parts = self.parts_of(value)
         for number, word in touched:
+            if word in COMPLETES and id(value) in self.told_by_futures:
+                return True
             if number is not None and not parts.isdisjoint(self.parts_of(self.objects[number])):
                 return True
             is_word = word == "release" if words is None else word in words or word in NOTIFIES
             if number is None and is_word:
                 return True
         return False
+
+    @functools.cached_property
+    def told_by_futures(self):
+        """The numbers of what the futures of pools tell of their end: their conditions, and the events of who waits for
+        several."""
+        some = [self.state.attributes_of(each) for each in gc.get_objects()
+                if type(each).__module__ == "concurrent.futures._base"]
+        return {id(each.get(name)) for each in some for name in ("_condition", "event", "lock")} - {id(None)}
 
     def parts_of(self, value):
         """The numbers of an object and of those of the library by which it works, such as the lock of a condition."""

@@ -7,11 +7,12 @@ import types
 
 from .calls import Calls
 from .library import KEEPERS, OF_FILES, OF_NETS, PLAIN_BLOCKS, WAITED_AT
-from .steps import BLOCKS, CALLS, CHECKS, STORING, given_to, is_in_for, method_of_call, steps_of, way_ahead
+from .names import MOST
+from .steps import BLOCKS, CALLS, CHECKS, STORING, call_of, given_to, is_in_for, method_of_call, steps_of, way_ahead
 from .values import (DYNAMIC, OF_BLOCKS, SUSPENDED, SUSPENDING, NotKnown, Own, full_name, is_in_table, kept_by,
                      may_keep, require, step_into)
 
-MOST = 400  # functions that are looked at for one thread or task
+GENERATORS = 0x220  # the flags of codes of these
 BY_OBJECTS = {"has_no_iterators", "has_no_factories"}  # what rests on objects that are looked at
 # Steps that aren't followed: what they run isn't named in the code.
 REFUSED = {"LOAD_BUILD_CLASS", "MATCH_KEYS", "IMPORT_STAR", "LOAD_FROM_DICT_OR_GLOBALS"}
@@ -57,7 +58,7 @@ class Reading(Calls):
     def read(self, code, names, places, ahead):
         """Looks at the steps of a code, or some of them. `names` are its globals, `places` what its variables stand
         for, if that is known."""
-        steps, self.constants = steps_of(code), code.co_consts
+        steps, self.constants, self.code = steps_of(code), code.co_consts, code
         if code in self.program.makers:
             places = {code.co_varnames[0]: Own(self.program.makers[code]), **places}
         for at in range(len(steps)) if ahead is None else ahead:
@@ -70,6 +71,7 @@ class Reading(Calls):
             self.flags.update(["has_no_factories"] if is_taking else ())
             if step.opname == "CALL_FUNCTION_EX" and step.arg & 1:
                 self.call_by_names(steps, at, names, places)
+            self.follow_named(["keys"] if step.opname in ("DICT_UPDATE", "DICT_MERGE") else ())
             if step.opname == "MATCH_CLASS":
                 self.match(steps, at)
             if step.opname == "IMPORT_NAME":
@@ -81,7 +83,7 @@ class Reading(Calls):
                 for _, name, value in self.program.alive if step.opname in BLOCKS else ():
                     self.load(value if name in OF_BLOCKS else None)
             elif step.opname == "MAKE_FUNCTION":
-                require(steps[at + 1].opname not in CALLS)  # (a decorator)
+                require(steps[at + 1].opname not in CALLS or steps[at + 1].arg)  # (a decorator)
             elif step.opname in ("LOAD_CONST", "KW_NAMES"):
                 value = code.co_consts[step.arg] if step.opname == "KW_NAMES" else step.argval
                 self.read_constant(value, steps, at, names, places)
@@ -119,9 +121,10 @@ class Reading(Calls):
             self.call_any(steps, at, names, places)
 
     def take(self, frame, ways, coroutine=None):
-        """Takes what a frame comes to once the call in it returns or fails, as `ways` say. Returns the same of it."""
+        """Takes what a frame comes to once the call in it returns or fails, as `ways` say. Returns the same of it. A
+        generator goes on later too, and hands on what it yields meanwhile."""
         code = frame.f_code
-        require(not code.co_flags & 0x220)  # (it is no generator)
+        ways = (True, True) if code.co_flags & GENERATORS else ways
         require(not any(isinstance(value, SUSPENDING) for value in list(frame.f_locals.values())))
         self.flags.update(["has_no_iterators"] if may_keep(list(frame.f_locals.values())) else ())
         if coroutine is None or getattr(coroutine, "cr_running", True):
@@ -137,7 +140,7 @@ class Reading(Calls):
         self.todo.append((code, frame.f_globals, frame.f_locals, ahead))
         self.flags.update(["has_no_iterators"] if is_in_for(code, frame.f_lasti) else ())
         self.flags.update(["has_no_iterators"] if any(step.opname == "GET_ANEXT" for step in steps_of(code)) else ())
-        return ways
+        return (True, True) if code.co_flags & GENERATORS else ways
 
     def decide(self, steps, frame):
         """The places of the steps that jump by an event, or by an attribute that is a bool, each with whether they do
@@ -171,9 +174,10 @@ class Reading(Calls):
     def leave(self, value, frame=None, steps=()):
         """Takes the end of a block that one is in, of an object, or of what some steps make."""
         is_made = any(step.opname in CALLS for step in steps)
-        if is_made:
-            value = self.state.first_in(frame, steps)
-            require(self.state.is_harmless(value))
+        if is_made and not self.leave_called(frame, steps):
+            require(self.state.is_harmless(self.state.first_in(frame, steps)))
+        elif is_made:
+            return
         elif full_name(type(value)) in WAITED_AT:
             names = [step.argval for step in steps if step.opname in ("LOAD_ATTR", "LOAD_GLOBAL", "LOAD_METHOD")]
             require(self.program.late.isdisjoint(names))
@@ -184,13 +188,32 @@ class Reading(Calls):
             kind = type(value)
             require(kind.__module__ in PLAIN_BLOCKS and not isinstance(value, KEEPERS))
             self.flags.update(["queries_plainly"] if kind.__module__ == "sqlite3" else ())
-            self.flags.update(["writes_plainly"] if kind.__module__ in OF_FILES else ())
+            self.write_to(kind.__module__ in OF_FILES)
             self.flags.update(["asks_plainly"] if kind.__module__.startswith(OF_NETS) else ())
         else:
             ends = [self.exact(name, value) for name in ("__exit__", "__aexit__")]
             require(any(ends))
             for each in filter(None, ends):
                 self.follow(each, value)
+
+    def leave_called(self, frame, steps):
+        """Takes the end of a block that a generator is, which the program's own function makes. Returns whether that
+        is."""
+        loads = [at for at, step in enumerate(steps[:-1]) if step.opname in ("LOAD_GLOBAL", "LOAD_METHOD", "LOAD_ATTR")
+                 and call_of(steps, at) == len(steps) - 1]
+        name, owner = steps[loads[0]].argval if loads else None, None
+        if not loads or name in self.program.late:
+            return False
+        value = frame.f_globals.get(name)
+        if steps[loads[0]].opname != "LOAD_GLOBAL":
+            owner = self.owner_of(steps, loads[0], frame.f_globals, frame.f_locals)
+            value = self.exact(name, owner)
+        inner = self.state.attributes_of(value).get("__wrapped__")
+        is_block = type(value) is types.FunctionType and value.__code__.co_filename == contextlib.__file__
+        if not is_block or type(inner) is not types.FunctionType or not inner.__code__.co_flags & GENERATORS:
+            return False
+        self.follow(inner, owner)
+        return True
 
     def resume(self, value):
         """Takes what a generator or a coroutine that is suspended comes to, by any way."""

@@ -3,7 +3,7 @@ import dis
 import functools
 import sys
 
-from .library import ENCODINGS
+from .library import ENCODINGS, PLAIN_ERRORS
 from .values import BEGINNING, SETTING
 
 JUMPS = {*dis.hasjrel, *dis.hasjabs}
@@ -156,11 +156,19 @@ def arguments_after(steps, at):
     return next((step.arg for step in steps[at + 1:] if step.opname in ("CALL", "CALL_KW", "CALL_FUNCTION_EX")), 0)
 
 
-def is_encoding(steps, at):
+def is_encoding(steps, at, constants):
     """Whether a call of a method has no more than the name of an encoding that Python knows: one of the program may be
     called, and a handler of errors."""
-    count = arguments_after(steps, at)
-    return count == 0 or count == 1 and steps[at + 1].argval in ENCODINGS and type(steps[at + 1].argval) is str
+    call = call_of(steps, at)
+    given = [step for step in steps[at + 1:call] if step.opname not in ("PRECALL", "PUSH_NULL")] if call else None
+    if given is None or any(step.opname not in ("LOAD_CONST", "KW_NAMES") for step in given):
+        return arguments_after(steps, at) == 0
+    is_named = bool(given) and given[-1].opname == "KW_NAMES" or steps[call].opname == "CALL_KW"
+    words = constants[given.pop().arg] if is_named else ()
+    kinds = ["encoding", "errors"][:len(given) - len(words)] + [*words]
+    return len(kinds) == len(given) and all(
+        type(step.argval) is str and step.argval in (PLAIN_ERRORS if kind == "errors" else ENCODINGS)
+        for kind, step in zip(kinds, given))
 
 
 def method_of_call(steps, at):
@@ -176,10 +184,14 @@ def method_of_call(steps, at):
     return start if is_method and len(given) == steps[at].arg else 0
 
 
+def names_in(step):
+    """The variables that a step loads or stores."""
+    return step.argval if type(step.argval) is tuple else (step.argval,)
+
+
 def own_of(step):
     """The variable that a step loads last."""
-    some = step.argval if type(step.argval) is tuple else (step.argval,)
-    return {*some[-1:]} if step.opname.startswith("LOAD_FAST") else set()
+    return {*names_in(step)[-1:]} if step.opname.startswith("LOAD_FAST") else set()
 
 
 def given_to(code):

@@ -21,6 +21,10 @@ MADE_BY = {"__new__", "__init__", "__post_init__", "__init_subclass__", "__set_n
            "__prepare__"}
 FINDERS = {"__getattr__", "__getattribute__"}
 BEGINNING = ("__init__", "__post_init__")
+# What a call by its name does is done by a step too: of the program's objects it is looked at anyway.
+COMPARES = {"__lt__", "__le__", "__gt__", "__ge__", "__eq__", "__ne__", "__hash__", "__repr__", "__str__", "__len__",
+            "__bool__"}
+SETTERS = {"__setattr__": 2, "__delattr__": 1}  # with the number of arguments
 OF_BLOCKS = {"__enter__", "__exit__", "__aenter__", "__aexit__"}
 ENDS_ALL = (SystemExit, KeyboardInterrupt, GeneratorExit)  # that end an event loop too
 SUSPENDING = (types.GeneratorType, types.CoroutineType, types.AsyncGeneratorType)
@@ -138,6 +142,11 @@ def is_end_of(value, end):
     """Whether something ends the block of a generator, as contextlib makes it."""
     is_one = type(end) is types.MethodType and end.__name__ in ("__exit__", "__aexit__")
     return is_one and isinstance(end.__self__, contextlib._GeneratorContextManagerBase) and end.__self__.gen is value
+
+
+def is_begin_of(owner, value):
+    """Whether something begins a block, as it is while that begins."""
+    return type(value) is types.MethodType and value.__self__ is owner and value.__name__ in ("__enter__", "__aenter__")
 
 
 def is_list_of(value, some):

@@ -151,6 +151,15 @@ def quiet_waiter():
         last = now if now != last else last
 
 
+def quiet_waiter_at_any():
+    for each in (stop, stop):
+        each.wait(1000)
+
+
+def write():
+    """Is no method, so that nothing of the library calls it that writes."""
+
+
 def quiet_acceptor():
     server = socket.create_server(("127.0.0.1", 0))
     while True:
@@ -168,6 +177,7 @@ def quiet_files():
 
 def quiet_queries():
     files = sqlite3.connect(":memory:")
+    files.row_factory = sqlite3.Row
     while True:
         time.sleep(1000)
         with files:

@@ -7,21 +7,30 @@ Writes the names of those that cmh_quiet takes for such that don't end the wait 
 whether the main thread is among them. MAIN is a name in MAINS: what the main thread does meanwhile.
 """
 import asyncio
+import calendar
+import codecs
 import collections
 import contextlib
 import copy
 import csv
+import dataclasses
+import difflib
 import functools
 import heapq
 import json
 import logging
 import operator
 import os
+import pprint
 import queue
 import random
 import re
+import socket
+import socketserver
 import sqlite3
+import struct
 import sys
+import textwrap
 import threading
 import time
 from concurrent import futures
@@ -36,14 +45,15 @@ gate, bell, slots = threading.Event(), threading.Condition(), threading.Semaphor
 other: "queue.Queue[object]" = queue.Queue()
 stop, quit_now, left = threading.Event(), threading.Event(), threading.Event()
 latch, stats_lock = threading.Lock(), threading.Lock()
+order, chime = futures.Future(), threading.Condition()
 PUTS, NOTIFIES = {"put", "put_nowait", "shutdown"}, {"notify", "notify_all", "notifyAll"}
 PLACES = {"box": (box, PUTS), "gate": (gate, {"set"}), "bell": (bell, NOTIFIES), "slots": (slots, None),
-          "latch": (latch, None)}
+          "latch": (latch, None), "result": (getattr(order, "_condition"), NOTIFIES)}
 counts: "collections.Counter[str]" = collections.Counter()
 seen: "dict[int, float]" = {}
 lazy: "dict[int, object]" = {}
 heap: "list[float]" = []
-pool = futures.ThreadPoolExecutor(1)
+pool, telling = futures.ThreadPoolExecutor(1), futures.ThreadPoolExecutor(1, "frees_gate_by_telling")
 
 
 class Opener(threading.Event):
@@ -144,6 +154,60 @@ class Periodic:
             self.action()
 
 
+@functools.total_ordering
+class Size:
+    def __init__(self, size):
+        self.size = size
+
+    def __eq__(self, other):
+        return self.size == other.size
+
+    def __lt__(self, other):
+        return self.size < other.size
+
+
+@functools.total_ordering
+class LoudSize(Size):
+    def __lt__(self, other):
+        gate.set()
+        return True
+
+
+@dataclasses.dataclass(frozen=True)
+class Frozen:
+    name: str
+    size: int = 0
+
+
+class Sly:
+    """Its attributes become others than those that are set."""
+
+    def __setattr__(self, name, value):
+        super().__setattr__(name, value.put)
+
+
+class Begins:
+    def __init__(self, out):
+        object.__setattr__(self, "out", out)
+
+
+class Handling(socketserver.StreamRequestHandler):
+    """Takes its name from its server, and waits."""
+
+    def handle(self):
+        threading.current_thread().name = self.server.name
+        pause()
+
+
+class OpeningAtTheEnd(Handling):
+    def finish(self):
+        gate.set()
+
+
+class Server(socketserver.ThreadingTCPServer):
+    name, daemon_threads = "", True
+
+
 def upper(match):
     return match.group().upper()
 
@@ -167,6 +231,7 @@ def opened(number):
 
 
 first, last = Stage(other), Stage(box)
+sizes, frame, frozen = [Size(1), Size(2)], struct.Struct("!I"), Frozen("a")
 rows, bomb = [Row("a", 1), Row("b", 2)], Bomb()
 made: dict = collections.defaultdict(numbers)
 odd_made: dict = collections.defaultdict(list)
@@ -245,6 +310,259 @@ def push(item, to=None):
     if to is None:
         to = first.out
     to.put(item)
+
+
+def opens_later():
+    if counts["late"]:
+        gate.set()
+
+
+def note(*row):
+    counts["noted"] += 1
+
+
+def act(action, *rest):
+    action(*rest)
+
+
+def act_by_name(rounds, *, action=note):
+    action(rounds)
+
+
+def act_otherwise(action):
+    action = last.hand_on if counts["a"] else action
+    action()
+
+
+def pauses():
+    while True:
+        pause()
+        yield 1
+
+
+def pauses_and_opens():
+    pause()
+    yield 1
+    gate.set()
+
+
+@contextlib.contextmanager
+def counting():
+    try:
+        yield
+    finally:
+        counts["leases"] += 1
+
+
+@contextlib.contextmanager
+def counting_slowly():
+    pause()
+    yield
+    counts["leases"] += 1
+
+
+@contextlib.contextmanager
+def slow_lease():
+    try:
+        pause()
+        yield
+    finally:
+        slots.release()
+
+
+def spares_until_it_is_so():
+    with chime:
+        chime.wait_for(lambda: counts["never"], 1000)
+
+
+def spares_by_waiting_until_it_is_so():
+    while True:
+        pause()
+        with chime:
+            chime.wait_for(lambda: counts["never"], 1000)
+
+
+def frees_gate_until_it_is_so():
+    with chime:
+        chime.wait_for(opens_later, 1000)
+
+
+def frees_gate_by_waiting_until_it_is_so():
+    while True:
+        pause()
+        with chime:
+            chime.wait_for(opens, 1000)
+
+
+def spares_by_a_timer():
+    while True:
+        pause()
+        threading.Timer(1000, first.bump).start()
+
+
+def frees_gate_by_a_timer():
+    while True:
+        pause()
+        threading.Timer(1000, opens).start()
+
+
+def spares_by_a_thread():
+    while True:
+        pause()
+        threading.Thread(target=first.bump, daemon=True).start()
+
+
+def frees_box_by_a_thread():
+    while True:
+        pause()
+        threading.Thread(target=last.hand_on, daemon=True).start()
+
+
+def frees_box_by_a_thread_of_two():
+    while True:
+        pause()
+        threading.Thread(None, last.hand_on).start()
+
+
+def spares_by_its_own_future():
+    while True:
+        pause()
+        done = futures.Future()
+        done.add_done_callback(note)
+        done.set_result(1)
+
+
+def frees_result():
+    while True:
+        pause()
+        order.set_result(1)
+
+
+def frees_result_by_any():
+    while True:
+        pause()
+        for each in (order, futures.Future()):
+            each.set_exception(ValueError("enough"))
+
+
+def frees_gate_by_a_done_callback():
+    while True:
+        pause()
+        futures.Future().add_done_callback(opens)
+
+
+def spares_by_ordering():
+    while True:
+        pause()
+        log.info("%s %s", max(sizes) >= sizes[0], frozen == Frozen("b"))
+
+
+def frees_box_by_beginning_and_setting():
+    out = Begins(box)
+    while True:
+        pause()
+        out.out.put(1)
+
+
+def spares_by_what_it_is_given():
+    while True:
+        pause()
+        act(first.bump)
+        act(first.out.put, 1)
+        act_by_name(1, action=note)
+
+
+def frees_box_by_what_it_is_given():
+    while True:
+        pause()
+        act(last.hand_on)
+
+
+def frees_box_by_a_method_that_it_is_given():
+    while True:
+        pause()
+        act(box.put, 1)
+
+
+def frees_gate_by_a_name_that_it_is_given():
+    while True:
+        pause()
+        act_by_name(1, action=opens)
+
+
+def frees_box_by_another_than_given():
+    while True:
+        pause()
+        act_otherwise(first.bump)
+
+
+def spares_in_a_generator():
+    for _ in pauses():
+        first.bump()
+
+
+def frees_gate_in_a_generator():
+    for _ in pauses_and_opens():
+        first.bump()
+
+
+def spares_in_a_block_of_a_call():
+    with counting():
+        pause()
+
+
+def spares_on_the_way_into_a_block():
+    with counting_slowly():
+        first.bump()
+
+
+def frees_slots_in_a_block_of_a_call():
+    with lease():
+        pause()
+
+
+def frees_slots_on_the_way_into_a_block():
+    with slow_lease():
+        first.bump()
+
+
+def spares_by_whole_modules():
+    while True:
+        pause()
+        text = pprint.pformat(calendar.monthrange(2026, 1 + counts["a"])) + textwrap.dedent(" a")
+        log.info("%s %s", frame.unpack(frame.pack(1)), "".join(difflib.unified_diff(["a"], [text])))
+
+
+def frees_gate_by_junk():
+    while True:
+        pause()
+        list(difflib.ndiff(["a"], ["b"], opens))
+
+
+def frees_gate_by_printing_neatly():
+    while True:
+        pause()
+        pprint.pprint(1, Output())
+
+
+def frees_gate_by_indenting():
+    while True:
+        pause()
+        textwrap.indent("a", "b", opens)
+
+
+def spares_by_decoding():
+    while True:
+        pause()
+        for each in (b"a", b"b"):
+            log.info("%s", each.decode("utf-8", errors="replace"))
+
+
+def frees_gate_by_decoding():
+    while True:
+        pause()
+        for each in (b"a", b"b"):
+            log.info("%s", each.decode("ascii", "opening"))
 
 
 def frees_box_by_a_default():
@@ -865,6 +1183,18 @@ async def loud_ticks():
         yield 1
 
 
+async def spares_by_calling_later():
+    while True:
+        await asyncio.sleep(1000)
+        asyncio.get_running_loop().call_later(1000, note, 1)
+
+
+async def frees_gate_by_calling_later():
+    while True:
+        await asyncio.sleep(1000)
+        asyncio.get_running_loop().call_later(1000, opens, 1)
+
+
 async def spares_by_ticks():
     async for each in ticks(5):
         log.info("%s", each)
@@ -875,6 +1205,7 @@ async def spares_by_limits():
         try:
             await asyncio.wait_for(asyncio.sleep(1000), 2000)
             await asyncio.wait_for(nothing(), timeout=1)
+            await asyncio.wait_for(PLACES["async_event"][0].wait(), timeout=1)
         except asyncio.TimeoutError:
             counts["late"] += 1
 
@@ -930,10 +1261,11 @@ async def frees_async_lock_in_its_block():
 async def tasks():
     loop = asyncio.get_running_loop()
     PLACES["answer"] = loop.create_future(), {"set_result", "set_exception", "cancel"}
-    PLACES["async_lock"] = asyncio.Lock(), None
+    PLACES["async_lock"], PLACES["async_event"] = (asyncio.Lock(), None), (asyncio.Event(), {"set"})
     some = [asyncio.create_task(each(), name=each.__name__) for each in (
         spares_in_a_task, spares_by_a_fresh_future, frees_answer, frees_async_lock_in_its_block, spares_by_ticks,
-        spares_by_limits, frees_answer_by_a_limit, frees_answer_by_a_limit_within,
+        spares_by_limits, spares_by_calling_later, frees_gate_by_calling_later,
+        frees_answer_by_a_limit, frees_answer_by_a_limit_within,
         frees_answer_by_another_task)]
     some.append(asyncio.create_task(frees_answer_once(PLACES["answer"][0]), name="frees_answer_once"))
     await asyncio.sleep(1000)
@@ -1027,6 +1359,19 @@ MAINS = {"for_ever": main_for_ever, "that_tells": main_that_tells, "until_interr
          "until_signalled": main_until_signalled, "until_set": main_until_set}
 
 
+def begin_timers():
+    """Timers and servers whose threads have the names of what they do."""
+    for name, action in (("spares_until_a_time", first.bump), ("frees_gate_until_a_time", opens)):
+        timer = threading.Timer(1000, action)
+        timer.name, timer.daemon = name, True
+        timer.start()
+    for name, handler in (("spares_by_handling", Handling), ("frees_gate_by_handling", OpeningAtTheEnd)):
+        server = Server(("127.0.0.1", 0), handler)
+        server.name = name
+        threading.Thread(target=server.serve_forever, name=f"{name}_later", daemon=True).start()
+        lazy[name] = socket.create_connection(server.server_address)
+
+
 def lie():
     lazy[1] = lying()
     next(lazy[1])
@@ -1052,9 +1397,28 @@ def set_any():
     threading.Thread(target=sets_one, daemon=True).start()
 
 
+def run_otherwise():
+    """A class of threads runs what opens the gate, so that beginning any may do so."""
+    lazy[2] = type("Opening", (threading.Thread,), {"run": opens})
+
+
+def share():
+    """A thread runs a generator, which another one goes on with."""
+    lazy["shared"] = pauses_and_opens()
+    threading.Thread(target=next, args=(lazy["shared"],), daemon=True).start()
+
+
+def tell():
+    told = lazy["told"] = futures.Future()
+    told.add_done_callback(opens)
+
+
 # What is there besides, while the main thread does nothing. Who doesn't name it in his code may come to it.
 BESIDES = {"opener": lambda: setattr(last, "done", Opener()), "late": lambda: setattr(last, "table", Late()),
            "lying": lie, "any": set_any, "made": make,
+           "ordering": lambda: setattr(last, "loud", LoudSize(1)), "sly": lambda: lazy.update(sly=Sly()),
+           "unbegun": lambda: setattr(last, "unbegun", threading.Thread(target=opens)), "told": tell,
+           "keyed": lambda: setattr(last, "keyed", type("Keyed", (), {"keys": opens})()), "shared": share, "running": run_otherwise,
            "ticking": lambda: threading.Thread(target=lambda: asyncio.run(by_loud_ticks()), daemon=True).start()}
 THREADS = ("pops", "moves_", "stores", "sets_", "spares_", "frees_", "swaps_", "stops_", "opens_", "closes_")
 
@@ -1074,6 +1438,9 @@ def look():
 
 def main():
     pool.submit(len, ())
+    begin_timers()
+    codecs.register_error("opening", opens)
+    telling.submit(pause).add_done_callback(opens)
     BESIDES.get(sys.argv[1], list)()
     for name, each in list(globals().items()):
         if callable(each) and name.startswith(THREADS) and not each.__code__.co_flags & 0x80:
