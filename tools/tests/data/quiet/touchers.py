@@ -45,7 +45,8 @@ gate, bell, slots = threading.Event(), threading.Condition(), threading.Semaphor
 other: "queue.Queue[object]" = queue.Queue()
 stop, quit_now, left = threading.Event(), threading.Event(), threading.Event()
 latch, stats_lock = threading.Lock(), threading.Lock()
-order, chime = futures.Future(), threading.Condition()
+order: "futures.Future[int]" = futures.Future()
+chime = threading.Condition()
 PUTS, NOTIFIES = {"put", "put_nowait", "shutdown"}, {"notify", "notify_all", "notifyAll"}
 PLACES = {"box": (box, PUTS), "gate": (gate, {"set"}), "bell": (bell, NOTIFIES), "slots": (slots, None),
           "latch": (latch, None), "result": (getattr(order, "_condition"), NOTIFIES)}
@@ -1418,7 +1419,8 @@ BESIDES = {"opener": lambda: setattr(last, "done", Opener()), "late": lambda: se
            "lying": lie, "any": set_any, "made": make,
            "ordering": lambda: setattr(last, "loud", LoudSize(1)), "sly": lambda: lazy.update(sly=Sly()),
            "unbegun": lambda: setattr(last, "unbegun", threading.Thread(target=opens)), "told": tell,
-           "keyed": lambda: setattr(last, "keyed", type("Keyed", (), {"keys": opens})()), "shared": share, "running": run_otherwise,
+           "keyed": lambda: setattr(last, "keyed", type("Keyed", (), {"keys": opens})()), "shared": share,
+           "telling": lambda: telling.submit(pause).add_done_callback(opens), "running": run_otherwise,
            "ticking": lambda: threading.Thread(target=lambda: asyncio.run(by_loud_ticks()), daemon=True).start()}
 THREADS = ("pops", "moves_", "stores", "sets_", "spares_", "frees_", "swaps_", "stops_", "opens_", "closes_")
 
@@ -1440,7 +1442,6 @@ def main():
     pool.submit(len, ())
     begin_timers()
     codecs.register_error("opening", opens)
-    telling.submit(pause).add_done_callback(opens)
     BESIDES.get(sys.argv[1], list)()
     for name, each in list(globals().items()):
         if callable(each) and name.startswith(THREADS) and not each.__code__.co_flags & 0x80:
