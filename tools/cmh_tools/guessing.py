@@ -126,7 +126,8 @@ def feed(sketch: Sketch, facts: Facts, spared: Dict[str, Fact]) -> None:
 def waits_for_others(process: Process, stuck: Set[str]) -> bool:
     """Whether one at rest is likely to wait for some who are stuck: it only receives, nobody is filled in, and nobody
     else is known who may send it something. One that selects may have a ticker of its own."""
-    is_plain = OF_SEVERAL not in process.operation and not [it for it in process.candidates if it != COMPLETE]
+    filled = [it for it in process.candidates if it != COMPLETE and process.proposal != HOLDS]
+    is_plain = OF_SEVERAL not in process.operation and not filled
     return is_plain and is_receiver(process) and stuck.union([process.name]).issuperset(process.bound or ())
 
 

@@ -550,7 +550,7 @@ def at_work(service: Service, name: str, more: Dict[str, Any]) -> Process:
     if does.kind in BUSY:
         why, proposal = f"a thread of its client {f'waits in {shown(does.call)}' if does.call else does.kind}", "runs"
     elif service.is_full and does.connection == service.connection:
-        why, proposal = "the broker gives it no more before", "runs"
+        why, proposal = "the broker gives it no more before: is it at work, or has it forgotten to say so?", "any"
     elif replies or does.kind == AT:
         found = service.repliers(replies)
         proposal = "any" if found else "maybe"
