@@ -9,7 +9,7 @@ from .facts import FREES, Fact, Facts
 from .files import shown
 from .idle import is_receiver
 from .moments import GROWN
-from .proposals import ask_to_spare
+from .proposals import OUTSIDE, ask_to_spare
 from .sketch import ANY, RUNS, UNKNOWN, Process, Sketch
 from .stuck import stuck_names
 
@@ -78,7 +78,7 @@ def bounded(process: Process, used: List[Fact], facts: Facts) -> Process:
 def doubt_vain_waits(sketch: Sketch) -> None:
     """Leaves those unknown that would be stuck if some ended nobody's wait who are likely to end none: as a heartbeat
     that shares the end of a pipe with all threads of its process, and need not write into it."""
-    likely = {it.name for it in sketch.processes if it.kind == RUNS and it.proposal == FREES}
+    likely = {it.name for it in sketch.processes if it.kind == RUNS and it.proposal in (FREES, OUTSIDE)}
     lists = {it.name: [name for name in it.whom if name not in likely] for it in sketch.processes
              if likely and it.kind == ANY}
     some = {it.name: lists[it.name] for it in sketch.processes if 0 < len(lists.get(it.name, ())) < len(it.whom)}

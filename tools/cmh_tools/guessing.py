@@ -13,12 +13,11 @@ from .guesses import Line, count_anew, facts_of, guessed, last_number
 from .idle import READS, is_receiver, is_stand_in, there_of
 from .moments import GROWN
 from .places import Place, is_like
-from .proposals import HAS_ENDED, MOST, freeing_nobody, names_of, place_name, propose
+from .proposals import HAS_ENDED, MOST, OUTSIDE, freeing_nobody, names_of, place_name, propose
 from .sketch import ANY, COMPLETE, ENDED, REST, RUNS, UNKNOWN, Process, Sketch, guess
 from .stuck import stuck_names
 
 WAITS = ("any", "all", "holds")  # proposals for one that waits, for whomever
-OUTSIDE = "outside"  # the proposal for one that goes on by the outside, and is likely to end nobody's wait
 OF_PROCESS = f"{OTHERS}:{{process}}"  # the others of its own scope
 FED = 3  # how far behind others who are stuck those at rest are looked for
 OF_SEVERAL = "select"

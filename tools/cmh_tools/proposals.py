@@ -10,7 +10,7 @@ from typing import Collection, Dict, Iterable, List, NamedTuple, Sequence, Set, 
 
 from .facts import FREES, OTHERS, STILL, is_variable, word_of
 from .places import FRAME, is_like
-from .sketch import COMPLETE, REST, UNKNOWN, Process, Sketch
+from .sketch import ANY, COMPLETE, REST, UNKNOWN, Process, Sketch
 
 Line = Tuple[str, List[Process]]  # of facts, with those that it would decide
 # Arguments that name the other side of a wait, by what they are called.
@@ -24,6 +24,7 @@ LEFT_OUT = f"{REST} -> runs"
 HAS_ENDED = " -> ended"
 FORMS = ("# any: one of them is enough; all: each has to come; a guess: leave out who can't end the wait",
          "# -> runs: a timer, a user or the outside ends it; -> nobody: nothing does")
+OUTSIDE = "outside"  # the proposal for one that goes on by the outside, and is likely to end nobody's wait
 ASKED = ("any", "all", "runs", "outside", "nobody", "maybe")  # proposals that are lines on the place of one
 ALONE = {"runs": "runs", "outside": "runs", "nobody": "nobody"}  # words of facts without names
 FEW, MOST = 50, 20  # kinds of waits at one place whose names are compared, and words in a guess
@@ -80,6 +81,7 @@ def propose(sketch: Sketch, quiet: Collection[str] = ()) -> List[Proposal]:
         if it.proposal == FREES:
             free.setdefault(tuple(it.candidates), []).append(it.name)
     found += [Proposal(freeing_nobody(names), "if that is so", False, them) for names, them in free.items()]
+    found += beside_others(sketch, {it.name for it in asked if it.proposal == OUTSIDE})
     lacking = [it for it in some if it.frames == [REST]]
     if lacking:
         found.append(Proposal(LEFT_OUT, "if none of those that the state may lack matters", False, names_of(lacking)))
@@ -88,6 +90,14 @@ def propose(sketch: Sketch, quiet: Collection[str] = ()) -> List[Proposal]:
         found.append(Proposal(STILL, "if nothing moves, so that one place in all states is one wait", False,
                               names_of(doubtful)))
     return found
+
+
+def beside_others(sketch: Sketch, names: Set[str]) -> List[Proposal]:
+    """Returns a line for those of some names who may end a wait as well as others may, and likely end none."""
+    rows = [it for it in sketch.processes if names and it.kind == ANY and not names.isdisjoint(it.whom)
+            and not names.issuperset(it.whom)]
+    found = [name for name in dict.fromkeys(name for it in rows for name in it.whom) if name in names]
+    return [Proposal(freeing_nobody(found), "if that is so", False, names_of(rows))] if 0 < len(found) <= MOST else []
 
 
 def ask_to_spare(process: Process, others: List[str]) -> None:

@@ -15,7 +15,7 @@ from typing import Any, Dict, Iterable, Iterator, List, Optional, Tuple, Union
 from ..files import Refusal, shown
 from ..moments import APART, PARTS, Reading
 from ..sketch import ALL as WAITS_FOR_ALL
-from ..sketch import (ANY, DONE, ENDED, LIMIT, SYSTEM, Process, frame, premise, quote, runs, spoilt, unknown,
+from ..sketch import (ANY, DONE, ENDED, LIMIT, SYSTEM, UNKNOWN, Process, frame, premise, quote, runs, spoilt, unknown,
                       waits_for_all, waits_for_any)
 from . import State
 from .base import Moment, Premise, Recorder, misfits
@@ -298,6 +298,17 @@ class RecordsRecorder(Recorder):
     def prepare(self, moment: Job) -> None:
         moment.ranks = {rank.number: rank for rank in moment.rows()}
         moment.late = {}
+
+    def finish(self, sketch: Sketch, moments: List[Job]) -> None:
+        """Says of who sleeps between its looks for a message, as a monitor does, that it likely ends nobody's wait. A
+        master who looks so is one for whom somebody waits."""
+        ticking = {it.name for rank in moments[0].ranks.values() for it in rank.threads
+                   if it.kind == POLL and it.row.get("ticks")}
+        needed = {name for it in sketch.processes for name in it.whom
+                  if len(it.whom) == 1 or it.kind == WAITS_FOR_ALL}
+        for process in sketch.processes:
+            if process.kind == UNKNOWN and process.name in ticking - needed:
+                process.proposal, process.candidates = "outside", []
 
     def processes(self, moment: Job) -> Iterable[Any]:
         found: List[Union[Rank, Thread]] = []

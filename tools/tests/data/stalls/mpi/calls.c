@@ -51,6 +51,23 @@ static void wrong_source(void) {
         be_late();
     receive(rank == 0 ? 1 : rank == 1 ? 2 : 0, TAG);
 }
+/* Rank 0 receives one result more than it gets, and the workers wait for it. Rank 3 looks ten times a second for the
+   progress that rank 0 tells. */
+static void watched(void) {
+    int flag = 0;
+    while (rank == 3 && !flag) {
+        MPI_Iprobe(0, TAG, world, &flag, MPI_STATUS_IGNORE);
+        nanosleep(&(struct timespec){0, 100000000}, NULL);
+    }
+    for (int result = 0; rank == 0 && result < 2; result++)
+        receive(MPI_ANY_SOURCE, LATER);
+    if (rank == 2)
+        be_late();
+    if (rank == 1 || rank == 2 && is_slow)
+        send(0, LATER);
+    if (rank < 3)
+        receive(0, TAG);
+}
 /* Rank 0 is in a broadcast, the others at a barrier. */
 static void mismatch(void) {
     if (rank == 0)
@@ -367,7 +384,8 @@ static void asked(void) {
 }
 
 static const struct { const char *name; int ranks, level; void (*work)(void); } JOBS[] = {
-    {"send_ring", 4, 0, send_ring}, {"wrong_source", 4, 0, wrong_source}, {"mismatch", 3, 0, mismatch},
+    {"send_ring", 4, 0, send_ring}, {"wrong_source", 4, 0, wrong_source}, {"watched", 4, 0, watched},
+    {"mismatch", 3, 0, mismatch},
     {"waitall", 3, 0, waitall}, {"waitany", 3, 0, waitany}, {"any_source", 3, 0, any_source}, {"grid", 4, 0, grid},
     {"sendrecv", 4, 0, sendrecv}, {"ibarrier", 3, 0, ibarrier}, {"token", 4, 0, token}, {"polls", 2, 0, polls},
     {"threads", 2, MPI_THREAD_MULTIPLE, threads}, {"funneled", 2, 0, funneled},
