@@ -6,7 +6,7 @@ from __future__ import annotations
 from typing import Any, Dict, List, Optional, Set, Tuple
 
 from ..sketch import LIMIT, SYSTEM, Process, premise, runs, unknown, waits_for_any
-from .erlang_acting import ALONE, GIVES_BACK, HARMLESS, besides_of, has_owner, words_of_place
+from .erlang_acting import ALONE, GIVES_BACK, HARMLESS, besides_of, has_owner
 from .erlang_keepers import who_may_answer
 from .erlang_nodes import Nodes
 from .erlang_text import Block, Call, Key, NodeReading, of_elixir
@@ -125,8 +125,6 @@ def wait_for_holders(block: Block, moment: Nodes, called: List[Block], more: Dic
         others = [it for it in having if it not in keepers]
         some = [who for it in keepers for who in who_may_answer(block, it, moment)]
         more["candidates"] = moment.names([*some, *others])
-        if not more["candidates"] and any("wakes" in (words_of_place(it, moment) or []) for it in keepers):
-            more["proposal"] = "maybe"  # (a timer of its own may have it answer, which no state shows)
         is_owed = any(has_owner(block, it, moment) for it in keepers)
         more.update(bound=moment.acting, at_rest=not is_owed,
                     bound_by=list(map(premise, [ALONE, HARMLESS, *([GIVES_BACK] if is_owed else [])])))
