@@ -1008,16 +1008,19 @@ MAPPED_CODE = re.compile(r"^([0-9a-f]+)-([0-9a-f]+) (....) [0-9a-f]+ \S+ \d+ *(.
 BEHIND_CALL = re.compile(rb"\xe8.{4}$|\xff[\x10-\x1f\xd0-\xdf\x50-\x5f\x90-\x9f].{0,5}$", re.S)  # the bytes of a call
 LARGE, STACK, FUNCTIONS = 1 << 26, 1 << 18, 300  # bytes of a program and of a stack, and functions, that are looked at
 AT_ENTRY = 9  # in what the kernel has told a program: where that begins
+OF_64_BITS = b"\2"  # the fifth byte of a program
 OUTER = 2  # calls of the C library that lead to what a thread was started with
 
 
-def output_of(*words: str) -> str:
-    """Returns what a command prints, or nothing."""
+def output_of(last: float, *words: str) -> str:
+    """Returns what a command prints, or nothing if it hasn't ended well by some time."""
+    left = last - time.monotonic()
     try:
-        ran = subprocess.run(words, stdin=subprocess.DEVNULL, capture_output=True, timeout=20, check=False)
-    except (OSError, subprocess.TimeoutExpired):
-        return ""
-    return ran.stdout.decode("utf-8", "backslashreplace")
+        ran = subprocess.run(words, stdin=subprocess.DEVNULL, capture_output=True, timeout=left,
+                             check=True) if left > 0 else None
+    except (OSError, subprocess.SubprocessError):
+        ran = None
+    return ran.stdout.decode("utf-8", "backslashreplace") if ran else ""
 
 
 class Unclear(Exception):
@@ -1025,17 +1028,17 @@ class Unclear(Exception):
 
 
 class Program:
-    """The machine code of a program, as objdump shows it, function by function."""
+    """The machine code of a program, as objdump shows it, function by function, up to some time."""
 
-    def __init__(self, path: str, size: int) -> None:
-        self.path = path
+    def __init__(self, path: str, size: int, last: float) -> None:
+        self.path, self.last = path, last
         found = sorted({(int(at, 16), int(size, 16), name) for at, size, name in SYMBOL.findall(
-            output_of("objdump", "-t", path) if size < LARGE else "") if int(size, 16)})
+            output_of(last, "objdump", "-t", path) if size < LARGE else "") if int(size, 16)})
         self.functions, self.starts = found, [at for at, _, _ in found]
-        dynamic = output_of("objdump", "-T", path) if found else ""
+        dynamic = output_of(last, "objdump", "-T", path) if found else ""
         own = [line.split()[-1] for line in dynamic.split("\n") if " .text\t" in line and "__cxx11" not in line]
         known = (PLAIN, OF_FILES, OF_FUTEXES)
-        self.is_clear = bool(found) and not BY_A_WAY.search(dynamic) and not any(
+        self.is_clear = bool(found and dynamic) and not BY_A_WAY.search(dynamic) and not any(
             names.fullmatch(it) for names in known for it in own)
         self.steps: Dict[int, Tuple[int, str, str]] = {}  # by its address: where the next one is, its name, its words
         self.known: Set[int] = set()
@@ -1054,7 +1057,7 @@ class Program:
         if len(self.known) >= FUNCTIONS:
             raise Unclear
         self.known.add(start)
-        text = output_of("objdump", "-d", "-w", "--no-show-raw-insn", f"--start-address={start}",
+        text = output_of(self.last, "objdump", "-d", "-w", "--no-show-raw-insn", f"--start-address={start}",
                          f"--stop-address={start + size}", self.path)
         rows = [(int(it[1], 16), it[3], it[4] or "") for it in map(STEP.match, text.split("\n")) if it]
         before = ""
@@ -1195,8 +1198,11 @@ class Standing:
     def base(self) -> int:
         """Returns how far the program is in memory from where its file says, by where both say that it begins."""
         with open(f"{self.folder}/exe", "rb") as program, open(f"{self.folder}/auxv", "rb") as file:
-            begin, = struct.unpack_from("=Q", program.read(32), 24)
-            places = [int(value) for key, value in struct.iter_unpack("=QQ", file.read()) if key == AT_ENTRY]
+            head, told = program.read(32), file.read()
+        if head[4:5] != OF_64_BITS:
+            raise Unclear
+        begin, = struct.unpack_from("=Q", head, 24)
+        places = [int(value) for key, value in struct.iter_unpack("=QQ", told) if key == AT_ENTRY]
         if not places:
             raise Unclear
         return places[0] - int(begin)
@@ -1225,16 +1231,16 @@ def find_spares(rows: Sequence[Row], found: Dict[Tuple[int, int], List[str]]) ->
         if time.monotonic() > last:
             return
         with contextlib.suppress(OSError, Unclear, ValueError):
-            found[row["pid"], thread["tid"]] = spares_of(row, thread, programs)
+            found[row["pid"], thread["tid"]] = spares_of(row, thread, programs, last)
 
 
-def spares_of(row: Row, thread: Row, programs: Dict[Tuple[int, int], Program]) -> List[str]:
+def spares_of(row: Row, thread: Row, programs: Dict[Tuple[int, int], Program], last: float) -> List[str]:
     """Returns what waits a thread can't end: those at files, at futexes, or both, by all calls of the code to which it
     returns. Raises Unclear where that isn't known."""
     standing, path = Standing(row, thread), f"/proc/{row['living']}/exe"
     status = os.stat(path)
     key = status.st_dev, status.st_ino
-    program = programs[key] if key in programs else programs.setdefault(key, Program(path, status.st_size))
+    program = programs[key] if key in programs else programs.setdefault(key, Program(path, status.st_size, last))
     reach, frames = Reach(program), frames_of(standing, program)
     names = [program.function_at(it - 1)[2] for it in frames]
     for address in frames:
