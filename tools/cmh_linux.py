@@ -980,14 +980,16 @@ def let_go(pid: int) -> None:
 # The machine code that a sleeping thread may still come to
 
 
-# Calls of libraries that end nobody's wait, and those that may only end one at a file, or only one at a futex.
+# Calls of libraries that end nobody's wait, and those that may only end one at a file, or only one at a futex. None of
+# them ends the process or throws something, but where memory runs out.
 PLAIN = re.compile(
     r"sleep|usleep|nanosleep|clock_\w+|time|gettimeofday|(local|gm)time(_r)?|mktime|strftime|getpid|gettid|pthread_self"
     r"|sched_yield|s?rand|random|mem(cpy|set|move|cmp)|str(n?cpy|n?cat|n?cmp|n?len|r?chr|str|tou?l|error_r)|ato[il]"
     r"|v?sn?printf|__(mem|str|v?sn?printf|stpcpy)\w*_chk|malloc|calloc|realloc|free|pthread_setname_np|getloadavg"
     r"|sysinfo|__errno_location|__stack_chk_fail|_Zn[wa]m\w*|_Zd[la]Pv\w*|_ZNSt6chrono\w*3nowEv|_ZNSt6thread6_StateD2Ev"
     r"|_ZNSt11this_thread11__sleep_for\w+|_ZSt\d+__throw_(bad_alloc|bad_array_new_length|length_error|system_error)\w*"
-    r"|_ZSt9terminatev|_Unwind_Resume|_ZNK?St7__cxx1112basic_string\w+|accept4?|__libc_start_main")
+    r"|_ZNK?St7__cxx1112basic_string(?!\w*(\d(at|substr|erase|insert|replace|compare|_M_check)Em|4copyE|RKS4_m))\w+"
+    r"|accept4?|__libc_start_main")  # (the other calls of texts throw where they are asked for what is behind the end)
 OF_FILES = re.compile(
     r"(open|lseek|f?stat|fopen|fdopen)(64)?|read|write|close|unlink|rename|fsync|fclose|fflush|f?puts|f?putc|putchar"
     r"|fwrite|fread|fgets|v?[fd]?printf|__v?[fd]?printf_chk|getline|send(to|msg)?|recv\w*|syslog")
@@ -999,10 +1001,12 @@ END_OF_HANDLER = bytes.fromhex("48c7c00f0000000f05")  # to where a handler of a 
 LIBRARY = re.compile(r"/(usr/)?lib(64)?/.*")
 OF_THE_SYSTEM = re.compile(r".*/(libc|libpthread|libstdc\+\+|libm|libgcc_s|librt|libdl|ld-linux-x86-64)[.-][^/]*")
 SYMBOL = re.compile(r"^([0-9a-f]+) .{7} \.\S+\t([0-9a-f]+) +(?:\.hidden )?(\S+)$", re.M)
-STEP = re.compile(r"^ +([0-9a-f]+):\t((?:(?:notrack|bnd|rep\w*|lock|data16|cs) )*)(\S+)(?: +(.*))?$")
+PREFIXES = r"(?:notrack|bnd|rep\w*|lock|addr32|data16|rex(?:\.\w+)?|[c-gs]s|xacquire|xrelease)"
+STEP = re.compile(rf"^ +([0-9a-f]+):\t((?:{PREFIXES} )*)(\S+)(?: +(.*))?$")
 TARGET = re.compile(r"(?:\*0x[0-9a-f]+\(%rip\) +# )?([0-9a-f]+) <([^>]+)>")
 RUNS = re.compile(r"(_ZNSt6thread11_State_implI.*E)6_M_runEv")  # what runs a thread of C++, and its object's end
-ODD = re.compile(r"sys(call|enter)|u?iret\w?|int\d?|l(ret|jmp|call)\w?|\(bad\)|xbegin|wrpkru|enter\w?|loop\w*")
+ODD = re.compile(r"sys(call|enter)|u?iret\w?|int\d?|l(ret|jmp|call)\w?|\(bad\)|xbegin|wrpkru|enter\w?|loop\w*|ud\w*"
+                 rf"|{PREFIXES}")  # (`ud2` ends the process, and a prefix alone stands before what isn't understood)
 MOVES_STACK = re.compile(r".*,%(rsp|esp|sp)|%(rsp|esp|sp)")
 MAPPED_CODE = re.compile(r"^([0-9a-f]+)-([0-9a-f]+) (....) [0-9a-f]+ \S+ \d+ *(.*)$", re.M)
 BEHIND_CALL = re.compile(rb"\xe8.{4}$|\xff[\x10-\x1f\xd0-\xdf\x50-\x5f\x90-\x9f].{0,5}$", re.S)  # the bytes of a call
@@ -1115,7 +1119,7 @@ class Reach:
         is_odd = ODD.fullmatch(name) or name.startswith("xchg") and "%rsp" in words
         if is_odd or MOVES_STACK.fullmatch(words) and not is_plain_move(name, words):
             raise Unclear
-        return [] if name in ("ud2", "hlt") else [following]
+        return [] if name == "hlt" else [following]
 
     def target(self, words: str) -> List[int]:
         """Returns to which address of the program a call or a jump goes, and notes that of a library."""

@@ -4,10 +4,12 @@
 #include <csignal>
 #include <cstdio>
 #include <cstdlib>
+#include <exception>
 #include <functional>
 #include <memory>
 #include <mutex>
 #include <pthread.h>
+#include <stdexcept>
 #include <string>
 #include <sys/mman.h>
 #include <sys/socket.h>
@@ -220,12 +222,63 @@ static void is_told() {
     turn.notify_one();
 }
 
+// files, by a call as linkers write it in place of one that another library might have answered
+extern "C" void open_far() { turn.notify_all(); }
+extern "C" void call_far();
+asm("call_far: sub $8,%rsp; .byte 0x67; call open_far; add $8,%rsp; ret\n"
+    ".type call_far,@function\n.size call_far,.-call_far");
+static void is_far() {
+    sleep(600);
+    call_far();
+    beats = beats + 1;
+}
+
+// nothing, as the end of its process frees who waits for that
+static void traps() {
+    sleep(600);
+    if (beats == 0) __builtin_trap();
+}
+
+// nothing
+static void terminates() {
+    sleep(600);
+    std::terminate();
+}
+
+// nothing
+struct Pause { ~Pause() { sleep(600); } };
+static void __attribute__((noinline)) fails() {
+    Pause pause;
+    if (beats >= 0) throw std::runtime_error("");
+    beats = beats + 1;
+}
+static void unwinds() {
+    try {
+        fails();
+    } catch (const std::exception &) {
+        turn.notify_one();
+    }
+    beat();
+}
+
+// nothing
+static std::string text = "abc";
+static void __attribute__((optimize("O0"))) throws() {
+    try {
+        sleep(600);
+        text.erase(10);
+    } catch (const std::out_of_range &) {
+        turn.notify_one();
+    }
+}
+
 static void ways() {
     if (pipe(line)) return;
     static const std::pair<const char *, void (*)()> all[] = {
         {"counts", counts}, {"prints", prints}, {"wakes", wakes}, {"deeper", deeper}, {"points", points},
         {"holds", holds}, {"asks", asks}, {"jumps", jumps}, {"sorts", sorts}, {"once", once}, {"leaves", leaves},
-        {"sleeps_first", sleeps_first}, {"is_told", is_told}};
+        {"sleeps_first", sleeps_first}, {"is_told", is_told}, {"is_far", is_far}, {"traps", traps},
+        {"terminates", terminates}, {"unwinds", unwinds}, {"throws", throws}};
     signal(SIGUSR1, [](int) { sleep(600); });
     atexit([] { sleep(600); });
     for (auto &it : all) {
