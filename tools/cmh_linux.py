@@ -995,8 +995,9 @@ OF_FILES = re.compile(
     r"|fwrite|fread|fgets|v?[fd]?printf|__v?[fd]?printf_chk|getline|send(to|msg)?|recv\w*|syslog")
 OF_FUTEXES = re.compile(r"pthread_(mutex|cond|rwlock|spin)_\w+|sem_(post|wait|trywait)|_ZNSt18condition_variable\w+")
 # What lets calls of libraries come to other code of the program.
-BY_A_WAY = re.compile(r" (fopencookie|register_printf_\w+|pthread_key_create|\w*thread_(at)?exit\w*|\w+setrobust\w*"
-                      r"|(make|swap|set)context|_*(sig)?(set|long)jmp\w*|__morestack\w*|__\w+_hook)\b")
+BY_A_WAY = re.compile(r" (fopencookie|funopen|register_printf_\w+|_*pthread_key_create|tss_create"
+                      r"|\w*thread_(at)?exit\w*|\w+_Make_ready\w+|\w+setrobust\w*|(make|swap|set)context"
+                      r"|_*(sig)?(set|long)jmp\w*|__morestack\w*|__\w+_hook)\b")
 END_OF_HANDLER = bytes.fromhex("48c7c00f0000000f05")  # to where a handler of a signal returns
 LIBRARY = re.compile(r"/(usr/)?lib(64)?/.*")
 OF_THE_SYSTEM = re.compile(r".*/(libc|libpthread|libstdc\+\+|libm|libgcc_s|librt|libdl|ld-linux-x86-64)[.-][^/]*")
@@ -1005,6 +1006,7 @@ PREFIXES = r"(?:notrack|bnd|rep\w*|lock|addr32|data16|rex(?:\.\w+)?|[c-gs]s|xacq
 STEP = re.compile(rf"^ +([0-9a-f]+):\t((?:{PREFIXES} )*)(\S+)(?: +(.*))?$")
 TARGET = re.compile(r"(?:\*0x[0-9a-f]+\(%rip\) +# )?([0-9a-f]+) <([^>]+)>")
 RUNS = re.compile(r"(_ZNSt6thread11_State_implI.*E)6_M_runEv")  # what runs a thread of C++, and its object's end
+COLD = ".cold"  # how the name ends of what a compiler has moved away from a function
 ODD = re.compile(r"sys(call|enter)|u?iret\w?|int\d?|l(ret|jmp|call)\w?|\(bad\)|xbegin|wrpkru|enter\w?|loop\w*|ud\w*"
                  rf"|{PREFIXES}")  # (`ud2` ends the process, and a prefix alone stands before what isn't understood)
 MOVES_STACK = re.compile(r".*,%(rsp|esp|sp)|%(rsp|esp|sp)")
@@ -1109,13 +1111,17 @@ class Reach:
     def after(self, at: int, following: int, name: str, words: str) -> List[int]:
         """Returns where one comes to from a step."""
         start, size, function = self.program.function_at(at)
+        function = function.partition(COLD)[0]
         if name.startswith("call"):  # (one at the end of its function doesn't come back)
             return [*([following] if following < start + size else []), *self.target(words)]
         if name.startswith("ret"):
             self.returns.add(function)
             return []
         if name.startswith("j"):
-            return [*([] if name.startswith("jmp") else [following]), *self.target(words)]
+            targets = self.target(words)
+            if not targets or self.program.function_at(targets[0])[2].partition(COLD)[0] != function:
+                self.returns.add(function)  # (what it goes on in returns to where it would)
+            return [*([] if name.startswith("jmp") else [following]), *targets]
         is_odd = ODD.fullmatch(name) or name.startswith("xchg") and "%rsp" in words
         if is_odd or MOVES_STACK.fullmatch(words) and not is_plain_move(name, words):
             raise Unclear
@@ -1246,7 +1252,7 @@ def spares_of(row: Row, thread: Row, programs: Dict[Tuple[int, int], Program], l
     key = status.st_dev, status.st_ino
     program = programs[key] if key in programs else programs.setdefault(key, Program(path, status.st_size, last))
     reach, frames = Reach(program), frames_of(standing, program)
-    names = [program.function_at(it - 1)[2] for it in frames]
+    names = [program.function_at(it - 1)[2].partition(COLD)[0] for it in frames]
     for address in frames:
         start, size, _ = program.function_at(address - 1)
         call = program.call_before(address)
@@ -1256,12 +1262,23 @@ def spares_of(row: Row, thread: Row, programs: Dict[Tuple[int, int], Program], l
     ends = reach.returns.intersection(names)
     if standing.is_main and (names[-1] != "main" or "main" in ends) or standing.has_others and ends:
         raise Unclear
-    run = RUNS.fullmatch(names[-1])  # (what a thread of C++ was started with is destroyed at its end)
-    wanted = re.compile(re.escape(run[1]) + "D[02]Ev" if run else r"_ZNSt6thread11_State_impl.*D[02]Ev")
-    reach.follow([at for at, _, it in program.functions if ends and wanted.fullmatch(it)])
+    if ends:
+        reach.follow(ends_of_states(program, names, any("libstdc++" in path for path, _ in standing.words)))
     plain = {it for it in reach.calls if PLAIN.fullmatch(it)}
     spares = ["futexes"] if all(map(OF_FILES.fullmatch, reach.calls - plain)) else []
     return spares + (["files"] if all(map(OF_FUTEXES.fullmatch, reach.calls - plain)) else [])
+
+
+def ends_of_states(program: Program, names: List[str], is_of_cpp: bool) -> List[int]:
+    """Returns where that is destroyed which a thread of C++ was started with, by the functions to which it returns.
+    Raises Unclear where that isn't found."""
+    runs = {run[1] for run in map(RUNS.fullmatch, names) if run}  # (an old one may still lie on the stack)
+    some = [re.escape(run) for run in runs] or ([r"_ZNSt6thread11_State_impl.*"] if is_of_cpp else [])
+    found = [[(it, at) for at, _, it in program.functions if re.fullmatch(kind + r"D[02]Ev(\.\w+)*", it)]
+             for kind in some]
+    if not all(any("D0Ev" in it for it, _ in each) for each in found):
+        raise Unclear
+    return [at for each in found for _, at in each]
 
 
 def frames_of(standing: Standing, program: Program) -> List[int]:

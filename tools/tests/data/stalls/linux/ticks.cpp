@@ -272,6 +272,20 @@ static void __attribute__((optimize("O0"))) throws() {
     }
 }
 
+// files, by what a thread lets go of at its end, to which it comes by a jump
+struct Told {
+    void *it = malloc(8);
+    Told() = default;
+    Told(Told &&other) : it(other.it) { other.it = nullptr; }
+    ~Told() { if (it) turn.notify_one(); }
+};
+static void __attribute__((noinline)) note(void *it) { beats = beats + (it != nullptr); }
+
+static void name(std::thread thread, const char *name) {
+    pthread_setname_np(thread.native_handle(), name);
+    thread.detach();
+}
+
 static void ways() {
     if (pipe(line)) return;
     static const std::pair<const char *, void (*)()> all[] = {
@@ -290,6 +304,9 @@ static void ways() {
         }
         thread.detach();
     }
+    void *some = malloc(8);
+    name(std::thread([some, told = Told()] { sleep(600); free(some); }), "tails");
+    name(std::thread([some, told = Told()] { sleep(600); note(some); }), "tails_on");
     // nothing, by what it lets go of at its end
     struct Tells { ~Tells() { turn.notify_one(); } };
     auto tells = std::make_shared<Tells>();
