@@ -998,7 +998,7 @@ OF_FUTEXES = re.compile(r"pthread_(mutex|cond|rwlock|spin)_\w+|sem_(post|wait|tr
 BY_A_WAY = re.compile(r" (fopencookie|funopen|register_printf_\w+|_*pthread_key_create|tss_create"
                       r"|\w*thread_(at)?exit\w*|\w+_Make_ready\w+|\w+setrobust\w*|(make|swap|set)context"
                       r"|_*(sig)?(set|long)jmp\w*|__morestack\w*|__\w+_hook)\b")
-END_OF_HANDLER = bytes.fromhex("48c7c00f0000000f05")  # to where a handler of a signal returns
+END_OF_HANDLER = re.compile(rb"(\x48\xc7\xc0|\xb8)\x0f\0\0\0\x0f\x05")  # to where a handler of a signal returns
 LIBRARY = re.compile(r"/(usr/)?lib(64)?/.*")
 OF_THE_SYSTEM = re.compile(r".*/(libc|libpthread|libstdc\+\+|libm|libgcc_s|librt|libdl|ld-linux-x86-64)[.-][^/]*")
 SYMBOL = re.compile(r"^([0-9a-f]+) .{7} \.\S+\t([0-9a-f]+) +(?:\.hidden )?(\S+)$", re.M)
@@ -1119,13 +1119,18 @@ class Reach:
             return []
         if name.startswith("j"):
             targets = self.target(words)
-            if not targets or self.program.function_at(targets[0])[2].partition(COLD)[0] != function:
+            if not targets or not (start <= targets[0] < start + size or self.is_moved(at, targets[0])):
                 self.returns.add(function)  # (what it goes on in returns to where it would)
             return [*([] if name.startswith("jmp") else [following]), *targets]
         is_odd = ODD.fullmatch(name) or name.startswith("xchg") and "%rsp" in words
         if is_odd or MOVES_STACK.fullmatch(words) and not is_plain_move(name, words):
             raise Unclear
         return [] if name == "hlt" else [following]
+
+    def is_moved(self, *addresses: int) -> bool:
+        """Whether two addresses are of one function, of which a part was moved away."""
+        names = [self.program.function_at(at)[2] for at in addresses]
+        return names[0] != names[1] and len({name.partition(COLD)[0] for name in names}) == 1
 
     def target(self, words: str) -> List[int]:
         """Returns to which address of the program a call or a jump goes, and notes that of a library."""
@@ -1197,7 +1202,7 @@ class Standing:
         found = []
         for word, in struct.iter_unpack("=Q", data[:len(data) // 8 * 8]):
             path = self.path_at(word)
-            if path and self.memory.read(word, len(END_OF_HANDLER)) == END_OF_HANDLER:
+            if path and END_OF_HANDLER.match(self.memory.read(word, 9)):
                 raise Unclear
             if path and BEHIND_CALL.search(self.memory.read(word - 7, 7)):
                 found.append((path, word))

@@ -13,6 +13,7 @@
 #include <string>
 #include <sys/mman.h>
 #include <sys/socket.h>
+#include <sys/syscall.h>
 #include <sys/wait.h>
 #include <thread>
 #include <unistd.h>
@@ -286,21 +287,31 @@ static void name(std::thread thread, const char *name) {
     thread.detach();
 }
 
+// Has a handler return by code of the program's own.
+extern "C" void go_back();
+asm("go_back: mov $15,%eax; syscall\n.type go_back,@function\n.size go_back,.-go_back");
+static void handle(int number, void (*handler)(int)) {
+    struct { void (*handler)(int); unsigned long flags; void (*back)(); unsigned long mask; } it = {
+        handler, 0x04000000, go_back, 0};
+    syscall(SYS_rt_sigaction, number, &it, nullptr, sizeof it.mask);
+}
+
 static void ways() {
     if (pipe(line)) return;
     static const std::pair<const char *, void (*)()> all[] = {
         {"counts", counts}, {"prints", prints}, {"wakes", wakes}, {"deeper", deeper}, {"points", points},
         {"holds", holds}, {"asks", asks}, {"jumps", jumps}, {"sorts", sorts}, {"once", once}, {"leaves", leaves},
-        {"sleeps_first", sleeps_first}, {"is_told", is_told}, {"is_far", is_far}, {"traps", traps},
-        {"terminates", terminates}, {"unwinds", unwinds}, {"throws", throws}};
+        {"sleeps_first", sleeps_first}, {"is_told", is_told}, {"is_told_2", is_told}, {"is_far", is_far},
+        {"traps", traps}, {"terminates", terminates}, {"unwinds", unwinds}, {"throws", throws}};
     signal(SIGUSR1, [](int) { sleep(600); });
+    handle(SIGUSR2, [](int) { sleep(600); });
     atexit([] { sleep(600); });
     for (auto &it : all) {
         std::thread thread(it.second);
         pthread_setname_np(thread.native_handle(), it.first);
         if (it.second == is_told) {
             sleep(1);
-            pthread_kill(thread.native_handle(), SIGUSR1);
+            pthread_kill(thread.native_handle(), it.first == std::string("is_told") ? SIGUSR1 : SIGUSR2);
         }
         thread.detach();
     }
