@@ -272,12 +272,6 @@ class Service:
         return not self.broker.server.consumers(self.connection)
 
     @functools.cached_property
-    def is_awaited(self) -> bool:
-        """Whether its process waits here while it has a message at another connection, as for a reply."""
-        name = process_name(self.name)
-        return any(it.is_at_work and it.at_another() == [name] for it in self.broker.services.values())
-
-    @functools.cached_property
     def may_begin(self) -> bool:
         """Whether the state shows that it may publish to a queue for the first time: it has done nothing so far, it has
         its first message at work, or it gets dead messages, with which it may do what it has done with none before."""
@@ -534,7 +528,7 @@ def may_have_taken(service: Service, name: str, more: Dict[str, Any]) -> Process
     is_busy = service.does.kind in BUSY
     asked = [it for it in service.pending() if service.broker.services[it].may_answer]
     found = service.at_another() or service.senders or (asked if service.does.kind == AT else [])
-    proposal = "runs" if is_busy else "any" if found or service.is_awaited else "maybe"
+    proposal = "runs" if is_busy else "any" if found or service.does.kind == AT else "maybe"
     more.update(operation="take", objects=service.places())
     return unknown(name, "it needn't acknowledge, so the broker can't tell whether it is at work",
                    besides=service.by_limit(), candidates=[] if is_busy else [*found, COMPLETE],
