@@ -40,7 +40,7 @@ BRANCHES, FAR = {*range(153, 169), 198, 199}, {200, 201}
 AASTORE, GETSTATIC, PUTSTATIC, GETFIELD, PUTFIELD = 83, 178, 179, 180, 181
 VIRTUAL, SPECIAL, STATIC, INTERFACE, DYNAMICALLY, NEW, CAST = 182, 183, 184, 185, 186, 187, 192
 BY_HANDLE = {5: VIRTUAL, 6: STATIC, 7: SPECIAL, 8: SPECIAL, 9: INTERFACE}
-IS_STATIC, IS_FINAL, IS_NATIVE, IS_INTERFACE, IS_ABSTRACT = 8, 16, 0x100, 0x200, 0x400
+IS_PRIVATE, IS_STATIC, IS_FINAL, IS_NATIVE, IS_INTERFACE, IS_ABSTRACT = 2, 8, 16, 0x100, 0x200, 0x400
 # What instructions take from the stack, in slots, and leave there. Those that aren't here have more to say of it.
 PLAINLY: Dict[int, Tuple[int, str]] = {}
 for _left, _taken, _codes in (

@@ -18,9 +18,9 @@ from collections import defaultdict
 from typing import Any, Dict, Iterable, Iterator, List, NamedTuple, Optional, Sequence, Set, Tuple
 
 from cmh_classes import (AASTORE, ANY_VALUE, BROKEN, CAST, DYNAMICALLY, FROM, GETFIELD, GETSTATIC, INTERFACE,
-                         IS_ABSTRACT, IS_NATIVE, IS_STATIC, LAMBDAS, LENGTHS, NEW, NEW_VALUE, NO_OTHER, PUTFIELD,
-                         PUTSTATIC, RETURNS, STATIC, TYPE, U2, VIRTUAL, Call, ClassFile, Fault, Flow, Lambda, Method,
-                         bare, loaded_by, path_of, slots, steps)
+                         IS_ABSTRACT, IS_NATIVE, IS_PRIVATE, IS_STATIC, LAMBDAS, LENGTHS, NEW, NEW_VALUE, NO_OTHER,
+                         PUTFIELD, PUTSTATIC, RETURNS, STATIC, TYPE, U2, VIRTUAL, Call, ClassFile, Fault, Flow, Lambda,
+                         Method, bare, loaded_by, path_of, slots, steps)
 
 MOST_METHODS = 5_000  # that one thread may come to
 # What the JDK's own classes are called.
@@ -572,11 +572,15 @@ class Walk:
         self.add(some if not here else ())
 
     def add_made(self, some: Iterable[Lambda], call: Optional[Call] = None) -> None:
+        """Adds what lambdas call. What is given to one by the JDK is known where it calls just one method."""
         for it in some:
             found = self.program.find(it.call) if call is MAKE_WORKER else []
-            self.add(found, call)
-            if not found:
+            is_exact = it.call.how not in (VIRTUAL, INTERFACE) or all(one.flags & IS_PRIVATE for one in found)
+            if not found or not is_exact:
                 self.call(it.call)
+            else:
+                self.initialise(it.call.owner)
+                self.add(found, call)
 
     def initialise(self, name: str) -> None:
         some = [self.program.classes[it] for it in self.program.lineage(name)

@@ -11,6 +11,7 @@ import java.util.concurrent.Executors;
 import java.util.concurrent.FutureTask;
 import java.util.concurrent.LinkedBlockingQueue;
 import java.util.concurrent.ScheduledExecutorService;
+import java.util.concurrent.ThreadFactory;
 import java.util.concurrent.ThreadPoolExecutor;
 import java.util.concurrent.TimeUnit;
 import java.util.concurrent.atomic.AtomicInteger;
@@ -25,12 +26,13 @@ import java.util.concurrent.atomic.AtomicInteger;
  *   orders   two clerks of a pool wait for tasks that stand in its queue
  *   again    the clock has these tasks too
  *
- * DepotOpen also clears the bay for who asks. The stalls without that have no class of this name on their class path.
+ * DepotOpen also clears the bay for who asks, and DepotHires for whom its pool hires. The stalls of one have no class of
+ * the others' names on their class path.
  */
 public class Depot {
     protected final BlockingQueue<String> bay = new ArrayBlockingQueue<>(1);
     private final AtomicInteger shipped = new AtomicInteger(), clerks = new AtomicInteger();
-    private final ThreadPoolExecutor pool = new ThreadPoolExecutor(1, 2, 1, TimeUnit.HOURS,
+    protected final ThreadPoolExecutor pool = new ThreadPoolExecutor(1, 2, 1, TimeUnit.HOURS,
         new LinkedBlockingQueue<>(1), it -> new Thread(it, "answerer"));
     private final ThreadPoolExecutor desk = new ThreadPoolExecutor(2, 2, 0, TimeUnit.SECONDS,
         new LinkedBlockingQueue<>(), it -> new Thread(it, "clerk-" + clerks.incrementAndGet()));
@@ -111,5 +113,32 @@ class DepotOpen extends Depot {
 
     public static void main(String[] words) throws Exception {
         begin(new DepotOpen(), List.of(words));
+    }
+}
+
+/** Makes threads for a pool, by a method that others may have of their own. */
+class Hirer {
+    Thread hire(Runnable work) {
+        return new Thread(work, "hired");
+    }
+
+    ThreadFactory factory() {
+        return this::hire;
+    }
+}
+
+/** Who hires a thread for the server's pool takes a box out. */
+class DepotHires extends Depot {
+    class Taker extends Hirer {
+        @Override Thread hire(Runnable work) {
+            bay.poll();
+            return super.hire(work);
+        }
+    }
+
+    public static void main(String[] words) throws Exception {
+        DepotHires its = new DepotHires();
+        its.pool.setThreadFactory(its.new Taker().factory());
+        begin(its, List.of(words));
     }
 }
