@@ -797,10 +797,12 @@ class Waits:
                 "besides": self.besides(thread.blocker, [thread])} if row else {}
 
     def in_queue(self, work: int) -> Row:
-        """Returns the threads of the pool in whose queue some work stands, and whether it has all that it may have."""
+        """Returns the threads of the pool in whose queue some work stands, and whether it has all that it may have. A
+        timer's work is done by that too."""
         pools = [] if {QUEUE, NODE, WORKER} & self.heap.over else [
             pool for pool in self.found[POOL] if work in self.queued(pool)]
-        if len(pools) != 1:
+        timer = self.found[TASK][work][3] if work in self.found[TASK] else 0
+        if len(pools) != 1 or timer in self.found[POOL]:
             return {}
         queue, least, most = self.found[POOL][pools[0]]
         workers = self.workers(pools[0])

@@ -11,6 +11,7 @@ import java.util.concurrent.Executors;
 import java.util.concurrent.FutureTask;
 import java.util.concurrent.LinkedBlockingQueue;
 import java.util.concurrent.ScheduledExecutorService;
+import java.util.concurrent.ScheduledFuture;
 import java.util.concurrent.ThreadFactory;
 import java.util.concurrent.ThreadPoolExecutor;
 import java.util.concurrent.TimeUnit;
@@ -26,8 +27,8 @@ import java.util.concurrent.atomic.AtomicInteger;
  *   orders   two clerks of a pool wait for tasks that stand in its queue
  *   again    the clock has these tasks too
  *
- * DepotOpen also clears the bay for who asks, and DepotHires for whom its pool hires. The stalls of one have no class of
- * the others' names on their class path.
+ * DepotOpen also clears the bay for who asks, and DepotHires for whom its pool hires. DepotTwice has clerks alone. The
+ * stalls of one have no class of the others' names on their class path.
  */
 public class Depot {
     protected final BlockingQueue<String> bay = new ArrayBlockingQueue<>(1);
@@ -140,5 +141,28 @@ class DepotHires extends Depot {
         DepotHires its = new DepotHires();
         its.pool.setThreadFactory(its.new Taker().factory());
         begin(its, List.of(words));
+    }
+}
+
+/** A clerk waits until what a clock does again and again fails, which stands in the queue of the clerk's pool too. */
+class DepotTwice {
+    static int halve(AtomicInteger left) {
+        return 100 / left.getAndDecrement();
+    }
+
+    public static void main(String[] words) {
+        ScheduledExecutorService clock = Executors.newScheduledThreadPool(1, it -> new Thread(it, "clock"));
+        ThreadPoolExecutor desk = new ThreadPoolExecutor(1, 1, 0, TimeUnit.SECONDS, new LinkedBlockingQueue<>(),
+            it -> new Thread(it, "clerk"));
+        AtomicInteger left = new AtomicInteger(1);
+        desk.execute(() -> {
+            try {
+                ScheduledFuture<?> part = clock.scheduleAtFixedRate(() -> halve(left), 1, 1, TimeUnit.HOURS);
+                desk.execute((Runnable) part);
+                part.get();
+            } catch (Exception e) {
+                System.out.println(e);
+            }
+        });
     }
 }
