@@ -31,7 +31,7 @@ DYNAMIC = re.compile(r"java/lang/reflect/Proxy\..*|java/lang/System\.set(?:Out|E
                      r"|.*\.define(?:Class|HiddenClass|AnonymousClass)\w*"
                      r"|java/lang/(?:ModuleLayer\..*|ClassLoader\.<init>)"
                      r"|java/(?:net/URL|security/Secure)ClassLoader\..*|java/util/ServiceLoader\..*"
-                     r"|java/lang/invoke/MethodHandleProxies\..*|java/(?:rmi|beans)/.*"
+                     r"|java/lang/invoke/(?:MethodHandleProxies|\w*CallSite)\..*|java/(?:rmi|beans)/.*"
                      r"|javax/management/(?:JMX\..*|MBeanServerInvocationHandler\..*|loading/.*\.<init>)"
                      r"|javax/tools/(?:\w*FileManager\.getClassLoader|ToolProvider\..*)")
 # Calls by which a class is found by its name: in a folder it may come to stand later.
@@ -50,7 +50,7 @@ MEETS_FOR = re.compile(r"java/util/concurrent/CyclicBarrier\.<init> with Runnabl
 POOLS = re.compile(r".*\.(?:allowCoreThreadTimeOut|setCorePoolSize)")
 # Types of the JDK whose methods no method in HARMLESS calls, though the program has classes and lambdas of them.
 PASSIVE = re.compile(r"java/lang/(?:Object|Record|Enum|Runnable|Cloneable|AutoCloseable|Thread)"
-                     r"|java/io/(?:Closeable|Serializable)|com/sun/net/httpserver/\w+"
+                     r"|java/io/(?:Closeable|Serializable)|com/sun/net/httpserver/(?!Headers$)\w+"
                      r"|java/util/(?:TimerTask|concurrent/(?:Callable|ThreadFactory))")
 MARKERS = re.compile(r"java/lang/(?:Object|Runnable|Cloneable|AutoCloseable|Comparable)"
                      r"|java/io/(?:Closeable|Serializable)|java/util/concurrent/Callable")
@@ -939,7 +939,7 @@ class Reading:
         is_same = call.how in (VIRTUAL, INTERFACE) and self.flow.source != "" and self.part.above != () and (
             given[0].partition(FROM)[2] == self.flow.source)
         is_known = is_same and ("." not in self.flow.source or not self.walk.program.names(SETS_FIELDS))
-        if is_known and self.flow.call and call[2:] == self.flow.call[2:] and call.types.startswith("()"):
+        if is_known and self.flow.call and call[1:] == self.flow.call[1:] and call.types.startswith("()"):
             self.walk.add(self.part.above)
         elif is_known and self.part.of in self.walk.program.below.get(call.owner, ()):
             self.walk.call(call._replace(owner=self.part.of), given)

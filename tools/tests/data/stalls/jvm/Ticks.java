@@ -1,4 +1,5 @@
 import java.io.*;
+import java.lang.invoke.*;
 import java.lang.ref.*;
 import java.nio.file.*;
 import java.time.LocalDate;
@@ -621,4 +622,59 @@ class Hosts extends Tick {
     void tick() throws Exception { repeat(Host.LAST); }
 
     public static void main(String[] words) { new Hosts().start(); }
+}
+
+/** What one class calls by a method of its own, others call by another of that name. */
+class RepeatsHidden extends Tick {
+    static class Turn {
+        private void go() throws Exception { rest(); }
+
+        static void repeat(Last last) throws Exception {
+            while (true) {
+                ((Turn) last).go();
+                last.go();
+            }
+        }
+    }
+    static class Last extends Turn {
+        final Semaphore its;
+
+        Last(Semaphore its) { this.its = its; }
+
+        public void go() { its.release(); }
+    }
+
+    void tick() throws Exception { Turn.repeat(new Last(permits)); }
+
+    public static void main(String[] words) { new RepeatsHidden().start(); }
+}
+
+/** A server's headers are a map, whose code is that of the program here. */
+class Heads extends Tick {
+    class Head extends com.sun.net.httpserver.Headers {
+        @Override public Set<Map.Entry<String, List<String>>> entrySet() { permits.release(); return Set.of(); }
+    }
+    final Map<String, List<String>> head = new Head();
+
+    void tick() throws Exception { while (true) { rest(); System.out.println(new TreeMap<>(head).size()); } }
+
+    public static void main(String[] words) { new Heads().start(); }
+}
+
+/** The program makes a function of a method that it finds by its name. */
+class Sites extends Tick {
+    interface Step { void run(); }
+    static class Rest implements Step { public void run() { } }
+    final Step step;
+
+    Sites() throws Throwable {
+        MethodHandles.Lookup its = MethodHandles.lookup();
+        MethodType none = MethodType.methodType(void.class), of = MethodType.methodType(Step.class, Semaphore.class);
+        MethodHandle frees = its.findVirtual(Semaphore.class, "release", none);
+        step = (Step) LambdaMetafactory.metafactory(its, "run", of, none, frees, none).getTarget().invoke(permits);
+    }
+
+    void tick() throws Exception { while (true) { rest(); step.run(); } }
+
+    public static void main(String[] words) throws Throwable { new Sites().start(); }
 }
