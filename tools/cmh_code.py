@@ -228,6 +228,7 @@ ROOTS = re.compile(r"java/lang/(?:Object|Record|Enum|Comparable|Cloneable)|java/
 COLLECTIONS = re.compile(r"java/util/(?!function/).*")
 OF_STREAMS, OF_ANY = re.compile(r"java/(?:n?io|util/(?:zip|jar)|security|net)/.*|javax/.*"), re.compile(r".*")
 COLLECTION = re.compile(rf"{MAPS}|{LISTS}|java/util/ListIterator")
+BLOCKING = re.compile(r"java/util/concurrent/(?:\w*Blocking(?:Queue|Deque)|\w*TransferQueue|DelayQueue)")
 # The views of a map, among which no queue is, the iterators of what is none, and what makes these.
 VIEWS, VIEW = re.compile(rf"{MAPS}\.(?:values|keySet|entrySet)"), "Ljava/util/Set;"
 ITERATES, ITERATOR = re.compile(rf"{LISTS}\.(?:iterator|listIterator|descendingIterator)"), "Ljava/util/ListIterator;"
@@ -262,6 +263,7 @@ TEXTS = (("toString", "()Ljava/lang/String;"), ("hashCode", "()I"), ("equals", "
 OF_OBJECTS = {("getClass", "()Ljava/lang/Class;"),  # (which no class can change)
               ("notify", "()V"), ("notifyAll", "()V"), ("wait", "()V"), ("wait", "(J)V"), ("wait", "(JI)V")}
 AT_END = ("uncaughtException", "getUncaughtExceptionHandler")  # (which run once an exception ends a thread)
+OF_THREADS = ("getId", "isInterrupted")  # (which a log and a channel ask of the thread that uses them)
 OF_RECORDS = "java/lang/runtime/ObjectMethods"
 MAKERS = re.compile(rf"java/lang/invoke/StringConcatFactory|{OF_RECORDS}|java/lang/runtime/SwitchBootstraps")
 # What serves HTTP, and its timers, which close connections.
@@ -325,6 +327,8 @@ class Program:
             self.named.update(each.named())
             if any(map(DYNAMIC.fullmatch, each.named())):
                 raise Fault(f"{each.name} makes classes, proxies or streams of its own")
+            if self.has_kind(self.kinds[each.name], BLOCKING) and any(map(COLLECTION.fullmatch, self.kinds[each.name])):
+                raise Fault(f"{each.name} is a queue and another collection")
             for key, method in each.methods.items():
                 self.by_call[key] += [] if method.flags & IS_STATIC or key[0] == "<init>" else [method]
             for made in each.lambdas():
@@ -534,6 +538,7 @@ class Walk:
         for name in AT_END:
             self.add(it for (other, _), some in self.program.by_call.items() if other == name for it in some)
             self.add_made(self.program.lambdas.get(name, ()))
+        self.add(it for it in self.own_of_threads() if it.name in OF_THREADS)
         for part in self.todo:  # (which grows meanwhile)
             if part.method.flags & IS_NATIVE or len(self.todo) > MOST_METHODS:
                 raise Fault(f"{part.method.owner}.{part.method.name} is native, or the code is long")
@@ -708,6 +713,13 @@ class Walk:
             self.call_back(OF_LESS if is_alone else OF_ANY)
         else:
             raise Fault(f"it may come to {what}")
+
+    def own_of_threads(self) -> Iterator[Method]:
+        """Yields the methods of those classes of the program that are threads."""
+        some = {it for name, kinds in self.program.kinds.items() if ITSELF[0] in kinds
+                for it in self.program.lineage(name) if it in self.program.classes}
+        for name in some:
+            yield from self.program.classes[name].methods.values()
 
     def own_of(self, types: "re.Pattern[str]") -> List[Method]:
         return [it for it in self.program.called_back(types) if isinstance(it, Method)]

@@ -678,3 +678,37 @@ class Sites extends Tick {
 
     public static void main(String[] words) throws Throwable { new Sites().start(); }
 }
+
+/** Whoever logs is asked for its number. */
+class Numbered extends Tick {
+    static final Logger LOG = Logger.getLogger("ticks");
+    class Own extends Thread {
+        Own() { super("ticker"); }
+
+        @Override public long getId() { permits.release(); return 1; }
+
+        @Override public void run() {
+            try {
+                while (true) {
+                    rest();
+                    LOG.info("tick");
+                }
+            } catch (InterruptedException e) {
+            }
+        }
+    }
+
+    void tick() { new Own().start(); }
+
+    public static void main(String[] words) { new Numbered().tick(); }
+}
+
+/** A queue is a set too. */
+class Sets extends Tick {
+    static class Both extends ArrayBlockingQueue<String> implements Set<String> { Both() { super(1); } }
+    final Set<String> its = new Both();
+
+    void tick() throws Exception { while (true) { rest(); its.remove("a"); } }
+
+    public static void main(String[] words) { new Sets().start(); }
+}
