@@ -323,6 +323,7 @@ def with_proposal(block: Block, moment: Nodes, more: Dict[str, Any]) -> Process:
         is_open = limits != ["infinity"] or block.is_stack_cut or "timers" in block.code()
         more["candidates"] += [COMPLETE] if is_open else []
     more["note"] = f"{more['operation']} in {block.frames()[0]}" if block.own else more["note"]
-    if receives and limits == ["infinity"] and len(block.frames()) > 1:
+    # (who goes on by itself, by a timer or a port, doesn't wait for the others)
+    if receives and limits == ["infinity"] and len(block.frames()) > 1 and id(block) in moment.reacting:
         more.update(bound=moment.acting, bound_by=list(map(premise, [ALONE, HARMLESS])), at_rest=True)
     return unknown(moment.name(block), reason, **more)
