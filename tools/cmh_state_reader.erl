@@ -210,11 +210,12 @@ without_messages(Code) ->
                  [case Each of {loop_rec, Label, _} -> {jump, Label}; _ -> Each end || Each <- Instructions]
              end, Code).
 
-%% Whether no receive on the way takes what timers tell.
+%% Whether no receive on the way takes what timers tell, or the end of whom it begins to monitor.
 is_untold(Frames, {Silent, _, _}, {Code, _, Ticks}) ->
-    Called = [Other || {Word, Other} <- closure([{Each, #{}} || Each <- Frames], Silent),
-                       Word =:= calls orelse Word =:= tail, is_map_key(Other, Code)],
-    not lists:any(fun(Each) -> lists:any(fun(Message) -> takes(Each, Message, Code) end, Ticks) end, Frames ++ Called).
+    Effects = closure([{Each, #{}} || Each <- Frames], Silent),
+    Called = [Other || {Word, Other} <- Effects, Word =:= calls orelse Word =:= tail, is_map_key(Other, Code)],
+    Told = Ticks ++ ends_heard(Effects),
+    not lists:any(fun(Each) -> lists:any(fun(Message) -> takes(Each, Message, Code) end, Told) end, Frames ++ Called).
 
 is_firm(Frames, Code) ->
     not lists:any(fun may_fail/1, closure([{Each, #{}} || Each <- Frames], Code)).
@@ -298,7 +299,27 @@ is_timer(Each) -> Each =:= aimed.
 
 mentions_timer(Instructions) ->
     Constants = [Constant || Each <- Instructions, is_tuple(Each), {literal, Constant} <- tuple_to_list(Each)],
-    lists:any(fun({Module, Name, _}) -> timer(Module, Name, [any, any, any, any]) =/= none end, funs_among(Constants)).
+    lists:any(fun({Module, Name, _}) -> timer(Module, Name, [any, any, any, any]) =/= none end, funs_among(Constants))
+        orelse names_timer(atoms_among(Instructions, Constants)).
+
+%% Whether some names may be those of a timer, as another process is told which to begin.
+names_timer(Atoms) ->
+    lists:any(fun(Module) -> lists:member(Module, Atoms) end, [erlang, timer, 'Elixir.Process'])
+        andalso lists:any(fun(Name) -> may_begin({atom, Name}, any) end, Atoms).
+
+%% The atoms that some code has as terms.
+atoms_among(Instructions, Constants) ->
+    Terms = [Atom || Each <- Instructions, is_tuple(Each), {atom, Atom} <- parts_among(tuple_to_list(Each))],
+    Terms ++ lists:flatmap(fun atoms_in/1, Constants).
+
+parts_among(Parts) ->
+    lists:flatmap(fun({list, More}) -> More; (Part) when is_list(Part) -> Part; (Part) -> [Part] end, Parts).
+
+atoms_in(Term) when is_atom(Term) -> [Term];
+atoms_in([Head | Tail]) -> atoms_in(Head) ++ atoms_in(Tail);
+atoms_in(Term) when is_tuple(Term) -> atoms_in(tuple_to_list(Term));
+atoms_in(Term) when is_map(Term) -> atoms_in(maps:to_list(Term));
+atoms_in(_) -> [].
 
 %% What a timer does that a call begins.
 timer(erlang, send_after, [_, To, Message | _]) -> aimed_at(To, Message);
@@ -347,6 +368,9 @@ is_so(wakes, {events, Handlers}, {Code, _, _}) ->
         orelse lists:any(fun(Each) -> is_timer(Each) orelse Each =:= dynamic end, closure(Own, Code));
 is_so(wakes, {frames, [Top | _]}, {Code, _, Ticks}) ->
     not is_map_key(Top, Code) orelse lists:any(fun(Message) -> takes(Top, Message, Code) end, Ticks);
+is_so(wakes, {told, {loop, Module, Limits} = Place}, {Code, _, Ticks} = Known) ->
+    Told = [{{Module, handle_info, 2}, #{{x, 0} => Message}} || Message <- [{atom, timeout} || Limits =/= []] ++ Ticks],
+    is_so(wakes, Place, Known) orelse lists:member(prints, closure(Told, Code));
 is_so(wakes, {told, Place}, Known) -> is_so(wakes, Place, Known);
 is_so(wakes, {frames, []}, _) -> true;
 is_so(_, _, _) -> false.
@@ -372,11 +396,15 @@ is_silent(Module, Kind, Message, {Code, _, _} = Known, Seen) ->
         Effects = closure([{Function, #{{x, 0} => Message}}], Code),
         Ends = ends(Function, #{{x, 0} => Message}, Code, []),
         Told = case Ends of none -> [any]; _ -> lists:flatmap(fun wakes_by/1, Ends) end,
-        Next = Told ++ [It || {tick, It} <- Effects],
+        Next = Told ++ [It || {tick, It} <- Effects] ++ ends_heard(Effects),
         not lists:member(any, Next)
             andalso lists:all(fun(Each) -> not is_sending(Each) andalso is_harmless_one(Each, Known) end, Effects)
             andalso lists:all(fun(It) -> is_silent(Module, info, It, Known, [Now | Seen]) end, Next)
     end.
+
+%% What is told of the end of whom it begins to monitor: at once, if that isn't there.
+ends_heard(Effects) ->
+    [{tuple, [{atom, 'DOWN'}, any, any, any, any]} || lists:member(monitors, Effects)].
 
 is_sending(Each) -> is_tuple(Each) andalso element(1, Each) =:= sends.
 
@@ -444,11 +472,11 @@ closure([{Function, Known} | Rest], Code, Seen, Found) ->
     end.
 
 %% What a module has of which Elixir's own ones may call the functions.
--define(PROTOCOLS, [{'__impl__', 1}, {day_rollover_relative_to_midnight_utc, 0}, {get_and_update, 3}, {message, 1},
-                    {time_zone_period_from_utc_iso_days, 2}]).
+-define(PROTOCOLS, [{'__impl__', 1}, {compare, 2}, {day_rollover_relative_to_midnight_utc, 0}, {fetch, 2},
+                    {get_and_update, 3}, {message, 1}, {time_zone_period_from_utc_iso_days, 2}]).
 
-%% The functions of the program that Elixir's own ones may call: by a protocol, or as a calendar, its time zones or an
-%% exception. And `dynamic` if the program has streams, which have funs.
+%% The functions of the program that Elixir's own ones may call: by a protocol, to compare, or as a calendar, its time
+%% zones or an exception. And `dynamic` if the program has streams, which have funs.
 of_protocols(Code) ->
     Key = {?MODULE, protocols},
     case get(Key) of
@@ -550,6 +578,9 @@ step({get_tuple_element, From, At, To}, Known) ->
 step({put_tuple2, To, {list, Parts}}, Known) ->
     {set(To, {tuple, [value(Part, Known) || Part <- Parts]}, Known), [], []};
 step({Put, _, _, To, _, _}, Known) when Put =:= put_map_assoc; Put =:= put_map_exact -> {set(To, map, Known), [], []};
+step({gc_bif, Name, {f, 0}, _, [_, Divisor], To}, Known) when Name =:= 'div'; Name =:= 'rem' ->
+    IsZero = case value(Divisor, Known) of {integer, Number} -> Number =:= 0; _ -> true end,
+    {maps:remove(plain(To), Known), [], [fails || IsZero]};
 step({bif, self, _, [], To}, Known) -> {set(To, self, Known), [], []};
 step({make_fun3, Function, _, _, To, _}, Known) -> {set(To, {function, Function}, Known), [], [{calls, Function}]};
 step({make_fun2, Function, _, _, _}, Known) -> {set({x, 0}, {function, Function}, Known), [], [{calls, Function}]};
@@ -574,7 +605,9 @@ step_of_call({call_ext_last, _, Function, _}, Known) -> {stop, [], last(Function
 step_of_call({apply, 0}, #{{x, 0} := no_map}) -> {stop, [], []}; % (as Elixir has it for `state.key` of what is no map)
 step_of_call({call_fun, _}, Known) -> {only(y, Known), [], [dynamic]};
 step_of_call({apply, Arity}, Known) -> {only(y, Known), [], applied(Arity, Known)};
-step_of_call({apply_last, Arity, _}, Known) -> {stop, [], [{returns, any} | applied(Arity, Known)]};
+step_of_call({apply_last, Arity, _}, Known) ->
+    Naps = [naps || Arity =:= 1, may_sleep(value({x, Arity + 1}, Known))],
+    {stop, [], [{returns, any} | Naps ++ applied(Arity, Known)]};
 step_of_call({call_fun2, _, _, Fun}, Known) ->
     case value(Fun, Known) of
         {function, Function} -> {only(y, Known), [], [{calls, Function}]};
@@ -666,12 +699,16 @@ external({extfunc, Module, Name, Arity}, Known) ->
 
 last({extfunc, Module, Name, Arity} = Function, Known) ->
     Naps = [naps || Name =:= sleep, Arity =:= 1, value({x, 0}, Known) =/= {atom, infinity}],
-    [{tail, {Module, Name, Arity}} | Naps ++ external(Function, Known)].
+    Named = [naps || Name =:= apply, Arity =:= 3, may_sleep(value({x, 1}, Known))],
+    [{tail, {Module, Name, Arity}} | Naps ++ Named ++ external(Function, Known)].
+
+may_sleep({atom, Name}) -> Name =:= sleep;
+may_sleep(_) -> true.
 
 %% Those of Elixir's own that may call what a program has for one of its protocols, or as its calendar.
 -define(LAZY, ['Elixir.Access', 'Elixir.Calendar', 'Elixir.Date', 'Elixir.DateTime', 'Elixir.Enum', 'Elixir.IO',
-               'Elixir.Inspect', 'Elixir.Kernel', 'Elixir.Keyword', 'Elixir.List', 'Elixir.Logger', 'Elixir.Map',
-               'Elixir.MapSet', 'Elixir.NaiveDateTime', 'Elixir.String', 'Elixir.String.Chars', 'Elixir.Time']).
+               'Elixir.Inspect', 'Elixir.Inspect.Algebra', 'Elixir.Kernel', 'Elixir.Keyword', 'Elixir.List', 'Elixir.Logger',
+               'Elixir.Map', 'Elixir.MapSet', 'Elixir.NaiveDateTime', 'Elixir.String', 'Elixir.String.Chars', 'Elixir.Time']).
 
 %% Of these, those that may run a stream.
 -define(RUNNING_STREAMS, ['Elixir.Access', 'Elixir.Enum', 'Elixir.Keyword', 'Elixir.List', 'Elixir.Map',
@@ -689,6 +726,7 @@ outcome(Module, Name, Given) ->
     case is_mild(Module, Name, Given) of
         true ->
             [lazy || lists:member(Module, ?LAZY)] ++ [streams || lists:member(Module, ?RUNNING_STREAMS)]
+                ++ [prints || Module =:= io orelse Module =:= 'Elixir.IO']
                 ++ [fails || lists:member(Module, [ets, file, 'Elixir.File']) orelse Name =:= process_info];
         false -> [{calls, {Module, Name, length(Given)}}]
     end.
@@ -763,14 +801,18 @@ may_be_funs(Module, Name, [Device | _] = Given) when Module =:= io; Module =:= '
     IsNamed = lists:member({Name, length(Given)}, [{format, 3}, {fwrite, 3}, {nl, 1}, {put_chars, 2}, {write, 2},
                                                    {binwrite, 2}, {inspect, 3}, {puts, 2}]),
     Plain = [{atom, Of} || Of <- [standard_error, standard_io, stderr, stdio, user]],
-    [any || IsNamed, not lists:member(Device, Plain)];
+    IsTold = Name =:= inspect andalso length(Given) > 1 andalso not is_constant(lists:last(Given)),
+    [any || IsTold orelse IsNamed andalso not lists:member(Device, Plain)];
 may_be_funs(logger, _, [Text, _ | _] = Given) -> [Text | [any || lists:last(Given) =:= map]];
 may_be_funs('Elixir.Inspect.Algebra', Name, Given) ->
     [any || lists:member(Name, [container_doc, fold_doc]), not lists:any(fun is_function_value/1, Given)];
 may_be_funs(ets, Name, [Fun | _]) when Name =:= foldl; Name =:= foldr -> [Fun];
 may_be_funs(timer, tc, Given) -> case Given of [_, _, _ | _] -> [any]; [Fun | _] -> [Fun] end;
 %% What is answered later comes as a message.
-may_be_funs(Module, cancel_timer, [_, Options]) when Module =:= erlang; Module =:= 'Elixir.Process' -> [Options];
+may_be_funs(Module, Name, [_, Options]) when Module =:= erlang orelse Module =:= 'Elixir.Process',
+                                             Name =:= cancel_timer orelse Name =:= garbage_collect
+                                                 orelse Name =:= read_timer ->
+    [any || is_answered_later(Options)];
 may_be_funs(Module, replace, [_, _, With | Options]) when Module =:= 're'; Module =:= 'Elixir.Regex';
                                                            Module =:= 'Elixir.String' -> [With | Options];
 may_be_funs(Module, _, [_, _ | _] = Given) when Module =:= 'Elixir.Calendar'; Module =:= 'Elixir.Kernel' ->
@@ -795,6 +837,10 @@ may_be_funs(Module, Name, Given) when Module =:= 'Elixir.Map'; Module =:= 'Elixi
         _ -> [lists:last([none | Given])]
     end;
 may_be_funs(_, _, _) -> [].
+
+is_answered_later({constant, Options}) when is_list(Options) ->
+    lists:keymember(async, 1, Options) andalso not lists:member({info, false}, Options);
+is_answered_later(_) -> true.
 
 is_function_value({function, _}) -> true;
 is_function_value(_) -> false.
@@ -1178,7 +1224,7 @@ untold(P, {frames, []}) ->
             case lists:member(P, leaving()) of true -> none; false -> {frames, []} end;
         _ -> none
     end;
-untold(P, {frames, _} = Place) ->
+untold(P, Place) when element(1, Place) =:= frames; element(1, Place) =:= loop ->
     case process_info(P, group_leader) of
         {_, Leader} -> case is_plain_leader(Leader) of true -> Place; false -> {told, Place} end;
         undefined -> none
@@ -1223,10 +1269,15 @@ handlers_of_system() ->
 %% Whether what the log runs for each of its events, and what handles others of the system, is Erlang's and Elixir's own.
 is_plain_log() ->
     #{primary := Primary, handlers := Handlers} = logger:get_config(),
-    Filters = lists:append([maps:get(filters, Each, []) || Each <- [Primary | Handlers]]),
-    Formatters = [Module || #{formatter := {Module, _}} <- Handlers],
-    Own = [Module || {Module, _, _} <- funs_among(Filters)] ++ [Module || #{module := Module} <- Handlers],
-    lists:all(fun is_of_otp/1, Own ++ Formatters ++ handlers_of_system()).
+    Funs = [Module || {Module, _, _} <- funs_among([Primary | Handlers])],
+    Named = [Module || Module <- lists:usort(lists:flatmap(fun atoms_in/1, Handlers)), erlang:module_loaded(Module)],
+    is_plain_text() andalso not lists:member(erl_eval, Funs)
+        andalso lists:all(fun is_of_otp/1, Funs ++ Named ++ handlers_of_system()).
+
+%% Whether Elixir makes texts of terms by its own function.
+is_plain_text() ->
+    not erlang:function_exported('Elixir.Inspect.Opts', default_inspect_fun, 0)
+        orelse 'Elixir.Inspect.Opts':default_inspect_fun() =:= fun 'Elixir.Inspect':inspect/2.
 
 frames_of(Frames, Started, Count) ->
     Below = case lists:reverse(Frames) of
