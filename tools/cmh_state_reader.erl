@@ -128,13 +128,14 @@ receives(Codes, Node) ->
                                                     lists:member({is_in, Name, Arity}, Functions)],
     Quiet = [{Module, Name, Arity} || {Module, Functions, Parts} <- Known, {sleeps, Name, Arity} <- Functions,
                                       is_quiet(Module, {Name, Arity}, Parts)],
+    Code = [{{Module, Name, Arity}, Instructions} || {Module, _, Parts} <- Known,
+                                                     {{Name, Arity}, Instructions} <- Parts],
+    Whole = case lists:keymember(none, 1, Known) of true -> Code; false -> none end,
     Receives = [list_to_tuple([Module, Name, Arity, lists:usort(lists:flatmap(fun limit/1, Instructions))
-                               | register(Instructions)])
+                               | register(Instructions) -- [told || is_handed_on(asked_with(Instructions), Whole)]])
                 || {Module, Name, Arity, Instructions} <- Found],
     Asks = [{Module, Name, Arity, Asked} || {Module, Name, Arity, Instructions} <- Found,
                                             [_ | _] = Asked <- [asked_in(Instructions)]],
-    Code = [{{Module, Name, Arity}, Instructions} || {Module, _, Parts} <- Known,
-                                                     {{Name, Arity}, Instructions} <- Parts],
     Ways = ways([Place || {_, Functions, _} <- Known, Place <- Functions], maps:from_list(Code)),
     [[io_lib:format("=~s ~b ~ts~n", [Word, length(Rows), Node]) | [io_lib:format("~0tp~n", [Row]) || Row <- Rows]]
      || {Word, Rows} <- [{"receives", Receives}, {"asks", Asks}, {"quiet", Quiet} | Ways]].
@@ -536,7 +537,7 @@ walked([{[Each | Rest], Known} | Paths], Labels, Seen, Found) ->
     {Next, Jumps, Effects} = step(Each, Known),
     Onward = [{Rest, Next} || Next =/= stop] ++ [{[{label, Label} | maps:get(Label, Labels)], After}
                                                 || {Label, After} <- Jumps, Label > 0],
-    walked(Onward ++ Paths, Labels, Seen, Effects ++ Found).
+    walked(Onward ++ Paths, Labels, Seen, [handed || is_handed(Each, Known)] ++ Effects ++ Found).
 
 %% What an instruction does: what is known behind it (`stop` if none follows), where it may jump, and its effects.
 step({test, is_map, {f, Other}, [Register]}, Known) ->
@@ -648,7 +649,7 @@ set(Register, any, Known) -> maps:remove(plain(Register), Known);
 set(Register, Value, Known) -> Known#{plain(Register) => Value}.
 
 %% A value as it is known: {atom, A}, {integer, N}, {tuple, Values}, {constant, C}, {function, F}, `self`, `new` for a
-%% reference that is made, `map` or `no_map`, or `any`.
+%% reference that is made, `asked` for one of a question, {asker, 0}, `map` or `no_map`, or `any`.
 value({Word, _} = Constant, _) when Word =:= atom; Word =:= integer -> Constant;
 value({literal, Term}, _) -> constant(Term);
 value(nil, _) -> {constant, []};
@@ -661,7 +662,7 @@ constant(Term) -> case funs_among([Term]) of [] -> {constant, Term}; _ -> any en
 
 %% Whether a test on a value is known to hold.
 holds(_, any, _) -> unknown;
-holds(_, Value, _) when Value =:= new; Value =:= no_map -> unknown;
+holds(_, Value, _) when Value =:= asked; Value =:= new; Value =:= no_map -> unknown;
 holds(Test, map, _) when Test =:= is_atom; Test =:= is_tuple; Test =:= is_tagged_tuple; Test =:= is_list -> false;
 holds(_, map, _) -> unknown;
 holds(is_tagged_tuple, {tuple, [Tag | _] = Parts}, [Size, Wanted]) ->
@@ -677,7 +678,7 @@ holds(is_eq_exact, {tuple, _}, [{Other, _}]) when Other =:= atom; Other =:= inte
 holds(_, _, _) -> unknown.
 
 chosen(any, Other, Cases, Known) -> {stop, [{Label, Known} || {f, Label} <- [{f, Other} | Cases]], []};
-chosen(Value, Other, Cases, Known) when Value =:= new; Value =:= map; Value =:= no_map ->
+chosen(Value, Other, Cases, Known) when Value =:= asked; Value =:= new; Value =:= map; Value =:= no_map ->
     chosen(any, Other, Cases, Known);
 chosen(Value, Other, Cases, Known) -> {stop, [{case_of(Value, Other, Cases), Known}], []}.
 
@@ -945,6 +946,63 @@ is_told_once(Before) ->
             end;
         _ -> false
     end.
+
+%% The message in which a function sends the reference that it makes, as others take it.
+asked_with(Instructions) ->
+    IsMade = fun(Each) -> Each =:= {call_ext, 0, {extfunc, erlang, make_ref, 0}} end,
+    {_, Since} = lists:splitwith(fun(Each) -> not IsMade(Each) end, Instructions),
+    Skipped = [init_yregs, line, recv_marker_bind, recv_marker_reserve, test_heap],
+    Before = [Each || Each <- lists:takewhile(fun(Each) -> not is_plain_send(Each) end, lists:nthtail(1, [none | Since])),
+                      is_tuple(Each), not IsMade(Each), not lists:member(element(1, Each), Skipped)],
+    case value({x, 1}, lists:foldl(fun(Each, Known) -> element(1, step(Each, Known)) end, #{{x, 0} => asked}, Before)) of
+        {tuple, Parts} -> {tuple, [case Part of self -> {asker, 0}; _ -> Part end || Part <- Parts]};
+        _ -> none
+    end.
+
+%% Whether some function that takes a question may do more with the reference in it than to send that back: hand it on,
+%% or keep it. None is known where the code isn't whole, or a server has other callbacks.
+is_handed_on(none, _) -> true;
+is_handed_on(_, none) -> true;
+is_handed_on(Question, Code) ->
+    lists:any(fun({{_, Name, Arity}, Instructions}) ->
+                  {Name, Arity} =:= {callback_mode, 0} orelse
+                      lists:member(handed, taken({Name, Arity}, Instructions, Question))
+              end, Code).
+
+%% What a function does with a message that it takes.
+taken(Function, Instructions, Message) ->
+    Body = [tl(lists:dropwhile(fun(Each) -> not is_entry(Each) end, Instructions)) || Function =:= {handle_info, 2}],
+    Begins = [{Rest, #{plain(Register) => Message}} || [{loop_rec, _, Register} | Rest] <- tails(Instructions)]
+        ++ [{Rest, #{{x, 0} => Message}} || Rest <- Body],
+    case Begins of [] -> []; _ -> walked(Begins, parts_by_label(Instructions)) end.
+
+%% Whether an instruction hands on what has the reference of a question, or keeps it where it isn't followed.
+is_handed(Each, Known) ->
+    Having = [Register || {Register, Value} <- maps:to_list(Known), has_asked(Value)],
+    Having =/= [] andalso is_handed(Each, Having, value({x, 0}, Known)).
+
+has_asked({tuple, Parts}) -> lists:any(fun has_asked/1, Parts);
+has_asked(Value) -> Value =:= asked.
+
+is_handed(send, Having, Whom) -> lists:member({x, 1}, Having) andalso Whom =/= {asker, 0};
+is_handed(return, Having, _) -> lists:member({x, 0}, Having);
+is_handed({Call, _, {extfunc, erlang, send, 2}}, Having, Whom) when Call =:= call_ext; Call =:= call_ext_only ->
+    is_handed(send, Having, Whom);
+is_handed({call_ext_last, _, {extfunc, erlang, send, 2}, _}, Having, Whom) -> is_handed(send, Having, Whom);
+is_handed({Call, _, Arity, _}, Having, _) when Call =:= call_fun2 -> is_given(Arity, Having);
+is_handed(Each, Having, _) when is_tuple(Each) ->
+    case lists:member(element(1, Each), [apply, apply_last, call, call_ext, call_ext_last, call_ext_only, call_fun,
+                                         call_last, call_only]) of
+        true -> is_given(element(2, Each), Having);
+        false -> is_put(Each) andalso lists:any(fun(Part) -> lists:member(Part, Having) end,
+                                                parts_of(tuple_to_list(Each)))
+    end;
+is_handed(_, _, _) -> false.
+
+is_given(Arity, Having) -> [] =/= [At || {x, At} <- Having, At < Arity].
+
+is_put({bif, Name, _, _, _}) -> Name =:= element;
+is_put(Each) -> lists:member(element(1, Each), [make_fun2, make_fun3, put_list, put_map_assoc, put_map_exact]).
 
 is_plain_send(Each) -> Each =:= send orelse Each =:= {call_ext, 2, {extfunc, erlang, send, 2}}.
 
