@@ -582,6 +582,7 @@ step({Put, _, _, To, _, _}, Known) when Put =:= put_map_assoc; Put =:= put_map_e
 step({gc_bif, Name, {f, 0}, _, [_, Divisor], To}, Known) when Name =:= 'div'; Name =:= 'rem' ->
     IsZero = case value(Divisor, Known) of {integer, Number} -> Number =:= 0; _ -> true end,
     {maps:remove(plain(To), Known), [], [fails || IsZero]};
+step({bs_create_bin, [Parts]}, Known) -> {set(element(5, Parts), text, Known), [], []};
 step({bif, self, _, [], To}, Known) -> {set(To, self, Known), [], []};
 step({make_fun3, Function, _, _, To, _}, Known) -> {set(To, {function, Function}, Known), [], [{calls, Function}]};
 step({make_fun2, Function, _, _, _}, Known) -> {set({x, 0}, {function, Function}, Known), [], [{calls, Function}]};
@@ -600,7 +601,8 @@ step(Each, Known) -> step_of_call(Each, Known).
 step_of_call({call, Arity, Function}, Known) -> {only(y, Known), [], [{calls, Function} || Arity >= 0]};
 step_of_call({call_only, _, Function}, _) -> {stop, [], [{tail, Function}]};
 step_of_call({call_last, _, Function, _}, _) -> {stop, [], [{tail, Function}]};
-step_of_call({call_ext, _, Function}, Known) -> {only(y, Known), [], external(Function, Known)};
+step_of_call({call_ext, _, Function}, Known) ->
+    {with_text(Function, only(y, Known)), [], external(Function, Known)};
 step_of_call({call_ext_only, _, Function}, Known) -> {stop, [], last(Function, Known)};
 step_of_call({call_ext_last, _, Function, _}, Known) -> {stop, [], last(Function, Known)};
 step_of_call({apply, 0}, #{{x, 0} := no_map}) -> {stop, [], []}; % (as Elixir has it for `state.key` of what is no map)
@@ -622,6 +624,15 @@ step_of_call(Each, Known) when is_tuple(Each) ->
     Parts = parts_of(tuple_to_list(Each)),
     {maps:without(Parts, Known), [{Label, maps:without(Parts, Known)} || {f, Label} <- Parts], []};
 step_of_call(_, Known) -> {Known, [], []}.
+
+%% What is known behind a call of a function, which may have made a text.
+-define(TEXTS, [{'Elixir.Enum', join}, {'Elixir.Enum', map_join}, {'Elixir.Integer', to_string},
+                {'Elixir.Kernel', inspect}, {'Elixir.String', pad_leading}, {'Elixir.String', trim},
+                {'Elixir.String.Chars', to_string}, {erlang, atom_to_binary}, {erlang, integer_to_binary},
+                {erlang, iolist_to_binary}]).
+
+with_text({extfunc, Module, Name, _}, Known) ->
+    case lists:member({Module, Name}, ?TEXTS) of true -> set({x, 0}, text, Known); false -> Known end.
 
 applied(Arity, Known) -> [dynamic | [aimed || may_begin(value({x, Arity + 1}, Known), Arity)]].
 
@@ -649,7 +660,7 @@ set(Register, any, Known) -> maps:remove(plain(Register), Known);
 set(Register, Value, Known) -> Known#{plain(Register) => Value}.
 
 %% A value as it is known: {atom, A}, {integer, N}, {tuple, Values}, {constant, C}, {function, F}, `self`, `new` for a
-%% reference that is made, `asked` for one of a question, {asker, 0}, `map` or `no_map`, or `any`.
+%% reference that is made, `asked` for one of a question, {asker, 0}, `map` or `no_map`, `text`, or `any`.
 value({Word, _} = Constant, _) when Word =:= atom; Word =:= integer -> Constant;
 value({literal, Term}, _) -> constant(Term);
 value(nil, _) -> {constant, []};
@@ -662,7 +673,7 @@ constant(Term) -> case funs_among([Term]) of [] -> {constant, Term}; _ -> any en
 
 %% Whether a test on a value is known to hold.
 holds(_, any, _) -> unknown;
-holds(_, Value, _) when Value =:= asked; Value =:= new; Value =:= no_map -> unknown;
+holds(_, Value, _) when Value =:= asked; Value =:= new; Value =:= no_map; Value =:= text -> unknown;
 holds(Test, map, _) when Test =:= is_atom; Test =:= is_tuple; Test =:= is_tagged_tuple; Test =:= is_list -> false;
 holds(_, map, _) -> unknown;
 holds(is_tagged_tuple, {tuple, [Tag | _] = Parts}, [Size, Wanted]) ->
@@ -678,7 +689,8 @@ holds(is_eq_exact, {tuple, _}, [{Other, _}]) when Other =:= atom; Other =:= inte
 holds(_, _, _) -> unknown.
 
 chosen(any, Other, Cases, Known) -> {stop, [{Label, Known} || {f, Label} <- [{f, Other} | Cases]], []};
-chosen(Value, Other, Cases, Known) when Value =:= asked; Value =:= new; Value =:= map; Value =:= no_map ->
+chosen(Value, Other, Cases, Known) when Value =:= asked; Value =:= new; Value =:= map; Value =:= no_map;
+                                        Value =:= text ->
     chosen(any, Other, Cases, Known);
 chosen(Value, Other, Cases, Known) -> {stop, [{case_of(Value, Other, Cases), Known}], []}.
 
@@ -805,6 +817,7 @@ may_be_funs(Module, Name, [Device | _] = Given) when Module =:= io; Module =:= '
     IsTold = Name =:= inspect andalso length(Given) > 1 andalso not is_constant(lists:last(Given)),
     [any || IsTold orelse IsNamed andalso not lists:member(Device, Plain)];
 may_be_funs(logger, _, [Text, _ | _] = Given) -> [Text | [any || lists:last(Given) =:= map]];
+may_be_funs('Elixir.Logger', Name, [_, Text | _]) when Name =:= '__do_log__'; Name =:= bare_log -> [Text];
 may_be_funs('Elixir.Inspect.Algebra', Name, Given) ->
     [any || lists:member(Name, [container_doc, fold_doc]), not lists:any(fun is_function_value/1, Given)];
 may_be_funs(ets, Name, [Fun | _]) when Name =:= foldl; Name =:= foldr -> [Fun];
