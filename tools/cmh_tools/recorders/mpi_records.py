@@ -15,8 +15,8 @@ from typing import Any, Dict, Iterable, Iterator, List, Optional, Tuple, Union
 from ..files import Refusal, shown
 from ..moments import APART, PARTS, Reading
 from ..sketch import ALL as WAITS_FOR_ALL
-from ..sketch import (ANY, DONE, ENDED, LIMIT, SYSTEM, UNKNOWN, Process, frame, premise, quote, runs, spoilt, unknown,
-                      waits_for_all, waits_for_any)
+from ..sketch import (ANY, DONE, ENDED, LIMIT, SYSTEM, UNKNOWN, Process, Sketch, frame, premise, quote, runs, spoilt,
+                      unknown, waits_for_all, waits_for_any)
 from . import State
 from .base import Moment, Premise, Recorder, misfits
 
