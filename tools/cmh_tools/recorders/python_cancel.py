@@ -10,7 +10,7 @@ and may cancel the others. Whether a task will fail isn't known, so the others o
 from __future__ import annotations
 
 from collections import defaultdict
-from typing import Any, Callable, Dict, List, Optional, Set
+from typing import Any, Callable, Dict, List, Optional, Set, Tuple
 
 from ..sketch import ALL, ANY, premise
 from .python_text import Frame, Look, Row
@@ -29,6 +29,8 @@ class Cancellers:
     def __init__(self, look: Look) -> None:
         self.look = look
         self.targets: Dict[str, List[str]] = {row.key: targets_of(row) for row in look.tasks.values()}
+        for key, sharing in sharing_futures(look).items():
+            self.targets[key] += sharing
         self.sure: Dict[str, Dict[str, None]] = defaultdict(dict)
         self.failing: Dict[str, Dict[str, None]] = defaultdict(dict)
         self.crowded: Set[Any] = set()
@@ -120,23 +122,41 @@ def stands_at_end(row: "Row") -> bool:
 
 def targets_of(row: "Row") -> List[str]:
     """Returns the keys of the tasks that are cancelled with a task, since it awaits them."""
-    found = tasks_in(row.more.get("waits"))
-    for each in row.frames:
-        if each.at == "asyncio.tasks.wait_for":
-            found += tasks_in(each.has.get("fut"))
-    return found
+    return [key for value in awaited_by(row) for key in tasks_in(value)]
+
+
+def awaited_by(row: "Row") -> List[Any]:
+    """Returns what a state describes that is cancelled with a task."""
+    return [row.more.get("waits"), *(each.has.get("fut") for each in row.frames if each.at == "asyncio.tasks.wait_for")]
+
+
+def sharing_futures(look: Look) -> Dict[str, List[str]]:
+    """Returns by each task the others that go on if a future is cancelled that it awaits."""
+    awaiting: Dict[str, Dict[str, None]] = defaultdict(dict)
+    for row in look.tasks.values():
+        kept = [each.has.get("fs") for each in row.frames if each.at == "asyncio.tasks._wait"]
+        for future in found_in([*awaited_by(row), *kept], "asyncio.Future", ("all", "inner")):
+            awaiting[future][row.key] = None
+    return {row.key: [key for future in found_in(awaited_by(row), "asyncio.Future")
+                      for key in awaiting[future] if key != row.key] for row in look.tasks.values()}
 
 
 def tasks_in(value: Any) -> List[str]:
     """Returns the keys of the tasks in what a state describes: a task, or a gather."""
+    return found_in([value], "Task")
+
+
+def found_in(values: List[Any], kind: str, within: Tuple[str, ...] = ("all",)) -> List[str]:
+    """Returns the keys of those of a type in what a state describes, also within a gather or what else is named."""
     found: List[str] = []
-    left: List[Optional[Any]] = [value]
+    left: List[Any] = list(values)
     while left:
         each = left.pop()
+        if isinstance(each, list):
+            left += each
         if not isinstance(each, dict) or each.get("done") is True:
             continue
-        if each.get("type") == "Task" and isinstance(each.get("id"), str):
+        if each.get("type") == kind and isinstance(each.get("id"), str):
             found.append(each["id"])
-        elif isinstance(each.get("all"), list):
-            left += each["all"]
+        left += [each[name] for name in within if name in each]
     return found

@@ -226,6 +226,22 @@ async def gather_booth():
     await asyncio.gather(*tasks)
 
 
+# Two tasks await an answer that nobody gives. In the twin one of the two awaits it for some time alone: the limit cancels
+# the answer, for both.
+async def share(limit):
+    answer, booth = asyncio.get_running_loop().create_future(), Booth()
+
+    async def listen():
+        await answer
+
+    async def ask():
+        await asyncio.wait_for(answer, limit)
+
+    booth.kept = [asyncio.create_task(work(), name=work.__name__) for work in (listen, ask)]
+    while True:
+        await asyncio.sleep(0.5)
+
+
 def change(name):
     rows = Rows()
     asyncio.run(rows.run(getattr(rows, name)))
@@ -255,6 +271,8 @@ JOBS = {
     "booth_hub_slow": lambda: asyncio.run(Hub(True).run()),
     "booth_shift": lambda: asyncio.run(Shift().run()),
     "booth_shift_ended": lambda: asyncio.run(gather_booth()),
+    "booth_answer": lambda: asyncio.run(share(None)),
+    "booth_answer_limited": lambda: asyncio.run(share(LONG)),
     "booth_orders": lambda: asyncio.run(Orders().run()),
 }
 
