@@ -33,7 +33,8 @@ class Calls(Names):
     def call_any(self, steps, at, names, places):
         """What stands behind a mark for a call, or from Python 3.13 on before it, is called."""
         if sys.version_info >= (3, 13):
-            require(not steps[at].is_jump_target and not steps[at - 1].is_jump_target)
+            is_one_of_two = steps[at - 1].is_jump_target and steps[at - 1].opname == "LOAD_ATTR"
+            require(not steps[at].is_jump_target and not is_one_of_two)
             self.call_by(steps, at - 1, names, places)
         else:
             require(not (steps[at + 1].opname == "LOAD_GLOBAL" and steps[at + 1].arg & 1))  # (its result is called)

@@ -153,8 +153,8 @@ class Names:
         if len(stored) > 1 or steps[stored[0]].opname != "STORE_FAST" or steps[stored[0]].is_jump_target or is_given:
             return NotKnown
         if before.opname == "CALL" and before.arg == 0 and name not in places:
-            return Fresh if self.is_made(steps, stored[0] - 2 - (steps[stored[0] - 2].opname == "PRECALL"), names) \
-                else NotKnown
+            is_after = steps[stored[0] - 2].opname in ("PRECALL", "PUSH_NULL")
+            return Fresh if self.is_made(steps, stored[0] - 2 - is_after, names) else NotKnown
         is_path = before.opname == "LOAD_ATTR" and not (before.arg & 1 and sys.version_info >= (3, 12))
         value = self.owner_of(steps, stored[0] - 1, names, places) if is_path else NotKnown
         value = NotKnown if before.argval in self.program.late else step_into(value, before.argval)
