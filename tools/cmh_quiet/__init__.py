@@ -42,8 +42,8 @@ def quiet_rows(stacks, state, targets=None):
         return {"quiet": [], "loops": False}, {}, ()
     frames = [frames for frames, _ in stacks.values()]
     handles = program.handles_of(filter(None, map(state.running_loop, filter(None, frames))))
-    found = program.touched_by_all()
     loops = program.touched_by_loops(handles)
+    found = program.touched_by_all(loops)
     some = {key: touched for key, touched in found.items() if touched}
     apart = {place: None if program.may_end(loops or (), *target) else
              [key for key, touched in some.items() if not program.may_end(touched, *target)]

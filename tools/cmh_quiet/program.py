@@ -221,15 +221,15 @@ class Program(Premises):
 
     # What one touches
 
-    def touched_by_all(self):
+    def touched_by_all(self, loops):
         """The same of all, by their keys. Who comes to more only once an event is set, or an attribute is changed,
-        comes to that if somebody of whom all is known does so."""
+        comes to that if somebody of whom all is known does so, or what loops call, which touches what is given."""
         keys = [key for key in self.stacks if key not in (None, self.state.SIGNALLED)]
         found = {key: self.touched_by(key) for key in keys}
         while True:
             known = {key for key in keys if found[key] is not None and key in self.looks}
-            touched = set().union(*(each for each in found.values() if each is not None))
-            stored = set().union(*(self.looks[key].stores for key in known))
+            touched = set(loops or ()).union(*(each for each in found.values() if each is not None))
+            stored = set().union(*(self.looks[key].stores for key in (*known, *({None} & self.looks.keys()))))
             spoilt = [key for key in known if any(self.is_met(need, touched, stored) for need in self.looks[key].needs)]
             if not spoilt:
                 return found
