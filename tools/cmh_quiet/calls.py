@@ -167,6 +167,8 @@ class Calls(Names):
         if type(owner) in PLAIN_OWNERS or owner is Fresh or name in COMPARES and name not in self.program.stored:
             self.flags.add("has_no_iterators")
             return
+        is_coroutine = bool(self.code and self.code.co_flags & 0x80)
+        self.touches.update(self.program.given_back(owner, is_coroutine) if name in ("wait", "wait_for") else ())
         if self.touches_only(name, owner) or self.call_pool(name, owner, steps, at, names, places):
             return
         exact = self.exact(name, owner)

@@ -14,6 +14,8 @@ from .steps import CHANGES, cells_stored, changes_in, sets_any, steps_of, watche
 from .values import (ADDING, FINDERS, MADE_BY, OF_BLOCKS, PLAIN, SETTING, SUSPENDED, TRACKED, NotKnown, is_harmless,
                      is_set_method, is_special, names_of_special, require)
 
+TAKING = {"acquire", "__enter__", "__aenter__", "enter_context", "enter_async_context"}
+PLAIN_LOCKS = {type(threading.Lock()), getattr(sys.modules.get("asyncio.locks"), "Lock", None)}
 PARTS = 3  # steps from an object of the library to those by which it works
 
 
@@ -299,7 +301,8 @@ class Program(Premises):
         for number, word in touched:
             if word in COMPLETES and id(value) in self.told_by_futures:
                 return True
-            if number is not None and not parts.isdisjoint(self.parts_of(self.objects[number])):
+            is_met = number is not None and (word != "wait" or words is None)
+            if is_met and not parts.isdisjoint(self.parts_of(self.objects[number])):
                 return True
             is_word = word == "release" if words is None else word in words or word in NOTIFIES
             if number is None and is_word:
@@ -313,6 +316,31 @@ class Program(Premises):
         some = [self.state.attributes_of(each) for each in gc.get_objects()
                 if type(each).__module__ == "concurrent.futures._base"]
         return {id(each.get(name)) for each in some for name in ("_condition", "event", "lock")} - {id(None)}
+
+    @functools.cached_property
+    def takes_alone(self):
+        """Whether some code may take a lock but by a block, or leaves that to others."""
+        return any(not TAKING.isdisjoint(code.co_names) for code in [*self.codes, *(it.f_code for it in self.scripts)])
+
+    def given_back(self, owner, is_coroutine):
+        """What a wait of a condition gives back meanwhile: its lock, if one may have taken that beforehand. That of
+        threads themselves says whose it is."""
+        lock = self.state.attributes_of(owner).get("_lock")
+        if not self.takes_alone or type(lock) not in PLAIN_LOCKS and owner is not NotKnown:
+            return []
+        if owner is NotKnown:
+            some = [each for each in self.conditions if type(each).__module__.startswith("asyncio") == is_coroutine]
+            return [(None, "release")] if some else []
+        self.objects[id(lock)] = lock
+        return [(id(lock), "wait")]
+
+    @functools.cached_property
+    def conditions(self):
+        """The conditions of the program that work by a lock which doesn't say whose it is."""
+        some = [each for each in gc.get_objects() if type(each).__module__.startswith(INNER)]
+        inner = {id(it) for each in some for it in list(self.state.attributes_of(each).values())}
+        return [each for each in some if type(self.state.attributes_of(each).get("_lock")) in PLAIN_LOCKS
+                and type(each).__name__ == "Condition" and id(each) not in inner]
 
     def parts_of(self, value):
         """The numbers of an object and of those of the library by which it works, such as the lock of a condition."""

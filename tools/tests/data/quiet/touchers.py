@@ -46,7 +46,7 @@ other: "queue.Queue[object]" = queue.Queue()
 stop, quit_now, left = threading.Event(), threading.Event(), threading.Event()
 latch, stats_lock = threading.Lock(), threading.Lock()
 order: "futures.Future[int]" = futures.Future()
-chime = threading.Condition()
+chime, watch = threading.Condition(), threading.Condition(latch)
 PUTS, NOTIFIES = {"put", "put_nowait", "shutdown"}, {"notify", "notify_all", "notifyAll"}
 PLACES = {"box": (box, PUTS), "gate": (gate, {"set"}), "bell": (bell, NOTIFIES), "slots": (slots, None),
           "latch": (latch, None), "result": (getattr(order, "_condition"), NOTIFIES)}
@@ -393,6 +393,20 @@ def frees_gate_by_waiting_until_it_is_so():
         pause()
         with chime:
             chime.wait_for(opens, 1000)
+
+
+def spares_by_waiting_in_a_block():
+    while True:
+        pause()
+        with chime:
+            chime.wait(1000)
+
+
+def frees_latch_by_waiting():
+    pause()
+    watch.acquire()
+    while True:
+        watch.wait(1000)
 
 
 def spares_by_a_timer():
