@@ -209,8 +209,8 @@ class Premises:
     def is_on_stack(self, value, found):
         """Whether a generator runs in a thread or task, which alone has it."""
         frame = getattr(value, dict(SUSPENDED)[type(value)]) if type(value) in SUSPENDING else None
-        others = gc.get_referrers(value) if id(frame) in self.there else [value]
-        return all(each is found or type(each).__name__ in HOLDS_ALONE for each in others)
+        others = gc.get_referrers(value) if id(frame) in self.there else []
+        return id(frame) in self.there and all(each is found or type(each).__name__ in HOLDS_ALONE for each in others)
 
     def is_of_block(self, value):
         """Whether a generator is that of a block alone, as contextlib makes it: only the end of the block has it."""

@@ -1439,6 +1439,10 @@ def close_first():
     left.set()
 
 
+async def opening_later():
+    gate.set()
+
+
 # What is there besides, while the main thread does nothing. Who doesn't name it in his code may come to it.
 BESIDES = {"opener": lambda: setattr(last, "done", Opener()), "late": lambda: setattr(last, "table", Late()),
            "lying": lie, "any": set_any, "made": make,
@@ -1446,6 +1450,7 @@ BESIDES = {"opener": lambda: setattr(last, "done", Opener()), "late": lambda: se
            "unbegun": lambda: setattr(last, "unbegun", threading.Thread(target=opens)), "told": tell,
            "keyed": lambda: setattr(last, "keyed", type("Keyed", (), {"keys": opens})()), "shared": share,
            "telling": lambda: telling.submit(pause).add_done_callback(opens), "running": run_otherwise,
+           "coroutine": lambda: lazy.update(coroutine=opening_later()),
            "closing": lambda: threading.Thread(target=lambda: asyncio.run(closing()), daemon=True).start(),
            "ticking": lambda: threading.Thread(target=lambda: asyncio.run(by_loud_ticks()), daemon=True).start()}
 THREADS = ("pops", "moves_", "stores", "sets_", "spares_", "frees_", "swaps_", "stops_", "opens_", "closes_")
