@@ -8,13 +8,13 @@ import operator
 import sys
 import types
 
-from .library import (ANSWERS, ASKS, BASES, BEGINS_TASKS, BEGUN, CACHED, CALLED_BACK, CALLING, CALLING_BACK, COMPLETES,
-                      COMPUTING, ENDING, FILES, HARMLESS, ITERATING, LATER, LOGS, MADE, MAILS, OF_BASES, OF_BUILTINS,
-                      OF_DATA, OF_FILES, OF_MODULES, OF_NETS, OUTSIDE, PLAIN_ERRORS, PLAIN_OWNERS, PRINTS, QUERIES,
-                      ROWS, SERVERS, TOUCHING, TO_FILES, WAITED_AT)
+from .library import (ANSWERS, ASKS, BASES, BEGINS_TASKS, BEGUN, CACHED, CALLED_BACK, CALLING, CALLING_BACK, CODING,
+                      COMPLETES, COMPUTING, ENDING, FILES, HARMLESS, ITERATING, LATER, LOGS, MADE, MAILS, OF_BASES,
+                      OF_BUILTINS, OF_DATA, OF_FILES, OF_MODULES, OF_NETS, OF_OTHERS, OUTSIDE, PLAIN_ERRORS,
+                      PLAIN_OWNERS, PRINTS, QUERIES, ROWS, ROWS_ALONE, SERVERS, TOUCHING, TO_FILES, WAITED_AT)
 from .names import Names
-from .steps import (CALLS, STORING, arguments_after, call_of, is_argument, is_called_at_once, is_encoding, names_in,
-                    start_of)
+from .steps import (CALLS, STORING, arguments_after, call_of, end_of_path, is_argument, is_called_at_once,
+                    is_encoding, is_marked, names_in, start_of)
 from .values import (BEGINNING, COMPARES, DYNAMIC, ENDS_ALL, FINDERS, SETTERS, Fresh, NotKnown, Own, full_name,
                      full_name_of, is_in_table, is_plain_format, is_special, require, step_into)
 
@@ -23,7 +23,14 @@ class Calls(Names):
     """What is called, of the program or of the library."""
 
     def load(self, value, own=None):
-        """A function that is handed on may be called, and an error that is raised is made."""
+        """A function that is handed on may be called, or what has one, and an error that is raised is made."""
+        value = value.func if type(value) is functools.partial else value
+        if type(value) in (types.MethodType, types.BuiltinMethodType):
+            self.hand_on(value.__name__, value.__self__)
+            value, own = getattr(value, "__func__", value), value.__self__
+        elif not self.state.is_library(type(value)):
+            found = [each.__dict__["__call__"] for each in type(value).__mro__ if "__call__" in each.__dict__]
+            value, own = found[0] if found else value, value
         if isinstance(value, type) and issubclass(value, BaseException):
             require(value is not BaseException and not issubclass(value, ENDS_ALL))
             self.make(value)
@@ -42,9 +49,7 @@ class Calls(Names):
 
     def call_from(self, steps, at, names, places):
         """A name is called, or its attributes that the next steps name."""
-        end = at
-        while steps[end + 1].opname == "LOAD_ATTR" and not (steps[end + 1].arg & 1 and sys.version_info >= (3, 12)):
-            end += 1
+        end = end_of_path(steps, at)
         require(is_called_at_once(steps, end + 1))
         self.call_by(steps, end, names, places)
 
@@ -86,10 +91,12 @@ class Calls(Names):
         elif value is vars(builtins).get(name, NotKnown):
             is_error = isinstance(value, type) and issubclass(value, Exception)
             require((name in OF_BUILTINS or name in ITERATING or is_error) and self.is_short(name, steps, at))
+            require(name != "type" or self.is_question(steps, at))
             self.flags.update(["has_no_iterators"] if name in ITERATING or name == "open" else ())
             if name == "iter" and (call_of(steps, at) is None or steps[call_of(steps, at)].arg != 1):
                 self.call_argument(0, steps, at, names, places)
             self.flags.update(["prints_plainly"] if name == "print" else ())
+            self.flags.update(["codes_plainly"] if name in CODING and not self.is_alone(steps, at) else ())
             self.follow_named(["keys"] if name == "dict" else ())
         elif isinstance(value, type) and full_name(value) not in CALLING:
             self.call_class(name, value, steps, at)
@@ -107,6 +114,17 @@ class Calls(Names):
             self.rest_on_module(value, steps, at)
             self.rest_on(value.__name__)
             self.follow_named(FILES if value.__name__ in TO_FILES else ())
+
+    def is_alone(self, steps, at):
+        """Whether what a step loads is given one argument, also by a map."""
+        call = call_of(steps, at)
+        return call is not None and steps[call].opname in ("CALL", "PRECALL") \
+            and steps[call].arg == 2 - is_marked(steps, at)
+
+    def is_question(self, steps, at):
+        """Whether a class is asked for, and none is made."""
+        call = call_of(steps, at)
+        return call is not None and steps[call].opname == "CALL" and steps[call].arg == 1
 
     def call_class(self, name, value, steps, at):
         """A class is called. A key that is named is looked at where that is."""
@@ -133,7 +151,7 @@ class Calls(Names):
             require(is_plain or issubclass(kind, BaseException))
             self.flags.add("has_no_iterators")
             self.follow_named(["keys"] if issubclass(kind, (dict, collections.UserDict)) else ())
-            self.write_to(kind.__module__ in OF_FILES)
+            self.write_to(kind.__module__ in OF_FILES, kind.__module__ in OF_FILES - ROWS_ALONE)
             self.flags.update(["asks_plainly"] if kind.__module__.startswith(OF_NETS) else [])
             return
         require(self.state.is_library(type(kind)))
@@ -224,6 +242,13 @@ class Calls(Names):
             self.touch(owner, name)
         return True
 
+    def hand_on(self, name, owner):
+        """A method is handed on: one that ends waits may be called."""
+        if name not in ENDING or type(owner) in PLAIN_OWNERS or owner is Fresh or isinstance(owner, type):
+            return
+        if not self.touches_only(name, owner) and owner is NotKnown:
+            self.touches.add((None, name))
+
     def call_stored(self, name, owner):
         """A function or a method is called that stands in an object's own table since it was made, if one does. Returns
         whether that is."""
@@ -281,6 +306,8 @@ class Calls(Names):
         """Whether a method of an object, or all in the library of this name, are of data."""
         kinds = self.program.methods[name] if owner is NotKnown else {
             each for each in type(owner).__mro__ if name in each.__dict__}
+        values = [kind.__dict__[name] for kind in kinds]
+        require(all(callable(each) or isinstance(each, (classmethod, staticmethod)) for each in values))  # (no data)
         modules = {kind.__module__ for kind in kinds if kind not in PLAIN_OWNERS}
         self.flags.update(["has_no_iterators", *(["queries_plainly"] if "sqlite3" in modules else [])])
         self.follow_named([] if modules.isdisjoint({"select", "selectors"}) else ["fileno"])
@@ -313,8 +340,9 @@ class Calls(Names):
 
     def rest_on(self, name, owner=NotKnown):
         self.flags.update(["encodes_plainly"] if name in ("dumps", "dump") else ())
+        self.flags.update(["codes_plainly"] if name in CODING else ())
         self.flags.update(["decodes_plainly"] if name in ("load", "loads") else ())
-        self.follow_named(["read"] if name in ("load", "loads") else ["keys"] if name == "update" else ())
+        self.follow_named(["read"] if name in {"load", "loads"} | ASKS else ["keys"] if name == "update" else ())
         self.flags.update(["prints_plainly"] if name in PRINTS else ())
         self.write_to(name in ROWS)
         self.flags.update(["queries_plainly"] if name in QUERIES else ["asks_plainly"] if name in ASKS | MAILS else ())
@@ -325,6 +353,8 @@ class Calls(Names):
     def rest_on_module(self, value, steps, at):
         """A function of the library is called, of a module that calls something by itself."""
         self.write_to(value.__module__ in OF_FILES | {"copy", "_pickle"} or value.__name__ in TO_FILES)
+        self.follow_named(OF_OTHERS.get(value.__module__, "").split())
+        self.flags.update(["codes_plainly"] if value.__module__ == "urllib.parse" else [])
         self.flags.update(["copies_plainly"] if value.__module__ in ("copy", "_pickle") else [])
         self.flags.update(["forks_plainly"] if value.__module__ == "subprocess" else [])
         if value.__module__ == "_sqlite3":
@@ -414,9 +444,7 @@ class Calls(Names):
         """The argument with a number is called, of the call whose function a step loads."""
         start = at + 1
         while True:
-            end = start
-            while steps[end + 1].opname == "LOAD_ATTR" and not (steps[end + 1].arg & 1 and sys.version_info >= (3, 12)):
-                end += 1
+            end = end_of_path(steps, start)
             require(steps[start].opname in ("LOAD_FAST", "LOAD_GLOBAL", "LOAD_NAME", "LOAD_CONST", "LOAD_DEREF"))
             if number == 0:
                 break

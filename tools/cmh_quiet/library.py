@@ -202,6 +202,7 @@ BEGINS_TASKS = {"asyncio.tasks.wait_for", "asyncio.tasks.gather", "asyncio.tasks
                 "asyncio.tasks.ensure_future", "asyncio.threads.to_thread", "asyncio.tasks.run_coroutine_threadsafe"}
 COROUTINES = {"sleep", "readline", "readexactly", "readuntil", "drain", "wait_closed", "open_connection", "wait",
               "read", "acquire", "join", "put"}
+OWN_AWAITED = COROUTINES | {"wait_for", "to_thread", "run_in_executor", "create_task"}  # and of more that is new
 # Modules whose methods end waits, or call functions of the program: a name that they have too isn't the program's own.
 SPECIAL = ("threading", "queue", "asyncio", "concurrent.futures", "multiprocessing", "selectors", "socketserver",
            "sched", "contextlib", "functools", "weakref", "signal", "subprocess", "socket", "ssl", "atexit", "types",
@@ -210,10 +211,10 @@ SPECIAL = ("threading", "queue", "asyncio", "concurrent.futures", "multiprocessi
 # What calls something of the program back. What isn't sure belongs here.
 
 # Names of what is harmless that may run an iterator, or an opener.
-TOUCHING = {"send", "join", "extend", "writelines", "close", "dumps", "fmean", "open", "pop", "popleft", "popitem",
-            "discard", "remove", "clear", "update", "setdefault", "union", "intersection", "difference", "subtract",
-            "symmetric_difference", "difference_update", "intersection_update", "issubset", "issuperset", "isdisjoint",
-            "fromkeys", "choices", "sample", "shuffle", "dump", "format"}
+TOUCHING = {"send", "join", "create_task", "extend", "writelines", "close", "dumps", "fmean", "open", "pop",
+            "popleft", "popitem", "discard", "remove", "clear", "update", "setdefault", "union", "intersection",
+            "difference", "subtract", "symmetric_difference", "difference_update", "intersection_update", "issubset",
+            "issuperset", "isdisjoint", "fromkeys", "choices", "sample", "shuffle", "dump", "format"}
 ITERATING = {"all", "any", "dict", "enumerate", "frozenset", "list", "max", "min", "reversed", "set", "sorted", "sum",
              "tuple", "zip", "next", "iter"}  # of builtins
 ITERATORS = (map, filter, itertools.starmap, itertools.takewhile, itertools.dropwhile, itertools.accumulate,
@@ -237,10 +238,15 @@ MOST_GIVEN = {"nlargest": 2, "nsmallest": 2, "walk": 2, "rmtree": 2, "copytree":
               "check_call": 6, "check_output": 6, "urlencode": 3, "open": 3, "read_text": 1, "write_text": 2,
               "ConfigParser": 1, "RawConfigParser": 1, "Thread": 0, "accumulate": 1,
               "indent": 2, "pprint": 1, "pp": 1, "print_stack": 2, "ndiff": 2, "Differ": 0, "HtmlDiff": 2,
-              "HMAC": 2, "parse": 1}
+              "HMAC": 2, "parse": 1, "atof": 1, "diff_bytes": 0}
 FILES = {"write", "writelines", "read", "readline", "readinto", "flush", "close", "seek", "tell"}
 TO_FILES = {"dump", "print_exc", "print_stack", "pprint", "pp", "encode", "decode", "copyfileobj"}  # that write to them
 OF_FILES = {"gzip", "bz2", "lzma", "tarfile", "zipfile", "csv", "_csv"}  # modules that write to a file
+ROWS_ALONE = {"csv", "_csv"}  # of those the ones that do no more
+CODING = {"bytes", "bytearray", "str", "open", "makefile", "read_text", "write_text"}  # that encode or decode by names
+# Methods that modules call of what they are given, whatever that is.
+OF_OTHERS = {"html": "replace", "statistics": "as_integer_ratio", "fractions": "denominator numerator",
+             "urllib.parse": "decode encode items replace split"}
 # Attributes by which the library's objects make or call something of the program, and the modules that work by them.
 OF_OBJECTS = {"response_class", "optionxform", "header_factory", "message_factory"}
 OF_NETS = ("http", "urllib", "smtplib", "email", "configparser")

@@ -72,6 +72,8 @@ class Look(Reading):
             self.touch(frame.f_locals["self"], ENDS[name])
             self.is_outside = self.is_outside or name.startswith("queue.")
         own = frame.f_locals.get("self")
+        is_limited = name == "asyncio.tasks.wait_for" and frame.f_locals.get("timeout", self) is not None
+        self.is_limited = self.is_limited or is_limited
         if name.endswith("Condition.wait_for"):
             self.call_known(frame.f_locals["predicate"])
         if name == "threading.Timer.run":
@@ -118,7 +120,8 @@ class Look(Reading):
         """Takes a server of the library that waits for a request: all functions of the program that it has, or its
         handlers."""
         require("RequestHandlerClass" not in self.program.late)
-        require(not any(map(self.program.may_act, list(self.state.attributes_of(server).values()))))
+        values = list(self.state.attributes_of(server).values())
+        require(not any(self.program.may_act(each) or type(each).__module__ == "ssl" for each in values))
         for kind in [*type(server).__mro__, *server.RequestHandlerClass.__mro__]:
             self.serve_by(kind)
 
@@ -128,9 +131,10 @@ class Look(Reading):
             require(kind is object or kind.__module__ in SERVERS)
             return
         for value in list(kind.__dict__.values()):
-            value = getattr(value, "__func__", value)
+            value = value.__func__ if type(value) in (staticmethod, classmethod) else value
             require(type(value) in (types.FunctionType, property) or not callable(value)
                     and type(value).__module__ != "functools" or isinstance(value, type))
+            require(not isinstance(value, type) or self.state.is_library(value))
             self.load(value)
 
     def handle(self, loop, handle):

@@ -5,9 +5,9 @@ import os
 import sys
 import types
 
-from .library import (COROUTINES, ENDING, HARMLESS, MAKES, MOST_GIVEN, OF_CLASSES, OF_TUPLES, ORDERS, OWNERS,
-                      WAITED_AT)
-from .steps import CALLS, STORING, call_of, start_of
+from .library import (COROUTINES, ENDING, FILES, HARMLESS, MAKES, MOST_GIVEN, OF_CLASSES, OF_TUPLES, ORDERS, OWNERS,
+                      OWN_AWAITED, WAITED_AT)
+from .steps import CALLS, STORING, call_of, end_of_path, is_marked, start_of
 from .values import BEGINNING, Fresh, NotKnown, Own, full_name, require, step_into
 
 MOST = 400  # functions that are looked at for one thread or task
@@ -49,10 +49,10 @@ class Names:
         if inner is not None:
             self.follow(inner)
 
-    def write_to(self, is_writing):
-        """Something of the library writes to what it is given."""
+    def write_to(self, is_writing, is_reading=False):
+        """Something of the library writes to what it is given, or uses it as any file."""
         self.flags.update(["writes_plainly"] if is_writing else ())
-        self.follow_named(["write"] if is_writing else ())
+        self.follow_named(FILES if is_reading else ["write"] if is_writing else ())
 
     def follow_named(self, names):
         for name, function in [(name, each) for name in names for each in self.program.functions.get(name, ())]:
@@ -171,12 +171,20 @@ class Names:
         is_own = name in self.program.stored or bool(self.program.functions.get(name))
         return is_class or name == "create_future" and not is_own
 
-    def is_coroutine(self, name, names):
+    def is_coroutine(self, name, names, others=COROUTINES):
         """Whether a name of a function or a method is that of one that makes a coroutine, and of nothing else."""
         value = names.get(name)
         some = self.program.functions.get(name, [value] if type(value) is types.FunctionType else [])
         are_own = all(each.__code__.co_flags & 0x80 for each in some)
-        return are_own and (bool(some) or name in COROUTINES) and name not in self.program.stored
+        return are_own and (bool(some) or name in others) and name not in self.program.stored
+
+    def makes_own(self, steps, end, names):
+        """Whether the call that a step is makes what nobody else awaits: a coroutine, or a task or the like."""
+        start = start_of(steps, end) if steps[end].opname in CALLS else None
+        loads = [] if start is None else [steps[end_of_path(steps, at)] for at in range(start, end)
+                                          if is_marked(steps, at) and call_of(steps, at) == end]
+        others = OWN_AWAITED if steps[end].arg else {*OWN_AWAITED, "get"}  # (that of a queue)
+        return any(self.is_coroutine(step.argval, names, others) for step in loads)
 
     def is_given_coroutine(self, steps, at, names):
         """Whether the first of two arguments of a call is a new coroutine that only this call has."""

@@ -1,5 +1,7 @@
 """What the look at a program rests on: that the library calls nothing of it by hooks that no code names."""
+import codecs
 import collections
+import encodings
 import functools
 import gc
 import itertools
@@ -138,6 +140,13 @@ class Premises:
         ends = [(rows, start_of(rows, at - 1) or 2) for rows in steps for at, step in enumerate(rows)
                 if step.opname == "STORE_ATTR" and step.argval == "row_factory"]
         return all([step.argval for step in rows[end - 2:end]] == ["sqlite3", "Row"] for rows, end in ends)
+
+    def codes_plainly(self):
+        """Whether the program has no way of its own to encode or decode a text, and to handle errors of that."""
+        tables = [each for each in gc.get_referrers(codecs.lookup_error("strict")) if type(each) is dict]
+        errors = [each for table in tables if "xmlcharrefreplace" in table for each in list(table.values())]
+        lists = [each for each in gc.get_referrers(encodings.search_function) if type(each) is list]
+        return bool(errors and lists) and all(map(self.is_of_library, [*errors, *(it for row in lists for it in row)]))
 
     def asks_plainly(self):
         """Whether what asks and sends by the network calls nothing of the program."""

@@ -77,9 +77,10 @@ class Reading(Calls):
             if step.opname == "IMPORT_NAME":
                 require(step.argval in sys.modules)
             elif step.opname in (*BLOCKS, "GET_AWAITABLE"):
-                self.flags.update([] if steps[at - 1].opname in CALLS else ["has_no_iterators"])
-                is_shared = step.opname == "GET_AWAITABLE" and steps[at - 1].opname not in (*CALLS, *BLOCKS)
-                self.is_sharing = self.is_sharing or is_shared and steps[at - 1].opname != "WITH_EXCEPT_START"
+                is_block = step.opname in BLOCKS or steps[at - 1].opname in (*BLOCKS, "WITH_EXCEPT_START") or step.arg
+                is_own = is_block or self.makes_own(steps, at - 1, names)
+                self.is_sharing = self.is_sharing or not is_own
+                self.flags.update(["has_no_iterators"] if step.opname in BLOCKS or not is_own else ())
                 for _, name, value in self.program.alive if step.opname in BLOCKS else ():
                     self.load(value if name in OF_BLOCKS else None)
             elif step.opname == "MAKE_FUNCTION":
@@ -115,6 +116,8 @@ class Reading(Calls):
             if exact is not None or is_in_table(owner, step.argval):
                 self.load(exact, owner)
                 return
+            if step.opname.startswith("LOAD_"):
+                self.hand_on(step.argval, owner)
             for function in self.program.functions.get(step.argval, ()):
                 self.follow(function)
         elif step.opname == "PUSH_NULL":
@@ -186,9 +189,10 @@ class Reading(Calls):
             self.resume(value.gen)
         elif self.state.is_library(type(value)):
             kind = type(value)
+            self.is_limited = self.is_limited or kind.__module__ == "asyncio.timeouts"
             require(kind.__module__ in PLAIN_BLOCKS and not isinstance(value, KEEPERS))
             self.flags.update(["queries_plainly"] if kind.__module__ == "sqlite3" else ())
-            self.write_to(kind.__module__ in OF_FILES)
+            self.write_to(kind.__module__ in OF_FILES, kind.__module__ in OF_FILES)
             self.flags.update(["asks_plainly"] if kind.__module__.startswith(OF_NETS) else ())
         else:
             ends = [self.exact(name, value) for name in ("__exit__", "__aexit__")]

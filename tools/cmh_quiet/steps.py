@@ -128,6 +128,22 @@ def call_of(steps, at):
     return None
 
 
+def end_of_path(steps, at):
+    """The place of the last of the steps that load an attribute, of the attribute before, of what a step loads."""
+    while steps[at + 1].opname == "LOAD_ATTR" and not (steps[at + 1].arg & 1 and sys.version_info >= (3, 12)):
+        at += 1
+    return at
+
+
+def is_marked(steps, at):
+    """Whether what a step loads is called, by its mark or by the step behind it."""
+    name, has_mark = steps[at].opname, bool(steps[at].arg and steps[at].arg & 1)
+    is_new = sys.version_info >= (3, 12) and name in ("LOAD_ATTR", "LOAD_SUPER_ATTR")
+    is_before = sys.version_info >= (3, 13) and name in ("LOAD_ATTR", "LOAD_GLOBAL") and steps[
+        at + 1].opname == "PUSH_NULL"
+    return name == "LOAD_METHOD" or (name == "LOAD_GLOBAL" or is_new) and has_mark or is_before
+
+
 def is_argument(steps, start, end):
     """Whether what some steps load is an argument by itself, and no part of what makes one."""
     after = steps[end + 1]

@@ -17,7 +17,10 @@ import dataclasses
 import difflib
 import functools
 import heapq
+import html
+import http.client
 import json
+import locale
 import logging
 import operator
 import os
@@ -25,6 +28,7 @@ import pprint
 import queue
 import random
 import re
+import selectors
 import socket
 import socketserver
 import sqlite3
@@ -33,6 +37,7 @@ import sys
 import textwrap
 import threading
 import time
+import zipfile
 from concurrent import futures
 
 sys.path.insert(0, os.environ["CMH_TOOLS"])
@@ -47,6 +52,7 @@ stop, quit_now, left = threading.Event(), threading.Event(), threading.Event()
 latch, stats_lock = threading.Lock(), threading.Lock()
 order: "futures.Future[int]" = futures.Future()
 chime, watch = threading.Condition(), threading.Condition(latch)
+selector = selectors.DefaultSelector()
 PUTS, NOTIFIES = {"put", "put_nowait", "shutdown"}, {"notify", "notify_all", "notifyAll"}
 PLACES = {"box": (box, PUTS), "gate": (gate, {"set"}), "bell": (bell, NOTIFIES), "slots": (slots, None),
           "latch": (latch, None), "result": (getattr(order, "_condition"), NOTIFIES)}
@@ -136,6 +142,20 @@ class Output:
         gate.set()
 
 
+class Source:
+    """Stands for a file, a text or a number, by methods of which one opens the gate each."""
+
+    def read(self, count=-1):
+        gate.set()
+
+    seek = replace = as_integer_ratio = read
+
+
+class Opening:
+    def __init_subclass__(cls):
+        gate.set()
+
+
 class Bomb:
     def __init__(self, *row):
         if row:
@@ -205,8 +225,16 @@ class OpeningAtTheEnd(Handling):
         gate.set()
 
 
+class OpeningByAMethod(Handling):
+    finish = gate.set
+
+
 class Server(socketserver.ThreadingTCPServer):
     name, daemon_threads = "", True
+
+
+def opens_by_a_selector():
+    gate.set()
 
 
 def upper(match):
@@ -231,7 +259,7 @@ def opened(number):
     gate.set()
 
 
-first, last = Stage(other), Stage(box)
+first, last, source, opening = Stage(other), Stage(box), Source(), functools.partial(gate.set)
 sizes, frame, frozen = [Size(1), Size(2)], struct.Struct("!I"), Frozen("a")
 rows, bomb = [Row("a", 1), Row("b", 2)], Bomb()
 made: dict = collections.defaultdict(numbers)
@@ -407,6 +435,55 @@ def frees_latch_by_waiting():
     watch.acquire()
     while True:
         watch.wait(1000)
+
+
+def frees_gate_by_a_selector():
+    while True:
+        pause()
+        for key, _ in selector.select(1000):
+            key.data()
+
+
+def frees_box_by_handing_on():
+    while True:
+        pause()
+        locale.atof("1", box.put)
+
+
+def frees_gate_by_a_handed_one():
+    while True:
+        pause()
+        difflib.diff_bytes(opening, [], [])
+
+
+def frees_gate_by_a_subclass():
+    while True:
+        pause()
+        type("Opened", (Opening,), {})
+
+
+def frees_gate_by_a_text():
+    while True:
+        pause()
+        log.info(str(b"a", "ascii", "opening"))
+
+
+def frees_gate_by_escaping():
+    while True:
+        pause()
+        html.escape(source)
+
+
+def frees_gate_by_asking():
+    while True:
+        pause()
+        http.client.HTTPConnection("localhost").request("PUT", "/", source)
+
+
+def frees_gate_by_unpacking():
+    while True:
+        pause()
+        zipfile.ZipFile(source)
 
 
 def spares_by_a_timer():
@@ -1210,6 +1287,25 @@ async def frees_gate_by_calling_later():
         asyncio.get_running_loop().call_later(1000, opens, 1)
 
 
+async def spares_by_awaiting_for_a_time():
+    while True:
+        await asyncio.sleep(1000)
+        async with asyncio.timeout(1):
+            await nothing()
+            await calls.get()
+
+
+async def frees_answer_by_awaiting_for_a_time():
+    while True:
+        await asyncio.sleep(1000)
+        async with asyncio.timeout(1):
+            await answered()
+
+
+def answered():
+    return PLACES["answer"][0]
+
+
 async def spares_by_ticks():
     async for each in ticks(5):
         log.info("%s", each)
@@ -1274,12 +1370,15 @@ async def frees_async_lock_in_its_block():
 
 
 async def tasks():
+    global calls
     loop = asyncio.get_running_loop()
     PLACES["answer"] = loop.create_future(), {"set_result", "set_exception", "cancel"}
+    calls = asyncio.Queue()
     PLACES["async_lock"], PLACES["async_event"] = (asyncio.Lock(), None), (asyncio.Event(), {"set"})
     some = [asyncio.create_task(each(), name=each.__name__) for each in (
         spares_in_a_task, spares_by_a_fresh_future, frees_answer, frees_async_lock_in_its_block, spares_by_ticks,
-        spares_by_limits, spares_by_calling_later, frees_gate_by_calling_later,
+        spares_by_limits, spares_by_awaiting_for_a_time, frees_answer_by_awaiting_for_a_time, spares_by_calling_later,
+        frees_gate_by_calling_later,
         frees_answer_by_a_limit, frees_answer_by_a_limit_within,
         frees_answer_by_another_task)]
     some.append(asyncio.create_task(frees_answer_once(PLACES["answer"][0]), name="frees_answer_once"))
@@ -1380,7 +1479,8 @@ def begin_timers():
         timer = threading.Timer(1000, action)
         timer.name, timer.daemon = name, True
         timer.start()
-    for name, handler in (("spares_by_handling", Handling), ("frees_gate_by_handling", OpeningAtTheEnd)):
+    for name, handler in (("spares_by_handling", Handling), ("frees_gate_by_handling", OpeningAtTheEnd),
+                          ("frees_gate_by_a_method_in_handling", OpeningByAMethod)):
         server = Server(("127.0.0.1", 0), handler)
         server.name = name
         threading.Thread(target=server.serve_forever, name=f"{name}_later", daemon=True).start()
@@ -1471,6 +1571,7 @@ def look():
 
 def main():
     pool.submit(len, ())
+    selector.register(lazy.setdefault("pair", socket.socketpair())[0], selectors.EVENT_READ, opens_by_a_selector)
     begin_timers()
     codecs.register_error("opening", opens)
     BESIDES.get(sys.argv[1], list)()
