@@ -150,7 +150,7 @@ class Look(Reading):
         if type(inner) is types.FunctionType and not self.program.is_of_library(inner):
             self.follow(inner, callback.__self__ if type(callback) is types.MethodType else None)
         elif callback is getattr(sys.modules.get("asyncio.tasks"), "_release_waiter", self) or \
-                full_name(type(on)) == "asyncio.timeouts.Timeout":
+                full_name(type(on)) == "asyncio.timeouts.Timeout" or self.begins_coroutine(callback):
             return
         elif name == "_accept_connection" and on is loop:
             require(self.program.is_of_library(handle._args[0]))
@@ -167,6 +167,10 @@ class Look(Reading):
         else:
             is_waking = name in WAKING and is_of_asyncio(type(callback), type(on))
             require(is_waking or name == "_read_from_self" and on is loop)
+
+    def begins_coroutine(self, callback):
+        """Whether it begins a coroutine that a loop has been handed, which counts as one that may do anything."""
+        return "future" in self.state.cells_of(callback, "run_coroutine_threadsafe.<locals>.callback")
 
     def innermost(self, task):
         """The name of the function in which a task waits, also within a generator that is asynchronous."""

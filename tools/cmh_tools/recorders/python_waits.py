@@ -128,16 +128,17 @@ def bound_of(standing: Standing, at: Any) -> Optional[List[str]]:
 def ending_in(look: Look, name_of: Any, at: Any = None) -> Optional[List[str]]:
     """The threads and tasks of an OS process that may end waits there, or the one at some place, or None if others may
     too: all but those whose code ends none, those that only wait for a signal to stop, and threads that wait for the
-    events of a loop, which calls nothing that does."""
+    events of a loop, which calls nothing that does. A coroutine that a loop has been handed may do anything once it is
+    begun."""
     apart = look.apart.get(at, set())
-    if look.quiet is None or apart is None or look.head.get("others") != 0 or look.asked or not look.is_whole:
+    if look.quiet is None or apart is None or look.head.get("others") != 0 or not look.is_whole:
         return None
     idle = [row.key for row in look.threads.values() if row.more.get("loop") is not None and is_idle_loop(row.frames)]
     keys = [key for key in (*look.threads, *look.tasks) if key not in idle]
     rows = {**look.threads, **look.tasks}
     keys = [key for key in keys if key not in look.quiet and key not in apart]
     names = [name_of(key) for key in keys if rows[key].more.get("at") not in look.stopped]
-    names += map(name_of, look.loud)
+    names += map(name_of, (*look.loud, *look.asked))
     return None if None in names or len(names) > MOST else names
 
 
