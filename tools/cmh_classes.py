@@ -63,8 +63,13 @@ ENDS = {*range(172, 178), 191, 167, 170, 171, 200}  # after which the next instr
 # that is of no class that derives from this.
 ANY_VALUE, NEW_VALUE, NO_OTHER, RETURNS, FROM = "?", "+", "!", ">", "&"  # the last two before what a function returns,
 # and before a variable that is never set, with the final fields by which one comes from that to a value
+OF_FIELD = "@"  # before the final field in which a value stands, at the end of all
 CONSTANTS = {3: "I", 4: "F", 5: "J", 6: "D", 7: "Ljava/lang/Class;", 8: "Ljava/lang/String;"}
 ARRAYS = {4: "Z", 5: "C", 6: "F", 7: "D", 8: "B", 9: "S", 10: "I", 11: "J"}
+# Types of what threads wait at, and others end their waits by.
+WAITED_AT = re.compile(r"Ljava/util/concurrent/(?:BlockingQueue|BlockingDeque|ArrayBlockingQueue|LinkedBlockingQueue"
+                       r"|LinkedBlockingDeque|PriorityBlockingQueue|Semaphore|CountDownLatch|CyclicBarrier|Phaser"
+                       r"|locks/Condition);")
 U2, U4, S2, S4 = (struct.Struct(it) for it in (">H", ">I", ">h", ">i"))
 
 
@@ -126,6 +131,7 @@ class ClassFile:
         self.above = [self.text(it) for it in (above, *self.numbers(at + 6)) if it]
         at += 8 + 2 * self.u2(at + 6)
         self.finals: Set[str] = set()
+        self.named_fields: Set[str] = set()
         self.fields: List[str] = []
         self.methods: Dict[Tuple[str, str], Method] = {}
         self.makers: List[Tuple[int, List[int]]] = []
@@ -180,6 +186,7 @@ class ClassFile:
 
     def add_field(self, flags: int, name: str, types: str, _: int) -> None:
         self.finals.update([name] if flags & IS_FINAL else [])
+        self.named_fields.add(name)
         self.fields += [] if flags & IS_STATIC else [types]
 
     def add_method(self, flags: int, name: str, types: str, at: int) -> None:
@@ -238,6 +245,24 @@ class ClassFile:
         code, its = method.code, method.owner == self.name
         is_alone = its and len(code) == 8 and (code[0], code[3], code[4], code[7]) == (NEW, 89, SPECIAL, 176)
         return self.call(SPECIAL, U2.unpack_from(code, 5)[0]) if is_alone else None
+
+    def made_there(self, makers: Sequence[str]) -> Set[str]:
+        """Returns the final fields that get, wherever they are written, what is made for them alone: by `new`, or by a
+        method of some names."""
+        puts = [row for (name, _), it in self.methods.items() if name == "<init>" for row in self.puts(it, makers)]
+        others = {name for name, is_new in puts if not is_new}
+        return {name for name, _ in puts if name in self.finals} - others
+
+    def puts(self, method: Method, makers: Sequence[str]) -> Iterator[Tuple[str, bool]]:
+        """Yields which fields of its own a method writes, and whether what it puts there has just been made."""
+        def result(call: Call, its: str, is_new: bool) -> str:
+            return f"{NEW_VALUE if call.name in makers else ''}{call.types.rpartition(')')[2]}"
+
+        flow = Flow(self, method, result)
+        for at in (at for at, what, _ in steps(method.code) if what == PUTFIELD and at in flow.before):
+            field = self.call(PUTFIELD, flow.index(at))
+            if field.owner == self.name:
+                yield field.name, flow.before[at].stack[-1].startswith(NEW_VALUE)
 
     def makes(self) -> Iterator[Lambda]:
         """Yields the lambdas that the class makes, each as often as its code does so."""
@@ -362,7 +387,7 @@ class Flow:
     def source_of(self, at: int, call: Call) -> str:
         """Returns from which variable, by which final fields, the object of a call comes, or nothing."""
         is_of_object = self.code[at] in (VIRTUAL, INTERFACE) and at in self.before
-        return self.taken(at, call)[0].partition(FROM)[2] if is_of_object else ""
+        return source_of(self.taken(at, call)[0]) if is_of_object else ""
 
     def at_line(self, line: int) -> List[int]:
         """Returns the instructions of a line."""
@@ -453,6 +478,7 @@ class Flow:
         elif what in (178, 180, 181):
             field = self.file.call(what, index)
             left = "V" if what == 181 else f"{field.types}{self.source_by(field, stack[-1]) if what == 180 else ''}"
+            left += f"{OF_FIELD}{field.owner}.{field.name}" if what == 180 and WAITED_AT.fullmatch(field.types) else ""
             taken = 1 + len(slots([field.types])) if what == 181 else int(what == 180)
         elif VIRTUAL <= what <= DYNAMICALLY:
             call = self.file.call(what, index)
@@ -471,7 +497,7 @@ class Flow:
     def source_by(self, field: Call, thing: str) -> str:
         """Returns from where what stands in a field of an object comes, if that is never another."""
         is_final = field.owner == self.file.name and field.name in self.file.finals and field.types.startswith("L")
-        return f"{FROM}{thing.partition(FROM)[2]}.{field.name}" if is_final and FROM in thing else ""
+        return f"{FROM}{source_of(thing)}.{field.name}" if is_final and FROM in thing else ""
 
     def made(self, at: int, what: int, name: str, top: List[str]) -> str:
         """Returns the type of what is made, or taken for one."""
@@ -510,7 +536,12 @@ def taken_by(call: Call) -> int:
 
 def bare(types: str) -> str:
     """Returns a type without its signs."""
-    return types.lstrip(NEW_VALUE + NO_OTHER).partition(RETURNS)[0].partition(FROM)[0]
+    return types.lstrip(NEW_VALUE + NO_OTHER).partition(RETURNS)[0].partition(FROM)[0].partition(OF_FIELD)[0]
+
+
+def source_of(value: str) -> str:
+    """Returns from which variable, by which final fields, a value comes, or nothing."""
+    return value.partition(OF_FIELD)[0].partition(FROM)[2]
 
 
 def stored(variables: Tuple[str, ...], number: int, some: List[str]) -> Tuple[str, ...]:

@@ -17,10 +17,10 @@ import sys
 from collections import defaultdict
 from typing import Any, Dict, Iterable, Iterator, List, NamedTuple, Optional, Sequence, Set, Tuple
 
-from cmh_classes import (AASTORE, ANY_VALUE, BROKEN, CAST, DYNAMICALLY, FROM, GETFIELD, GETSTATIC, INTERFACE,
+from cmh_classes import (AASTORE, ANY_VALUE, BROKEN, CAST, DYNAMICALLY, GETFIELD, GETSTATIC, INTERFACE,
                          IS_ABSTRACT, IS_NATIVE, IS_PRIVATE, IS_STATIC, LAMBDAS, LENGTHS, NEW, NEW_VALUE, NO_OTHER,
-                         PUTFIELD, PUTSTATIC, RETURNS, STATIC, TYPE, U2, VIRTUAL, Call, ClassFile, Fault, Flow, Lambda,
-                         Method, bare, loaded_by, path_of, slots, steps)
+                         OF_FIELD, PUTFIELD, PUTSTATIC, RETURNS, STATIC, TYPE, U2, VIRTUAL, Call, ClassFile, Fault,
+                         Flow, Lambda, Method, bare, loaded_by, path_of, slots, source_of, steps)
 
 MOST_METHODS = 5_000  # that one thread may come to
 # What the JDK's own classes are called.
@@ -206,6 +206,7 @@ SUPPLIES, LOCALS = re.compile(r"java/util/function/\w*Supplier\.get\w*"), re.com
     r"java/lang/ThreadLocal\.(?:get|set|remove|withInitial|<init>)")
 # By which a stream runs what others have asked its pool for.
 PARALLEL = re.compile(r".*\.parallel\w*|java/util/stream/StreamSupport\..*")
+NEW_CONDITION = "newCondition", "()Ljava/util/concurrent/locks/Condition;"
 REFERENCES, GROUP, RUNNABLE = "Ljava/lang/ref/ReferenceQueue;", "Ljava/lang/ThreadGroup;", "Ljava/lang/Runnable;"
 FACTORY = "Ljava/util/function/Supplier;"  # (which may give what others have, into which it is put then)
 OF_FUNCTIONS = re.compile(r"java/util/function/\w+\.(?:get|apply|accept|test)\w*")
@@ -323,6 +324,7 @@ class Program:
         self.plain: Dict[str, bool] = {"N": True, ANY_VALUE: False}
         self.named: Set[str] = set()
         self.known: Dict[Any, bool] = {}
+        self.made_there: Dict[str, Set[str]] = {}
         for each in self.classes.values():
             self.named.update(each.named())
             if any(map(DYNAMIC.fullmatch, each.named())):
@@ -458,6 +460,17 @@ class Program:
         return (name not in (self.waited or ()) and all(map(ROOTS.fullmatch, self.kinds[name]))
                 and not any(FINALIZE in it.methods for it in some)
                 and all(self.is_plain(types) for it in some for types in it.fields))
+
+    def field_of_one(self, field: str) -> str:
+        """Returns a final field by its class, if each of its objects has made what stands there itself: so nobody comes
+        by it to what another one has there. Else it returns nothing."""
+        owner, _, name = field.rpartition(".")
+        its = next((it for it in self.lineage(owner) if it in self.classes and name in self.classes[it].named_fields), "")
+        if its not in self.made_there:
+            is_plain = its and not self.names(SETS_FIELDS) and "java/io/Serializable" not in self.kinds[its]
+            makers = () if self.by_call.get(NEW_CONDITION) else NEW_CONDITION[:1]
+            self.made_there[its] = self.classes[its].made_there(makers) if is_plain else set()
+        return f"{its.replace('/', '.')}.{name}" if name in self.made_there[its] else ""
 
     def has_plain_throwables(self) -> bool:
         """Whether nobody comes to more by an exception of the program."""
@@ -679,7 +692,8 @@ class Walk:
         if "meetings" in labels and self.program.names(MEETS_FOR):
             raise Fault(f"whoever comes last to {what} may run more")
         self.add(self.own_of(OF_PHASERS) if "meetings" in labels else ())
-        self.ends.update(labels)
+        field = self.program.field_of_one(its.object.partition(OF_FIELD)[2])
+        self.ends.update(f"{label} {field}".strip() for label in labels)
         if not labels or not {"items", "room"}.isdisjoint(labels):
             self.call_back(OF_ANY if its.has_foreign_function() else OF_LESS)
         return True
@@ -949,7 +963,7 @@ class Reading:
         """Adds what a call may run. The object of the call in which this stands is of the class whose method runs by
         that, or of one that derives from it, or a lambda that calls what stands above."""
         is_same = call.how in (VIRTUAL, INTERFACE) and self.flow.source != "" and self.part.above != () and (
-            given[0].partition(FROM)[2] == self.flow.source)
+            source_of(given[0]) == self.flow.source)
         is_known = is_same and ("." not in self.flow.source or not self.walk.program.names(SETS_FIELDS))
         if is_known and self.flow.call and call[1:] == self.flow.call[1:] and call.types.startswith("()"):
             self.walk.add(self.part.above)

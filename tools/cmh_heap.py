@@ -72,6 +72,7 @@ STREAMS, OF_PARTS = "java/util/stream/", re.compile(r"java\.util\.stream\..*Task
 MOST_PARTS = 1000  # parts of all parallel streams, and futures of which one needs all
 COMPUTES = re.compile(r"java\.util\.concurrent\.CompletableFuture\$(?:Async(?:Supply|Run)\.run|(?:Uni|Bi)\w+\.tryFire)")
 JDK = re.compile(r"(?:java|javax|jdk|sun|com\.sun)\.")
+CONCURRENT = re.compile(r"java\.util\.concurrent\.")
 NATIVE = -3  # the line of a native method, of whose arguments no heap dump has all
 # Who lets a thread sleep, and who waits by that.
 PARKS_A_WHILE = re.compile(r"java\.util\.concurrent\.locks\.LockSupport\.park(?:Nanos|Until)")
@@ -470,6 +471,8 @@ class Reach:
         self.of_all = {*heap.of_all}
         self.unused: Set[int] = set()
         self.fields: Dict[int, List[Tuple[int, int]]] = {}
+        self.by_fields: Dict[int, Set[str]] = defaultdict(set)
+        self.names: Dict[Tuple[int, int], str] = {}
         self.known: Dict[int, Optional[Set[int]]] = {}
         self.queues: Dict[int, bool] = {}  # whether the collector puts into one
         self.new: Set[int] = set()  # of these
@@ -553,6 +556,7 @@ class Reach:
                 self.own[other].add(row.identity)
             elif other in self.into:
                 self.into[other].add(row.identity)
+                self.by_fields[other].add(self.names.get((row.kind, at), ""))
                 is_new = is_new or row.identity not in self.into
         if is_new:
             self.into[row.identity] = {it for it in self.queues_of(row) if self.has_puts(it)}
@@ -593,8 +597,21 @@ class Reach:
             is_unused = (WAKES.fullmatch(field) or field == REFERENT and PHANTOM in names
                          or field == OWNER and not self.is_asked(names[0]))
             if width == REFERENCE:
+                self.names[kind, at] = field.replace("/", ".")
                 yield at, UNUSED if is_unused else BY_ITSELF if OWN.fullmatch(field) else BY_ANY
             at += WIDTHS[width]
+
+    def fields_with(self, thing: int) -> Tuple[Set[int], Set[str]]:
+        """Returns an object, with those of the JDK's locks and queues in which it stands, and all fields in which these
+        do: nothing stands for an array."""
+        found: Set[str] = set()
+        todo = [thing]
+        for it in todo:  # (which grows meanwhile)
+            inside = {name for name in self.by_fields[it] if CONCURRENT.match(name)}
+            todo += [other for other in self.into.get(it, ()) if inside and other not in todo
+                     and CONCURRENT.match(self.heap.name_of(self.heap.kind_of(other)).replace("/", "."))]
+            found |= self.by_fields[it] - inside
+        return {*todo}, found
 
     def is_asked(self, kind: str) -> bool:
         """Whether code of the job may ask the locks of a class for their owners."""
@@ -675,6 +692,8 @@ class Waits:
                 row["reach"] = some
             elif is_known and not row and thread.top(LATCH) and self.is_for_hook(self.at[thread.identity]):
                 row = {"waits": "hook", "for": []}
+            if row and some is not None:
+                row.update(self.fields_of(thread))
             if row:
                 frames = [f"{name}:{line}" for name, line in thread.frames[:SHOWN]]
                 yield {"thread": thread.label, "frames": frames, **row}
@@ -709,6 +728,18 @@ class Waits:
             found |= {it for it in new if not self.is_at_rest(self.threads[it])}
         self.listed += len(found)
         return [thread.label for it, thread in self.threads.items() if it in found]
+
+    def fields_of(self, thread: Thread) -> Row:
+        """Returns in which fields stands what a thread waits at, if others come to it by these alone: not by an array,
+        nor by what the code of the job has there in a frame, as it may have read that from an object that is gone."""
+        at = self.at[thread.identity]
+        things, fields = self.reach.fields_with(at)
+        others = [it for it in self.threads.values() if it is not thread and self.at[it.identity] != at]
+        is_held = any(map(things.intersection, self.heap.natives.values())) or any(
+            held in things and not (depth < len(it.frames) and JDK.match(it.frames[depth][0]))
+            for it in others for depth, held in it.locals)
+        is_known = at and not is_held and not any(not it or JDK.match(it) for it in fields)
+        return {"fields": sorted(fields)} if is_known else {}
 
     def lock_of(self, at: int) -> int:
         """Returns the lock of a condition, or 0: one that was signalled still stands there until it gets the lock."""

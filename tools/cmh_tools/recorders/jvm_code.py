@@ -28,14 +28,15 @@ ENDED_BY = [(re.compile(pattern), kinds) for pattern, kinds in (
     (r"java\.util\.concurrent\.CountDownLatch\.await", {LATCHES}),
     (r"java\.util\.concurrent\.(?:Phaser|CyclicBarrier|Exchanger)\.\w+", {MEETINGS}))]
 SENTENCE = "a thread does what its code on the class path does, and nothing in it ends a wait"
-HEAD, ROW = {"version": int, "warning?": str}, {"thread": LABEL, "frames": [str], "ends": [re.compile("|".join(KINDS))]}
+HEAD, ROW = {"version": int, "warning?": str}, {
+    "thread": LABEL, "frames": [str], "ends": [re.compile(rf"(?:{'|'.join(KINDS)})(?: \S+)?")]}
 
 
 @dataclass
 class Code:
-    """The frames of those whose code ends nobody's wait, or waits of some KINDS alone, with these. `warning` says why
-    the code isn't known, if it isn't, and `ends` has the kinds of those who stood there in the first state: the code
-    is all that they may come to since."""
+    """The frames of those whose code ends nobody's wait, or waits of some KINDS alone, with these, as 'room' or 'room
+    Office.tray': only at what stands in that field. `warning` says why the code isn't known, if it isn't, and `ends`
+    has the kinds of those who stood there in the first state: the code is all that they may come to since."""
 
     at: str
     warning: str = ""
@@ -51,18 +52,26 @@ class Code:
     def frees_nobody(self, thread: Thread, kinds: Optional[Iterable[str]]) -> bool:
         """Whether a thread ends no wait of some kinds."""
         label = label_of(thread)
-        return kinds is not None and label in self.ends and {*kinds, REQUESTS}.isdisjoint(self.ends[label])
+        return kinds is not None and label in self.ends and not any(
+            ends_wait(one, wanted) for one in self.ends[label] for wanted in (*kinds, REQUESTS))
 
     def may_free(self, thread: Thread, others: Iterable[Thread]) -> bool:
         """Whether a thread is known to come to code that ends waits, besides the tasks that it runs, of such kinds as
         those at which others wait."""
-        ends = {*self.ends.get(label_of(thread) or NOBODY, ())} - {TASKS}
+        ends = {it.partition(" ")[0] for it in self.ends.get(label_of(thread) or NOBODY, ())} - {TASKS}
         return bool(ends) and any(not ends.isdisjoint(kinds_of(it) or ()) for it in others if it.state == "WAITING")
 
     def serves(self, thread: Thread) -> bool:
         """Whether a thread does no more than to give requests to the threads of a pool."""
         label = label_of(thread)
         return label in self.ends and self.ends[label] == [REQUESTS]
+
+
+def ends_wait(one: str, wanted: str) -> bool:
+    """Whether what ends waits of a kind may end one of that kind, by the fields in which what is waited at stands, as
+    far as these are known."""
+    (kind, _, field_), (other, _, there) = one.partition(" "), wanted.partition(" ")
+    return kind == other and (not field_ or not there or field_ == there)
 
 
 def kinds_of(thread: Thread) -> Optional[Set[str]]:

@@ -19,13 +19,14 @@ from .jvm_rows import LABEL, Label, frames_of, key_of, label_of, plain, trees_in
 from .jvm_text import Dump, Thread, stack_of
 
 MARK = "# cmh heap "
+NO_FIELD = "-"
 WAITS, NAMED = re.compile(r"java\.lang\.Object\.wait0?"), re.compile(r"java\.lang\.(?:String|Class(?: for .*)?)")
 KINDS = TASK, QUEUED, READERS, JOIN, FUTURE, FUTURES, SUPPLIED, POOL, REACH, HOOK, TIMER, STREAM, LOST, SERVER = (
     "task", "queued", "readers", "join", "future", "futures", "supplied", "pool", "reach", "hook", "timer", "stream",
     "lost", "server")
 ROW = {"thread": LABEL, "frames": [str], "waits": re.compile("|".join(KINDS)), "for": [LABEL], "object?": str,
        "is_full?": bool, "is_direct?": bool, "besides?": [LABEL], "reach?": [LABEL], "tasks?": [str],
-       "sites?": [str], "answers?": bool}
+       "sites?": [str], "answers?": bool, "fields?": [str]}
 CANCELS, POOLS, COMPLETES, REACHES = "cancels", "pools", "completes", "reaches"
 PREMISES = {
     CANCELS: "nobody cancels a task for which a thread waits, nor interrupts a thread that waits for another one",
@@ -42,7 +43,7 @@ class Wait:
     """What a heap shows of the wait of a thread: of which of KINDS it is, whom it waits for, who else has at hand what
     it waits at; whether the pool of a queued task takes no more threads, and whether who computes the first future of
     a chain also does what follows. `reach` has those who have a reference to what it waits at, if not anybody may, with
-    the thread that it joins."""
+    the thread that it joins, and `fields` all fields in which that stands, if these are known."""
 
     kind: str
     frames: List[str]
@@ -51,6 +52,7 @@ class Wait:
     is_full: bool = False
     is_direct: bool = False
     reach: Optional[List[Label]] = None
+    fields: Optional[List[str]] = None
 
 
 @dataclass
@@ -91,7 +93,7 @@ def wait_of_row(row: Dict[str, Any]) -> Wait:
     frames = list(map(plain, row["frames"]))
     reach = row["for"] if row["waits"] == REACH else row.get("reach")
     return Wait(row["waits"], frames, whom, besides, row.get("is_full", False), row.get("is_direct", False),
-                None if reach is None else list(dict.fromkeys(map(key_of, reach))))
+                None if reach is None else list(dict.fromkeys(map(key_of, reach))), row.get("fields"))
 
 
 def is_named(thread: Thread) -> bool:
@@ -155,7 +157,8 @@ class Heaps:
         known by whom that is run: a timer runs what stands in its own queue."""
         wait = self.heap.wait_of(thread) if self.heap else None
         is_task = wait is not None and wait.kind in (TASK, QUEUED) and all(it in self.there for it in wait.whom)
-        return NOTHING if is_task else kinds_of(thread)
+        kinds, fields = NOTHING if is_task else kinds_of(thread), wait.fields if wait is not None else None
+        return kinds if not kinds or fields is None else [f"{kind} {it}" for kind in kinds for it in fields or [NO_FIELD]]
 
     def bound_of(self, thread: Thread) -> Tuple[List[str], List[str]]:
         """Returns the names of all who may end the wait of a thread, and by which premises: who have a reference, but
