@@ -10,6 +10,8 @@ import os
 import signal
 import socket
 import sys
+import threading
+import time
 
 LONG = 600
 
@@ -188,6 +190,34 @@ class Hub:
         kept.close()
 
 
+# A guard hands a loop a coroutine that lets a visitor in, beside a task that has the loop's thread. In the stuck one the
+# task waits for the visitor to come in, in the twin it only takes long.
+
+
+class Door:
+    def __init__(self, is_healthy):
+        self.opened, self.entered, self.is_healthy = threading.Event(), threading.Event(), is_healthy
+
+    async def open(self):
+        self.opened.set()
+
+    def enter(self):
+        self.opened.wait()
+        self.entered.set()
+
+    def guard(self, loop):
+        asyncio.run_coroutine_threadsafe(self.open(), loop).result()
+
+    async def greet(self):
+        loop = asyncio.get_running_loop()
+        for work, *given in ((self.enter,), (self.guard, loop)):
+            threading.Thread(target=work, args=given, name=work.__name__, daemon=True).start()
+        if self.is_healthy:
+            time.sleep(LONG)
+        else:
+            self.entered.wait()
+
+
 # A task gathers two that wait and a heartbeat, and would free both in the end. The twin gathers two that take two locks
 # in two orders, and another task will cancel the heartbeat, which ends the gathering.
 
@@ -274,6 +304,8 @@ JOBS = {
     "booth_answer": lambda: asyncio.run(share(None)),
     "booth_answer_limited": lambda: asyncio.run(share(LONG)),
     "booth_orders": lambda: asyncio.run(Orders().run()),
+    "booth_door": lambda: asyncio.run(Door(False).greet()),
+    "booth_door_slow": lambda: asyncio.run(Door(True).greet()),
 }
 
 if __name__ == "__main__":
