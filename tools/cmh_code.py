@@ -465,7 +465,8 @@ class Program:
         """Returns a final field by its class, if each of its objects has made what stands there itself: so nobody comes
         by it to what another one has there. Else it returns nothing."""
         owner, _, name = field.rpartition(".")
-        its = next((it for it in self.lineage(owner) if it in self.classes and name in self.classes[it].named_fields), "")
+        some = [it for it in self.lineage(owner) if it in self.classes and name in self.classes[it].named_fields]
+        its = some[0] if some else ""
         if its not in self.made_there:
             is_plain = its and not self.names(SETS_FIELDS) and "java/io/Serializable" not in self.kinds[its]
             makers = () if self.by_call.get(NEW_CONDITION) else NEW_CONDITION[:1]

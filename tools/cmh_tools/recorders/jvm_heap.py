@@ -158,7 +158,8 @@ class Heaps:
         wait = self.heap.wait_of(thread) if self.heap else None
         is_task = wait is not None and wait.kind in (TASK, QUEUED) and all(it in self.there for it in wait.whom)
         kinds, fields = NOTHING if is_task else kinds_of(thread), wait.fields if wait is not None else None
-        return kinds if not kinds or fields is None else [f"{kind} {it}" for kind in kinds for it in fields or [NO_FIELD]]
+        is_known = kinds and fields is not None
+        return [f"{kind} {it}" for kind in kinds or () for it in fields or [NO_FIELD]] if is_known else kinds
 
     def bound_of(self, thread: Thread) -> Tuple[List[str], List[str]]:
         """Returns the names of all who may end the wait of a thread, and by which premises: who have a reference, but
