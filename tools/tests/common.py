@@ -28,6 +28,11 @@ def proposals(sketch):
     return [it.text() for it in propose(sketch)]
 
 
+def without_heap(text):
+    """Returns the text of a JVM's threads alone."""
+    return "".join(line for line in text.splitlines(True) if not line.startswith("# cmh "))
+
+
 def call(command, words):
     """Calls a tool's command, and returns what it says."""
     out, err = (io.TextIOWrapper(io.BytesIO(), encoding="utf-8", write_through=True) for _ in range(2))
