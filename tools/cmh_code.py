@@ -46,6 +46,10 @@ PIPES, STREAMS = re.compile(
     r".*\.onClose|java/util/stream/(?:Stream\$Builder|Collector)\..*")
 # Calls by which a final field may come to have another value.
 SETS_FIELDS = re.compile(r"java/lang/Class\.get(?:Declared)?Fields?|java/lang/reflect/Field\..*|.*/Unsafe\..*")
+# What has code of the program run by threads that it hasn't begun: those of the JVM, or of native code.
+FROM_INSIDE = re.compile(r"java/lang/ref/Cleaner\..*|(?:sun|jdk/internal)/misc/Signal\..*|javax/management/.*"
+                         r"|java/lang/(?:System|Runtime)\.load(?:Library)?|java/lang/Runtime\.addShutdownHook"
+                         r"|java/lang/instrument/.*")
 MEETS_FOR = re.compile(r"java/util/concurrent/CyclicBarrier\.<init> with Runnable")
 POOLS = re.compile(r".*\.(?:allowCoreThreadTimeOut|setCorePoolSize)")
 # Types of the JDK whose methods no method in HARMLESS calls, though the program has classes and lambdas of them.
@@ -472,6 +476,13 @@ class Program:
             makers = () if self.by_call.get(NEW_CONDITION) else NEW_CONDITION[:1]
             self.made_there[its] = self.classes[its].made_there(makers) if is_plain else set()
         return f"{its.replace('/', '.')}.{name}" if name in self.made_there[its] else ""
+
+    def runs_alone(self) -> bool:
+        """Whether no thread but its own runs its code: no finalizer, no handler of a signal, none of native code, and no
+        hook of the JVM's end."""
+        has_finalizer = any(FINALIZE in it.methods for it in self.classes.values())
+        is_native = any(it.flags & IS_NATIVE for each in self.classes.values() for it in each.methods.values())
+        return not (has_finalizer or is_native or self.names(FROM_INSIDE))
 
     def has_plain_throwables(self) -> bool:
         """Whether nobody comes to more by an exception of the program."""
@@ -1127,9 +1138,9 @@ def rows_in(text: str) -> List[Dict[str, Any]]:
     return [json.loads(line[len(MARK):]) for line in text.split("\n") if line.startswith(MARK)]
 
 
-def rows_of(pid: str, state: str, heap: str) -> Iterator[Dict[str, Any]]:
+def rows_of(program: Program, state: str, heap: str) -> Iterator[Dict[str, Any]]:
     """Yields the rows of those threads whose code is known to end nobody's wait."""
-    tasks, program = tasks_in(heap), program_of(pid)
+    tasks = tasks_in(heap)
     program.sites = sites_in(heap)
     program.waited, program.shown = waited_in(state), shown_in(state, program)
     known: Dict[Any, Optional[List[str]]] = {}
@@ -1158,7 +1169,9 @@ def main(words: List[str]) -> int:
     rows: List[Dict[str, Any]] = []
     try:
         texts = [open(it, encoding="utf-8", errors="backslashreplace").read() for it in words[1:]]
-        rows = list(rows_of(words[0], texts[0], "".join(texts[1:])))
+        program = program_of(words[0])
+        head["alone"] = program.runs_alone()
+        rows = list(rows_of(program, texts[0], "".join(texts[1:])))
     except BROKEN as error:
         head["warning"] = f"the code of threads isn't known: {error or type(error).__name__}"
     for row in [head, *rows, {"end": len(rows)}]:

@@ -181,10 +181,11 @@ class Shapes(Dict[int, Optional[Callable[..., Tuple[int, ...]]]]):
 class Heap:
     """What is kept of a heap dump: when it was taken, in seconds; by the identity of an object the values of its
     fields, for each group; of each thread, by its number in the file, its object, its trace, and which objects each of
-    its frames has, or its natives. `of_all` are those that any thread may come to: in static fields, of the JVM, and of
-    these `hooks` is the map of the threads that are started once the JVM ends. `linked` has of classes the arrays of
-    what their code has made to call. `references` has the lower half of each
-    reference, in the order of the file, and `strides` where some of them begin there and here."""
+    its frames has, or its natives. `of_all` are those that the JVM has, or a static field of the JDK's,
+    and of these `hooks` is the map of the threads that are started once the JVM ends; `statics` are in static fields of
+    the job's, to which all its threads may come. `linked` has of classes the arrays of what their code has made to
+    call. `references` has the lower half of each reference, in the order of the file, and `strides` where some of them
+    begin there and here."""
 
     def __init__(self, data: mmap.mmap) -> None:
         self.data, self.time = data, 0.0
@@ -202,6 +203,7 @@ class Heap:
         self.locals: Dict[int, List[Tuple[int, int]]] = defaultdict(list)
         self.natives: Dict[int, Set[int]] = defaultdict(set)
         self.of_all: Set[int] = set()
+        self.statics: Set[int] = set()
         self.hooks: Set[int] = set()
         self.linked: Dict[int, int] = {}
         self.keeps_references = True
@@ -320,15 +322,20 @@ class Heap:
     def read_class(self, at: int) -> int:
         """Reads a class, and returns where the next record stands: constants and statics come before the fields."""
         kind, _, above, *of_all = CLASS_HEAD.unpack_from(self.data, at)
+        is_own = not is_jdks(self.name_of(kind))
         at += 64
         for head in (2, 8):
             number: int = COUNT.unpack_from(self.data, at)[0]
             at += 2
             for _ in range(number):
                 if self.data[at + head] == REFERENCE:
-                    of_all.append(IDENTITY.unpack_from(self.data, at + head + 1)[0])
+                    held = IDENTITY.unpack_from(self.data, at + head + 1)[0]
                     name = self.text(IDENTITY.unpack_from(self.data, at)[0]) if head == 8 else ""
-                    self.linked.update({kind: of_all[-1]} if name == LINKED else {})
+                    self.linked.update({kind: held} if name == LINKED else {})
+                    if is_own and name.isidentifier():
+                        self.statics.add(held)
+                    else:
+                        of_all.append(held)
                 at += head + 1 + WIDTHS[self.data[at + head]]
         self.of_all.update(of_all)
         self.hooks.update(of_all if self.name_of(kind) == OF_THE_END else ())
@@ -461,19 +468,20 @@ class Thread:
 class Reach:
     """Who has a path of references to some objects. `into` has, of each object on a path, those that refer to it, `own`
     the threads that alone use a field of theirs which does, `having` those that have it in a frame, `of_all` are those
-    that any thread may come to, and `unused` those to which a field refers that nobody uses."""
+    to which anybody may come, the JVM too, and `unused` those to which a field refers that nobody uses."""
 
     def __init__(self, heap: Heap, alive: Iterable[int]) -> None:
         self.heap, self.alive = heap, set(alive)
         self.into: Dict[int, Set[int]] = {}
         self.own: Dict[int, Set[int]] = defaultdict(set)
         self.having: Dict[int, Set[int]] = defaultdict(set)
-        self.of_all = {*heap.of_all}
+        self.of_all, self.statics = {*heap.of_all}, heap.statics - {0}
         self.unused: Set[int] = set()
         self.fields: Dict[int, List[Tuple[int, int]]] = {}
         self.by_fields: Dict[int, Set[str]] = defaultdict(set)
         self.names: Dict[Tuple[int, int], str] = {}
         self.known: Dict[int, Optional[Set[int]]] = {}
+        self.by_statics: Set[int] = set()  # of these, to which one comes by a static field
         self.queues: Dict[int, bool] = {}  # whether the collector puts into one
         self.new: Set[int] = set()  # of these
         self.asks: Optional[bool] = None  # whether a class of the job's derives from a lock that knows its owner
@@ -622,7 +630,8 @@ class Reach:
 
     def threads_to(self, thing: int) -> Optional[Set[int]]:
         """Returns the threads that have a path to an object, or None if any thread may have one: also where nothing is
-        known to refer to one that lives, as to what the JVM keeps for a class."""
+        known to refer to one that lives, as to what the JVM keeps for a class. By a static field of the job's all
+        threads have one that there are."""
         if thing not in self.known:
             path, seen = [thing], {thing}
             for it in path:  # (which grows meanwhile)
@@ -630,9 +639,11 @@ class Reach:
                 seen |= new
                 path += new
             found = {thread for it in path for some in (self.having, self.own) for thread in some.get(it, ())}
-            is_whole = all(self.into[it] or any(it in some for some in (self.having, self.own, self.alive, self.unused))
-                           for it in path)
-            self.known[thing] = found | seen & self.alive if is_whole and not seen & self.of_all else None
+            roots = self.having, self.own, self.alive, self.unused, self.statics
+            is_whole = all(self.into[it] or any(it in some for some in roots) for it in path)
+            self.by_statics |= {thing} if seen & self.statics else set()
+            found |= self.alive if seen & self.statics else seen & self.alive
+            self.known[thing] = found if is_whole and not seen & self.of_all else None
         return self.known[thing]
 
 
@@ -685,7 +696,7 @@ class Waits:
         for thread in self.threads.values():
             row = self.row_of(thread)
             is_meant = thread.identity in waiting and self.at[thread.identity] not in self.found[THREAD]
-            some = self.reaching(thread) if is_known and is_meant else None  # (the end of a thread ends a wait at it)
+            some, is_all = self.reaching(thread) if is_known and is_meant else (None, False)
             if some is not None and not row and self.at[thread.identity] and not thread.top(GETS_TASK):
                 row = {"waits": "reach", "for": some}
             elif some is not None and row:
@@ -694,6 +705,8 @@ class Waits:
                 row = {"waits": "hook", "for": []}
             if row and some is not None:
                 row.update(self.fields_of(thread))
+            if row and some is not None and is_all:
+                row.update({"for" if row["waits"] == "reach" else "reach": [], "is_all": True})
             if row:
                 frames = [f"{name}:{line}" for name, line in thread.frames[:SHOWN]]
                 yield {"thread": thread.label, "frames": frames, **row}
@@ -711,23 +724,26 @@ class Waits:
         found = {identity for depth, identity in thread.locals if depth in depths}
         return found.pop() if len(found) == 1 else 0
 
-    def reaching(self, thread: Thread) -> Optional[List[List[Any]]]:
+    def reaching(self, thread: Thread) -> Tuple[Optional[List[List[Any]]], bool]:
         """Returns who may end the wait of a thread, by what it waits at or by an interrupt, or None if that may be
-        anybody. In the place of a worker of a pool that is idle stands who may give it something to do."""
+        anybody, and whether all threads may. In the place of a worker of a pool that is idle stands who may give it
+        something to do. (The end of a thread ends a wait at it.)"""
         found = {it for it in self.hiding if it != thread.identity}
-        todo = [thread]
+        todo, is_all = [thread], False
         seen = {thread.identity}
         for one in todo:  # (which grows meanwhile)
             at = self.at[one.identity]
-            some = [self.reach.threads_to(it) for it in (at, self.lock_of(at), one.identity) if it]
+            things = [it for it in (at, self.lock_of(at), one.identity) if it]
+            some = [self.reach.threads_to(it) for it in things]
+            is_all = is_all or not self.reach.by_statics.isdisjoint(things)
             if None in some or self.listed > MOST_LISTED or at in self.heap.classes or self.is_in_group(one):
-                return None
+                return None, is_all
             new = {it for each in some for it in each or ()} - seen
             seen |= new
             todo += [self.threads[it] for it in new if self.is_at_rest(self.threads[it])]
             found |= {it for it in new if not self.is_at_rest(self.threads[it])}
         self.listed += len(found)
-        return [thread.label for it, thread in self.threads.items() if it in found]
+        return [thread.label for it, thread in self.threads.items() if it in found], is_all
 
     def fields_of(self, thread: Thread) -> Row:
         """Returns in which fields stands what a thread waits at, if others come to it by these alone: not by an array,

@@ -28,7 +28,7 @@ ENDED_BY = [(re.compile(pattern), kinds) for pattern, kinds in (
     (r"java\.util\.concurrent\.CountDownLatch\.await", {LATCHES}),
     (r"java\.util\.concurrent\.(?:Phaser|CyclicBarrier|Exchanger)\.\w+", {MEETINGS}))]
 SENTENCE = "a thread does what its code on the class path does, and nothing in it ends a wait"
-HEAD, ROW = {"version": int, "warning?": str}, {
+HEAD, ROW = {"version": int, "warning?": str, "alone?": bool}, {
     "thread": LABEL, "frames": [str], "ends": [re.compile(rf"(?:{'|'.join(KINDS)})(?: \S+)?")]}
 
 
@@ -36,10 +36,12 @@ HEAD, ROW = {"version": int, "warning?": str}, {
 class Code:
     """The frames of those whose code ends nobody's wait, or waits of some KINDS alone, with these, as 'room' or 'room
     Office.tray': only at what stands in that field. `warning` says why the code isn't known, if it isn't, and `ends`
-    has the kinds of those who stood there in the first state: the code is all that they may come to since."""
+    has the kinds of those who stood there in the first state: the code is all that they may come to since. `is_alone`
+    says that no thread but the job's own runs its code."""
 
     at: str
     warning: str = ""
+    is_alone: bool = False
     rows: Dict[Label, Tuple[List[str], List[str]]] = field(default_factory=dict)
     ends: Dict[Label, List[str]] = field(default_factory=dict)
 
@@ -98,7 +100,7 @@ def read_code(path: str, text: str) -> Optional[Code]:
     if not fits(head, HEAD) or head["version"] != 1 or end != {"end": len(rows)}:
         raise Refusal(f"{at}: rows of the code are missing, or there are two of them: take the state anew by take-jvm "
                       "--heap")
-    code = Code(at, head.get("warning", ""))
+    code = Code(at, head.get("warning", ""), head.get("alone") is True)
     for where, row in rows:
         odd = next(misfits(row, ROW), None)
         if odd is not None:

@@ -189,6 +189,23 @@ def is_inside(thread: Thread) -> bool:
     return not thread.number or INSIDE.fullmatch(thread.name) is not None
 
 
+def is_at_rest(thread: Thread) -> bool:
+    """Whether a thread is idle until another thread of the job gives it something to do. One with a limit isn't, but
+    for a worker of a pool that then ends without running code of the job."""
+    place, stack = place_of(thread), stack_of(thread)
+    if not place.idle or place.idle in FROM_OUTSIDE or place.idle == CLEANER:
+        return False
+    if not has_limit(thread):
+        return thread.state in ("WAITING", "") or place.idle == CARRIER
+    ends = is_in(ENDS_UNSEEN, stack) or SHARED_WORKER.fullmatch(thread.name) is not None
+    return ends and not has_jobs(stack) and not place.has(HAS_TIMER) and not is_in(HAS_TASK, stack)
+
+
+def has_limit(thread: Thread) -> bool:
+    """Whether the wait of a thread has a limit."""
+    return thread.state == "TIMED_WAITING" or not thread.state and place_of(thread).has(LIMITED)
+
+
 def own_of(stack: Stack) -> List[str]:
     """The methods of the job's own in a stack, topmost first, without one that only sleeps."""
     own = [method for method, _, _ in stack if is_own(method)]

@@ -13,7 +13,7 @@ from ..files import Refusal, shown
 from ..sketch import COMPLETE, SYSTEM, Process, premise, unknown, waits_for_all, waits_for_any
 from .base import misfits
 from .jvm_code import CODE, KINDS as OF_CODE, NOTHING, Code, kinds_of
-from .jvm_frames import FINDS_THREADS, awaits_task, is_in, is_of_jvm, place_of
+from .jvm_frames import FINDS_THREADS, awaits_task, is_at_rest, is_in, is_of_jvm, place_of
 from .jvm_locks import Locks
 from .jvm_rows import LABEL, Label, frames_of, key_of, label_of, plain, trees_in
 from .jvm_text import Dump, Thread, stack_of
@@ -26,7 +26,7 @@ KINDS = TASK, QUEUED, READERS, JOIN, FUTURE, FUTURES, SUPPLIED, POOL, REACH, HOO
     "lost", "server")
 ROW = {"thread": LABEL, "frames": [str], "waits": re.compile("|".join(KINDS)), "for": [LABEL], "object?": str,
        "is_full?": bool, "is_direct?": bool, "besides?": [LABEL], "reach?": [LABEL], "tasks?": [str],
-       "sites?": [str], "answers?": bool, "fields?": [str]}
+       "sites?": [str], "answers?": bool, "fields?": [str], "is_all?": bool}
 CANCELS, POOLS, COMPLETES, REACHES = "cancels", "pools", "completes", "reaches"
 PREMISES = {
     CANCELS: "nobody cancels a task for which a thread waits, nor interrupts a thread that waits for another one",
@@ -43,7 +43,8 @@ class Wait:
     """What a heap shows of the wait of a thread: of which of KINDS it is, whom it waits for, who else has at hand what
     it waits at; whether the pool of a queued task takes no more threads, and whether who computes the first future of
     a chain also does what follows. `reach` has those who have a reference to what it waits at, if not anybody may, with
-    the thread that it joins, and `fields` all fields in which that stands, if these are known."""
+    the thread that it joins, and `fields` all fields in which that stands, if these are known. `is_all` says that all
+    threads of the job come to it, by a static field."""
 
     kind: str
     frames: List[str]
@@ -53,6 +54,7 @@ class Wait:
     is_direct: bool = False
     reach: Optional[List[Label]] = None
     fields: Optional[List[str]] = None
+    is_all: bool = False
 
 
 @dataclass
@@ -93,7 +95,8 @@ def wait_of_row(row: Dict[str, Any]) -> Wait:
     frames = list(map(plain, row["frames"]))
     reach = row["for"] if row["waits"] == REACH else row.get("reach")
     return Wait(row["waits"], frames, whom, besides, row.get("is_full", False), row.get("is_direct", False),
-                None if reach is None else list(dict.fromkeys(map(key_of, reach))), row.get("fields"))
+                None if reach is None else list(dict.fromkeys(map(key_of, reach))), row.get("fields"),
+                row.get("is_all", False))
 
 
 def is_named(thread: Thread) -> bool:
@@ -125,6 +128,7 @@ class Heaps:
         self.threads = {it.key: it for it in threads}
         labels = [(label_of(it), it) for it in threads] if heap else []
         self.there: Dict[Label, Thread] = {label: it for label, it in labels if label}
+        self.awake = [label for label, it in self.there.items() if not is_of_jvm(it) and not is_at_rest(it)]
         self.bounded: Set[str] = set()
         self.is_searched = any(is_in(FINDS_THREADS, stack_of(it)) for it in threads)
         self.calling = [label_of(it) for it in threads if heap and waits_for_class(it, locks)]
@@ -168,7 +172,8 @@ class Heaps:
         some = [it for it in self.enders_of(thread) or () if not self.is_lost(it) or awaits_task(it)]
         kinds = self.kinds_of(thread)
         found = [it for it in some if not self.frees_nobody(it, kinds)]
-        found = found or [it for it in some if it.state == "WAITING"]  # (who may hang as well)
+        if not found and not self.is_for_all(thread):
+            found = [it for it in some if it.state == "WAITING"]  # (who may hang as well)
         return [self.names[it.key] for it in found], [REACHES, *([CODE] if len(found) < len(some) else [])]
 
     def frees_nobody(self, thread: Thread, kinds: Optional[Iterable[str]] = OF_CODE) -> bool:
@@ -186,10 +191,19 @@ class Heaps:
         class may have one: no heap dump has the arguments of a call that has not begun."""
         wait = self.heap.wait_of(thread) if self.heap and not self.is_searched else None
         is_known = wait is not None and (wait.kind == JOIN or not is_named(thread)) and None not in self.calling
-        if wait is None or wait.reach is None or not is_known:
+        if wait is None or wait.reach is None or not is_known or wait.is_all and not self.runs_alone():
             return None
-        some = [*wait.reach, *filter(None, self.calling)]
+        some = [*(self.awake if wait.is_all else wait.reach), *filter(None, self.calling)]
         return list(dict.fromkeys(it for label in some for it in self.instead_of(label) if it != label_of(thread)))
+
+    def is_for_all(self, thread: Thread) -> bool:
+        """Whether all threads come to what one waits at."""
+        wait = self.heap.wait_of(thread) if self.heap else None
+        return wait is not None and wait.is_all
+
+    def runs_alone(self) -> bool:
+        """Whether no thread but the job's own runs its code."""
+        return self.code is not None and self.code.is_alone
 
     def instead_of(self, label: Label) -> List[Label]:
         """Returns a thread, or in place of one that serves those who are to do what is asked, if all of these are at

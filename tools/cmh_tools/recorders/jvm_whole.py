@@ -9,10 +9,9 @@ from ..files import shown
 from ..moments import ONCE
 from ..sketch import ALL, ANY, INNER, REST, RUNS, UNKNOWN, Process, Sketch, premise
 from .jvm_code import CODE, SENTENCE
-from .jvm_frames import (CARRIER, CLEANER, ENDS_UNSEEN, FROM_OUTSIDE, HAS_TASK, HAS_TIMER, LIMITED, SHARED_WORKER,
-                         has_jobs, is_in, is_inside, is_of_jvm, place_of)
+from .jvm_frames import has_limit, is_at_rest, is_inside, is_of_jvm
 from .jvm_heap import Heaps
-from .jvm_text import Dump, Thread, stack_of
+from .jvm_text import Dump, Thread
 
 FEW = 3  # of those who may disturb, which all who can be disturbed name
 ORDER = (RUNS, UNKNOWN, ANY, ALL)  # in which they are named
@@ -89,23 +88,6 @@ def awake_of(moment: Whole) -> List[Thread]:
     own = [it for it in moment.threads if not is_of_jvm(it)]
     stays = any(not it.is_daemon and not has_limit(it) for it in own)
     return [it for it in own if not is_at_rest(it) or not (stays or it.is_daemon) and has_limit(it)]
-
-
-def is_at_rest(thread: Thread) -> bool:
-    """Whether a thread is idle until another thread of the job gives it something to do. One with a limit isn't, but
-    for a worker of a pool that then ends without running code of the job."""
-    place, stack = place_of(thread), stack_of(thread)
-    if not place.idle or place.idle in FROM_OUTSIDE or place.idle == CLEANER:
-        return False
-    if not has_limit(thread):
-        return thread.state in ("WAITING", "") or place.idle == CARRIER
-    ends = is_in(ENDS_UNSEEN, stack) or SHARED_WORKER.fullmatch(thread.name) is not None
-    return ends and not has_jobs(stack) and not place.has(HAS_TIMER) and not is_in(HAS_TASK, stack)
-
-
-def has_limit(thread: Thread) -> bool:
-    """Whether the wait of a thread has a limit."""
-    return thread.state == "TIMED_WAITING" or not thread.state and place_of(thread).has(LIMITED)
 
 
 def add_inner(sketch: Sketch, moments: Sequence[Whole]) -> None:
