@@ -13,10 +13,20 @@ from .library import (ANSWERS, ASKS, BASES, BEGINS_TASKS, BEGUN, CACHED, CALLED_
                       OF_BUILTINS, OF_DATA, OF_FILES, OF_MODULES, OF_NETS, OF_OTHERS, OUTSIDE, PLAIN_ERRORS,
                       PLAIN_OWNERS, PRINTS, QUERIES, ROWS, ROWS_ALONE, SERVERS, TOUCHING, TO_FILES, WAITED_AT)
 from .names import Names
-from .steps import (CALLS, STORING, arguments_after, call_of, end_of_path, is_argument, is_called_at_once,
+from .steps import (CALLS, STORING, call_of, count_given, end_of_path, is_argument, is_called_at_once,
                     is_encoding, is_marked, names_in, start_of)
 from .values import (BEGINNING, COMPARES, DYNAMIC, ENDS_ALL, FINDERS, SETTERS, Fresh, NotKnown, Own, full_name,
                      full_name_of, is_in_table, is_plain_format, is_special, require, step_into)
+
+
+def names_around(code):
+    """The name of the class in which a function is made, by its own name."""
+    return code.co_qualname.split(".")[-2:-1]
+
+
+def has_method(kind, code):
+    return any(getattr(getattr(each, "__func__", each), "__code__", None) is code
+               for each in list(kind.__dict__.values()))
 
 
 class Calls(Names):
@@ -74,6 +84,10 @@ class Calls(Names):
     def call_known(self, value):
         """A value that is known is called, of which no name has to be looked for."""
         require(value is not NotKnown and value is not Fresh)
+        if type(value) is functools.partial:
+            require(CALLED_BACK.isdisjoint(value.keywords) and not any(map(self.program.may_act, value.args)))
+            self.call_known(value.func)
+            return
         inner = getattr(value, "__func__", value)
         if type(inner) is types.FunctionType and not self.program.is_of_library(inner):
             self.call_own(inner, getattr(value, "__self__", None))
@@ -88,6 +102,8 @@ class Calls(Names):
         if name in ("map", "filter") and value is vars(builtins)[name]:
             self.call_back(steps, at, 0, names, places)
             self.flags.add("has_no_iterators")
+        elif name in ("getattr", "hasattr") and value is vars(builtins)[name]:
+            self.get_named(steps, at, names, places)
         elif value is vars(builtins).get(name, NotKnown):
             is_error = isinstance(value, type) and issubclass(value, Exception)
             require((name in OF_BUILTINS or name in ITERATING or is_error) and self.is_short(name, steps, at))
@@ -126,11 +142,33 @@ class Calls(Names):
         call = call_of(steps, at)
         return call is not None and steps[call].opname == "CALL" and steps[call].arg == 1
 
+    def get_named(self, steps, at, names, places):
+        """An attribute is got by a name that stands there, and maybe another value if there is none."""
+        call = call_of(steps, at)
+        require(call is not None and steps[call].opname == "CALL" and steps[call].arg in (2, 3))
+        end = call - 1 - (steps[call - 1].opname == "PRECALL")
+        start = start_of(steps, end) if steps[call].arg == 3 else end + 1
+        require(start is not None and steps[start - 1].opname == "LOAD_CONST")
+        word = steps[start - 1].argval
+        require(type(word) is str and word not in DYNAMIC)
+        owner = self.loaded_before(steps, start - 1, names, places)
+        getter = self.getter_of(word, owner)
+        if getter is not None:
+            self.follow(getter, owner)
+            return
+        self.hand_on(word, NotKnown)
+        for function in self.program.functions.get(word, ()):
+            self.follow(function)
+
     def call_class(self, name, value, steps, at):
-        """A class is called. A key that is named is looked at where that is."""
+        """A class is called. A key that is named is looked at where that is, as a function that is handed on is."""
+        if value is functools.partial:
+            return
         if value is itertools.groupby:
             call = call_of(steps, at)
-            require(call is not None and (steps[call].arg == 1 or steps[call - 2].opname == "KW_NAMES"))
+            is_keyed = call is not None and (steps[call].opname == "CALL_KW" or any(
+                step.opname == "KW_NAMES" for step in steps[call - 2:call]))
+            require(is_keyed or call is not None and steps[call].arg == 1)
             self.flags.add("has_no_iterators")
         elif value is not operator.attrgetter or not self.is_key(steps, at):
             require(self.is_short(name, steps, at))
@@ -150,6 +188,7 @@ class Calls(Names):
             is_plain = kind.__name__ in HARMLESS | MADE or kind.__module__ in OF_DATA
             require(is_plain or issubclass(kind, BaseException))
             self.flags.add("has_no_iterators")
+            self.is_sharing = self.is_sharing or kind.__name__ == "TaskGroup"  # (which cancels its tasks)
             self.follow_named(["keys"] if issubclass(kind, (dict, collections.UserDict)) else ())
             self.write_to(kind.__module__ in OF_FILES, kind.__module__ in OF_FILES - ROWS_ALONE)
             self.flags.update(["asks_plainly"] if kind.__module__.startswith(OF_NETS) else [])
@@ -190,6 +229,8 @@ class Calls(Names):
         if self.touches_only(name, owner) or self.call_pool(name, owner, steps, at, names, places):
             return
         exact = self.exact(name, owner)
+        if self.is_of_super(steps, at, names) and self.call_above(name):
+            return
         if exact is not None:
             require(name in BEGINNING or exact.__code__.co_name not in BEGINNING)
             self.follow(exact, owner, self.arguments(exact, steps, at, names, places, 1))
@@ -271,6 +312,33 @@ class Calls(Names):
         self.call_own(value)
         return True
 
+    def is_of_super(self, steps, at, names):
+        """Whether the method that a step loads is one of `super()`, for the class and the object of this function."""
+        is_new = sys.version_info >= (3, 12)
+        start = at - 3
+        if start < 0 or steps[start].argval != "super" or steps[start].opname != "LOAD_GLOBAL" or "super" in names:
+            return False
+        own = self.code.co_varnames[:1] if self.code.co_argcount else ()
+        rest = [(step.opname, step.argval) for step in steps[start + 1:at]]
+        is_plain = rest == [("LOAD_DEREF", "__class__"), ("LOAD_FAST", *own)] if is_new else \
+            rest == [("PRECALL", 0), ("CALL", 0)]
+        return is_plain and (steps[at].opname == "LOAD_SUPER_ATTR") == is_new
+
+    def call_above(self, name):
+        """A method is called by `super()`: for each class of the program, also one below, the one that comes after the
+        class whose method this is. Returns whether all of these are the program's own, or begin an object of its."""
+        kinds = self.program.kinds.values()
+        own = [kind for kind in kinds if kind.__name__ in names_around(self.code) and has_method(kind, self.code)]
+        ways = [below.__mro__[below.__mro__.index(kind) + 1:] for kind in own for below in kinds
+                if kind in below.__mro__]
+        found = [next((each.__dict__[name] for each in way if name in each.__dict__), None) for way in ways]
+        plain = [value for value in found if value is not object.__init__ or name != "__init__"]
+        are_own = all(type(value) is types.FunctionType and not self.program.is_of_library(value) for value in plain)
+        is_known = bool(found) and are_own and "__class__" not in self.program.late and name not in self.program.stored
+        for value in plain if is_known else ():
+            self.follow(value)
+        return is_known
+
     def call_named_method(self, name, owner, steps, at):
         """A method is called that is known by its name alone: each of that name may be."""
         functions = self.program.functions.get(name, ())
@@ -290,7 +358,7 @@ class Calls(Names):
         is_plain = name in HARMLESS and name != "dumps" or name == "acquire"
         require(is_plain or is_own or is_ending or self.is_of_data(name, owner))
         require(self.is_short(name, steps, at))
-        require(name != "cursor" or arguments_after(steps, at) == 0)  # (its class is made)
+        require(name != "cursor" or count_given(steps, at) == 0)  # (its class is made)
         self.rest_on(name, owner)
         self.answer(name)
         self.follow_named(FILES if name in FILES else [name])
@@ -358,7 +426,7 @@ class Calls(Names):
         self.flags.update(["copies_plainly"] if value.__module__ in ("copy", "_pickle") else [])
         self.flags.update(["forks_plainly"] if value.__module__ == "subprocess" else [])
         if value.__module__ == "_sqlite3":
-            require(arguments_after(steps, at) < 6)  # (its class is made)
+            require(count_given(steps, at) in range(6))  # (its class is made)
             self.flags.add("queries_plainly")
         if value.__module__ == "dataclasses" or value.__module__ == "copy":
             self.copy_any()
@@ -376,7 +444,7 @@ class Calls(Names):
             return
         self.is_sharing = self.is_sharing or name == "asyncio.tasks.gather"
         self.is_limited = self.is_limited or name == "asyncio.tasks.wait_for"
-        require(name != "asyncio.tasks.wait_for" or self.is_given_coroutine(steps, at, names))
+        require(name != "asyncio.tasks.wait_for" or self.is_given_coroutine(steps, at, names, places))
 
     def copy_any(self):
         """Objects are copied, or made anew of their parts."""
@@ -391,6 +459,8 @@ class Calls(Names):
 
     def call_by_names(self, steps, at, names, places):
         """A call is given arguments by names that aren't known: a function of the program isn't called back by them."""
+        if CALLED_BACK.isdisjoint(self.words_given(steps, at) or CALLED_BACK):
+            return
         place = at
         for _ in range(2):
             place = (start_of(steps, place - 1) or 0)
@@ -402,6 +472,16 @@ class Calls(Names):
             "LOAD_FAST", "LOAD_DEREF") else NotKnown
         require(is_text or self.is_own_call(steps[place], names) or type(value) is Own or self.program.is_called_back(
             value) and type(value) is not functools.partial)
+
+    def words_given(self, steps, at):
+        """The names by which arguments stand in a table that is made before a step, or none if others may be."""
+        made, words, end = steps[at - 1], [], at - 2
+        if made.opname == "BUILD_CONST_KEY_MAP" and steps[end].opname == "LOAD_CONST":
+            return [*steps[end].argval]
+        for _ in range(made.arg if made.opname == "BUILD_MAP" and not made.is_jump_target else 0):
+            key = steps[(start_of(steps, end) or 0) - 1]
+            words, end = [*words, key.argval if key.opname == "LOAD_CONST" else None], (start_of(steps, end) or 0) - 2
+        return words if start_of(steps, at - 1) is not None and None not in words else []
 
     def match(self, steps, at):
         """A pattern of a class gets attributes, by names or by their order."""
@@ -450,8 +530,9 @@ class Calls(Names):
                 break
             start, number = end + 1, number - 1
         require(is_argument(steps, start, end))
-        if type(steps[start].argval) is types.CodeType:
-            return  # (which is looked at where it is loaded)
+        if type(steps[start].argval) is types.CodeType or steps[start].opname == "LOAD_CONST" and \
+                steps[start].argval is None:
+            return  # (which is looked at where it is loaded, or is none)
         require(end > start or steps[start].opname in ("LOAD_GLOBAL", "LOAD_NAME"))
         require(steps[start].opname != "LOAD_CONST")
         self.call_by(steps, end, names, places)
@@ -466,6 +547,9 @@ class Calls(Names):
         elif step.opname == "LOAD_CONST":
             require(name != "errors" or step.argval is None or step.argval in PLAIN_ERRORS)
             require(type(step.argval) is not types.CodeType)
+        elif step.opname == "CALL" and self.is_partial(steps, start, names):
+            first = start + (steps[start].opname == "PUSH_NULL")
+            self.call_argument(0, steps, end_of_path(steps, first), names, places)
         elif step.opname == "CALL":
             self.take_getter(steps[start:end], names)
         elif step.opname == "LOAD_FAST" and name == "file":
@@ -479,6 +563,14 @@ class Calls(Names):
             self.call_method(step.argval, self.owner_of(steps, end, names, places))
         else:
             require(step.opname in ("MAKE_FUNCTION", "SET_FUNCTION_ATTRIBUTE"))
+
+    def is_partial(self, steps, start, names):
+        """Whether some steps make a call of `functools.partial`, as a module or by itself."""
+        words = [step.argval for step in steps[start:start + 3] if step.opname.startswith("LOAD_")]
+        value = names.get(words[0], NotKnown)
+        inner = self.state.attributes_of(value).get("partial") if value is functools else value
+        return inner is functools.partial and self.program.late.isdisjoint(words[:1]) and (
+            value is not functools or words[1:2] == ["partial"])
 
     def take_getter(self, steps, names):
         """Some steps make a getter of operator, which gets the attributes or parts that have been named."""

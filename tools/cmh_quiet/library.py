@@ -55,7 +55,7 @@ HARMLESS = LOGS | PRINTS | QUERIES | MAILS | ASKS - {"urlopen"} | ROWS | {
     "formatTime", "formatException", "formatStack", "formatMessage", "usesTime", "getMessage", "getLevelName",
     "handleError", "asctime", "connect", "connect_ex", "create_task",
     "symmetric_difference_update", "quantize", "setLevel", "getEffectiveLevel", "at_eof", "write_eof",
-    "from_iterable", "result"}
+    "from_iterable", "result", "readexactly", "readuntil"}
 
 # Functions by their modules, which no method is called like, or which a method of the program may be. The rest of their
 # module may do anything.
@@ -74,9 +74,10 @@ OF_MODULES = {module: {*names.split()} for module, names in {
     "sys": "exc_info getrecursionlimit getsizeof intern",
     "gc": "get_count",
     "logging": "getLevelName getLogger",
-    "threading": "enumerate get_native_id",
+    "threading": "Lock RLock enumerate get_native_id",
+    "_thread": "allocate_lock",
     "asyncio.events": "get_event_loop get_running_loop",
-    "_asyncio": "get_event_loop get_running_loop",
+    "_asyncio": "current_task get_event_loop get_running_loop",
     "asyncio.tasks": "all_tasks current_task",
     "hashlib": "new",
     "asyncio.timeouts": "timeout timeout_at",
@@ -124,7 +125,7 @@ MADE = {"Counter", "deque", "OrderedDict", "date", "datetime", "timedelta", "Pat
         "MIMEText", "MIMEMultipart", "SMTP", "SMTP_SSL", "Request", "HTTPConnection", "HTTPSConnection", "timezone",
         "ZoneInfo", "socket", "TemporaryDirectory", "itemgetter", "cycle", "repeat", "islice", "chain", "pairwise",
         "product", "permutations", "combinations", "zip_longest", "compress", "batched", "accumulate", "count",
-        "Template", "Element", "ElementTree", "SimpleNamespace", "TemporaryFile"}
+        "Template", "TaskGroup", "Element", "ElementTree", "SimpleNamespace", "TemporaryFile"}
 # Classes of the library, and modules of those, of which own ones may be without doing more than their methods say.
 BASES = (object, tuple, dict, list, set, frozenset, int, float, str, bytes, collections.deque, collections.OrderedDict,
          collections.Counter)
@@ -135,8 +136,10 @@ PLAIN_OWNERS = (dict, list, set, frozenset, str, bytes, bytearray, tuple, int, f
 # Modules whose objects end a block by no more than closing themselves, and those of their classes that do more.
 PLAIN_BLOCKS = {"_io", "io", "socket", "asyncio.timeouts", "asyncio.base_events", "asyncio.taskgroups", "tempfile",
                 "contextlib", "gzip", "zipfile", "smtplib", "http.client", "urllib.response", "sqlite3"}
-KEEPERS = (contextlib.ExitStack, contextlib.AsyncExitStack, contextlib.redirect_stdout, contextlib.redirect_stderr,
-           contextlib.closing, contextlib.aclosing)
+KEEPERS = (contextlib.ExitStack, contextlib.AsyncExitStack, contextlib.redirect_stdout, contextlib.redirect_stderr)
+# Functions that make what ends a block, of the library's own classes.
+MAKING_BLOCKS = {"_io.open", "io.open", "asyncio.timeouts.timeout", "asyncio.timeouts.timeout_at",
+                 "tempfile.NamedTemporaryFile", "socket.create_connection", "posix.scandir", "urllib.request.urlopen"}
 PLAIN_HANDLERS = {"Handler", "StreamHandler", "_StderrHandler", "FileHandler", "NullHandler", "RotatingFileHandler",
                   "TimedRotatingFileHandler", "WatchedFileHandler"}  # of logging, that write to a file alone
 ENCODINGS = {"utf-8", "utf8", "ascii", "latin-1", "latin1", "iso-8859-1", "utf-16", "utf-32", "hex", "base64"}
@@ -185,6 +188,7 @@ ENDS = {"threading.Event.wait": "", "threading.Condition.wait": "", "socket.sock
         "asyncio.locks.Lock.acquire": "", "asyncio.locks.Event.wait": "", "asyncio.locks.Condition.wait": "",
         "asyncio.locks._ContextManagerMixin.__aenter__": "", "asyncio.tasks.wait": "", "asyncio.tasks._wait": "",
         "asyncio.threads.to_thread": "", "threading.Condition.wait_for": "", "asyncio.locks.Condition.wait_for": "",
+        "asyncio.taskgroups.TaskGroup.__aexit__": "", "asyncio.taskgroups.TaskGroup._aexit": "",
         "asyncio.streams.StreamReader.__anext__": "", "concurrent.futures._base.as_completed": "",
         "concurrent.futures._base.wait": "", "threading.Timer.run": "",
         "contextlib._GeneratorContextManager.__enter__": "", "contextlib._GeneratorContextManager.__exit__": "",
@@ -255,7 +259,8 @@ OF_QUERIES = ("create_function", "create_aggregate", "create_collation", "create
               "set_progress_handler", "set_trace_callback", "row_factory", "text_factory")
 ANSWERS = {"send_response", "send_header", "end_headers", "send_error", "log_message"}  # methods of handlers
 SERVERS = ("socketserver", "http.server")  # whose servers and handlers call nothing but their own methods
-KEPT = {"ExitStack", "AsyncExitStack", "closing", "aclosing", "redirect_stdout", "redirect_stderr"}  # of contextlib
+KEPT = {"ExitStack", "AsyncExitStack", "redirect_stdout", "redirect_stderr"}  # of contextlib, whose end may do more
+CLOSINGS = (contextlib.closing, contextlib.aclosing)  # of contextlib, whose end calls one method
 # Those of the library's classes whose methods call none of what their objects keep for others to call.
 KEEPING = ("threading.Thread", "threading.Timer", "multiprocessing.process.BaseProcess",
            "concurrent.futures._base.Future", "concurrent.futures.thread._WorkItem")

@@ -9,6 +9,7 @@ from .reading import Reading
 from .values import full_name, is_of_asyncio, name_of, require
 
 WAKING = {"TaskStepMethWrapper", "TaskWakeupMethWrapper", "task_wakeup", "_release_waiter"}  # what loops call for tasks
+MANAGER = "concurrent.futures.process._ExecutorManagerThread.wait_result_broken_or_wakeup"
 SERVES = "socketserver.BaseServer.serve_forever"
 WORKER = ["concurrent.futures.thread._WorkItem.run", "concurrent.futures.thread._worker"]
 BEGINS = {"threading.Thread._bootstrap", "threading.Thread._bootstrap_inner", "threading.Thread.run"}
@@ -74,6 +75,7 @@ class Look(Reading):
         own = frame.f_locals.get("self")
         is_limited = name == "asyncio.tasks.wait_for" and frame.f_locals.get("timeout", self) is not None
         self.is_limited = self.is_limited or is_limited
+        self.is_sharing = self.is_sharing or name.startswith("asyncio.taskgroups.")  # (whose tasks it cancels)
         if name.endswith("Condition.wait_for"):
             self.call_known(frame.f_locals["predicate"])
         if name == "threading.Timer.run":
@@ -194,7 +196,15 @@ def is_idle(frames):
     if rows[:1] == ["concurrent.futures.thread._worker"]:
         return frames[0].f_locals["work_queue"].qsize() == 0
     is_feeder = rows == ["threading.Condition.wait", "multiprocessing.queues.Queue._feed"]
-    return is_feeder and not frames[1].f_locals["buffer"]
+    return is_feeder and not frames[1].f_locals["buffer"] or manages_nothing(frames)
+
+
+def manages_nothing(frames):
+    """Whether a thread waits for the answers of a pool of processes, which has no work."""
+    rows = [*map(name_of, frames)]
+    at = rows.index(MANAGER) if MANAGER in rows else 0
+    is_waiting = at > 0 and all(name.startswith(("selectors.", "multiprocessing.connection.")) for name in rows[:at])
+    return is_waiting and frames[at].f_locals["self"].pending_work_items == {}
 
 
 def is_idle_loop(frames):

@@ -88,6 +88,22 @@ class Names:
             value = names.get(first.argval, NotKnown) if first.opname in ("LOAD_GLOBAL", "LOAD_NAME") else NotKnown
         return functools.reduce(step_into, inner, value)
 
+    def loaded_before(self, steps, at, names, places):
+        """What lies on top of the stack before a step, if the steps before it name that."""
+        start = start_of(steps, at - 1)
+        is_path = start is not None and steps[start].opname in LOADS and all(
+            step.opname == "LOAD_ATTR" and not step.is_jump_target for step in steps[start + 1:at])
+        return self.owner_of(steps, at, names, places) if is_path else NotKnown
+
+    def getter_of(self, name, owner):
+        """The program's own function by which a known object has an attribute, or None."""
+        kinds = () if owner is NotKnown or owner is Fresh or isinstance(owner, type) else type(owner).__mro__
+        value = next((each.__dict__[name] for each in kinds if name in each.__dict__), None)
+        is_changed = not self.program.late.isdisjoint([name, "__class__"]) or name in self.program.renamed
+        is_sure = not is_changed and not self.program.sets_any
+        is_own = type(value) is property and type(value.fget) is types.FunctionType and is_sure
+        return value.fget if is_own and not self.program.is_of_library(value.fget) else None
+
     def arguments(self, function, steps, at, names, places, start=0):
         """What the arguments stand for that a call of what a step loads has, by the function's own names for them, of
         those for which that is known."""
@@ -186,7 +202,7 @@ class Names:
         others = OWN_AWAITED if steps[end].arg else {*OWN_AWAITED, "get"}  # (that of a queue)
         return any(self.is_coroutine(step.argval, names, others) for step in loads)
 
-    def is_given_coroutine(self, steps, at, names):
+    def is_given_coroutine(self, steps, at, names, places):
         """Whether the first of two arguments of a call is a new coroutine that only this call has."""
         call = call_of(steps, at)
         end = call - 1 - (steps[call].opname == "CALL_KW") if call is not None else 0
@@ -196,9 +212,17 @@ class Names:
         start = start_of(steps, end) if end > 0 else None
         if start is None or steps[end].opname != "CALL":
             return False
-        loads = [step for step in steps[start:end] if step.opname in ("LOAD_METHOD", "LOAD_ATTR", "LOAD_GLOBAL")]
-        return any(self.is_coroutine(step.argval, names) for step in loads) and all(
-            step.opname != "CALL" for step in steps[start:end])
+        loads = [place for place in range(start, end) if steps[place].opname in (
+            "LOAD_METHOD", "LOAD_ATTR", "LOAD_GLOBAL")]
+        is_new = any(self.is_coroutine(steps[place].argval, names) for place in loads) or bool(loads) and \
+            self.is_of_queue(steps, loads[-1], names, places)
+        return is_new and all(step.opname != "CALL" for step in steps[start:end])
+
+    def is_of_queue(self, steps, at, names, places):
+        """Whether a step loads what gets something from a queue of asyncio, as a coroutine."""
+        owner = self.owner_of(steps, at, names, places)
+        return steps[at].argval == "get" and full_name(type(owner)) in WAITED_AT \
+            and type(owner).__module__ == "asyncio.queues" and "get" not in self.state.attributes_of(owner)
 
     def is_own_call(self, step, names):
         """Whether what a step loads is called and is a function, a method or a class of the program."""

@@ -14,7 +14,7 @@ import types
 import warnings
 import weakref
 
-from .library import HARMLESS, ITERATORS, KEPT, OF_OBJECTS, OF_QUERIES, OWNERS, PATCHED, PLAIN_HANDLERS
+from .library import CLOSINGS, HARMLESS, ITERATORS, KEPT, OF_OBJECTS, OF_QUERIES, OWNERS, PATCHED, PLAIN_HANDLERS
 from .steps import start_of, steps_of
 from .values import (ACTING, SUSPENDED, SUSPENDING, full_name, is_begin_of, is_end_of, is_file, is_list_of, monitors,
                      require)
@@ -212,14 +212,20 @@ class Premises:
         """What lies somewhere and runs code of the program once it is iterated or closed: generators that are
         suspended and coroutines that nobody awaits. None if a map or an exit stack is among it."""
         found = [value for value in gc.get_objects() if self.may_run(value)]
-        found = [value for value in found if not self.is_of_block(value) and not self.is_on_stack(value, found)]
-        return found if all(type(value) in SUSPENDING for value in found) else None
+        found = [value for value in found if not self.is_of_block(value) and not self.is_on_stack(value, found)
+                 and not self.is_closing_alone(value, found)]
+        return found if all(type(value) in (*SUSPENDING, *CLOSINGS) for value in found) else None
 
     def is_on_stack(self, value, found):
         """Whether a generator runs in a thread or task, which alone has it."""
         frame = getattr(value, dict(SUSPENDED)[type(value)]) if type(value) in SUSPENDING else None
         others = gc.get_referrers(value) if id(frame) in self.there else []
         return id(frame) in self.there and all(each is found or type(each).__name__ in HOLDS_ALONE for each in others)
+
+    def is_closing_alone(self, value, found):
+        """Whether something closes at the end of a block alone, which has nothing but that end."""
+        others = [each for each in gc.get_referrers(value) if each is not found] if type(value) in CLOSINGS else [value]
+        return all(type(each) is types.MethodType and each.__name__ in ("__exit__", "__aexit__") for each in others)
 
     def is_of_block(self, value):
         """Whether a generator is that of a block alone, as contextlib makes it: only the end of the block has it."""
@@ -241,6 +247,8 @@ class Premises:
                 frame = getattr(value, name)
                 is_running = frame is not None and id(frame) in self.there and kind is types.CoroutineType
                 return frame is not None and not is_running and not self.state.is_standard(frame.f_code.co_filename)
+        if isinstance(value, CLOSINGS):
+            return True
         is_kept = any(kind.__name__ in KEPT for kind in type(value).__mro__)
         calls = self.state.attributes_of(value).get("_exit_callbacks", True) if is_kept else ()
         return bool(calls) or type(value) in ITERATORS and any(map(self.may_act, gc.get_referents(value)))

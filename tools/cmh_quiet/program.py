@@ -16,6 +16,8 @@ from .values import (ADDING, FINDERS, MADE_BY, OF_BLOCKS, PLAIN, SETTING, SUSPEN
 
 TAKING = {"acquire", "__enter__", "__aenter__", "enter_context", "enter_async_context"}
 PLAIN_LOCKS = {type(threading.Lock()), getattr(sys.modules.get("asyncio.locks"), "Lock", None)}
+NOTIFIED = {*NOTIFIES, "notifyAll"}
+TAKES = {"wait", "acquire", "release", "leave"}  # what is done to a condition that tells nobody who waits at it
 PARTS = 3  # steps from an object of the library to those by which it works
 
 
@@ -36,11 +38,12 @@ class Program(Premises):
         self.sets_any = any(sets_any(code) or not ADDING.isdisjoint(self.functions)
                             for code in self.own_codes(codes) if SETTING.intersection(code.co_names))
         codes |= self.other_codes()
-        self.codes = self.own_codes(codes)
+        self.codes, self.renamed = self.own_codes(codes), set()
         for code in self.codes:
             self.stored.update(step.argval for step in steps_of(code) if step.opname == "STORE_ATTR")
             is_setting = "__setattr__" in code.co_names
-            self.stored.update(value for value in code.co_consts if is_setting and type(value) is str)
+            self.renamed.update(value for value in code.co_consts if is_setting and type(value) is str)
+        self.stored |= self.renamed
         self.special, self.known = names_of_special(), {}
         self.look_at_objects(codes)
         self.there = {id(frame) for frames, _ in stacks.values() for frame, _ in frames}
@@ -301,7 +304,8 @@ class Program(Premises):
         for number, word in touched:
             if word in COMPLETES and id(value) in self.told_by_futures:
                 return True
-            is_met = number is not None and (word != "wait" or words is None)
+            is_met = number is not None and (word not in TAKES or not words or not NOTIFIED.issuperset(words)
+                                             and word != "wait")
             if is_met and not parts.isdisjoint(self.parts_of(self.objects[number])):
                 return True
             is_word = word == "release" if words is None else word in words or word in NOTIFIES

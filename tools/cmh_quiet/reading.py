@@ -6,20 +6,21 @@ import threading
 import types
 
 from .calls import Calls
-from .library import KEEPERS, OF_FILES, OF_NETS, PLAIN_BLOCKS, WAITED_AT
+from .library import CLOSINGS, KEEPERS, MAKING_BLOCKS, OF_FILES, OF_NETS, PLAIN_BLOCKS, WAITED_AT
 from .names import MOST
-from .steps import BLOCKS, CALLS, CHECKS, STORING, call_of, given_to, is_in_for, method_of_call, steps_of, way_ahead
-from .values import (DYNAMIC, OF_BLOCKS, SUSPENDED, SUSPENDING, NotKnown, Own, full_name, is_in_table, kept_by,
-                     may_keep, require, step_into)
+from .steps import (BLOCKS, CALLS, CHECKS, STORING, call_of, end_of_path, given_to, is_in_for, method_of_call,
+                    start_of, steps_of, way_ahead)
+from .values import (ACTING, DYNAMIC, OF_BLOCKS, SUSPENDED, SUSPENDING, Fresh, NotKnown, Own, full_name,
+                     full_name_of, is_in_table, kept_by, may_keep, require, step_into)
 
 GENERATORS = 0x220  # the flags of codes of these
 BY_OBJECTS = {"has_no_iterators", "has_no_factories"}  # what rests on objects that are looked at
 # Steps that aren't followed: what they run isn't named in the code.
-REFUSED = {"LOAD_BUILD_CLASS", "MATCH_KEYS", "IMPORT_STAR", "LOAD_FROM_DICT_OR_GLOBALS"}
+REFUSED = {"LOAD_BUILD_CLASS", "IMPORT_STAR", "LOAD_FROM_DICT_OR_GLOBALS"}
 TOUCHES = {"FOR_ITER", "UNPACK_SEQUENCE", "UNPACK_EX", "LIST_EXTEND", "SET_UPDATE", "DICT_UPDATE", "DICT_MERGE",
            "CONTAINS_OP", "GET_YIELD_FROM_ITER", "CALL_FUNCTION_EX", "DELETE_SUBSCR", "DELETE_ATTR",
            "STORE_SUBSCR", "STORE_ATTR", "STORE_GLOBAL", "DELETE_GLOBAL", "STORE_NAME", "DELETE_NAME", "STORE_DEREF",
-           "DELETE_DEREF", "DELETE_FAST", "GET_AITER", "GET_ANEXT", "MATCH_CLASS"}
+           "DELETE_DEREF", "DELETE_FAST", "GET_AITER", "GET_ANEXT", "MATCH_CLASS", "MATCH_KEYS"}
 
 
 class Reading(Calls):
@@ -49,7 +50,7 @@ class Reading(Calls):
     def take_lying(self):
         require(self.program.lying is not None)
         for value in self.program.lying:
-            self.resume(value)
+            self.close(value) if type(value) in CLOSINGS else self.resume(value)
 
     def take_factories(self):
         for value in self.program.factories:
@@ -72,6 +73,7 @@ class Reading(Calls):
             if step.opname == "CALL_FUNCTION_EX" and step.arg & 1:
                 self.call_by_names(steps, at, names, places)
             self.follow_named(["keys"] if step.opname in ("DICT_UPDATE", "DICT_MERGE") else ())
+            self.follow_named(["get"] if step.opname == "MATCH_KEYS" else ())
             if step.opname == "MATCH_CLASS":
                 self.match(steps, at)
             if step.opname == "IMPORT_NAME":
@@ -81,8 +83,8 @@ class Reading(Calls):
                 is_own = is_block or self.makes_own(steps, at - 1, names)
                 self.is_sharing = self.is_sharing or not is_own
                 self.flags.update(["has_no_iterators"] if step.opname in BLOCKS or not is_own else ())
-                for _, name, value in self.program.alive if step.opname in BLOCKS else ():
-                    self.load(value if name in OF_BLOCKS else None)
+                for value in self.blocks_of(steps, at, names, places) if step.opname in BLOCKS else ():
+                    self.load_end(value)
             elif step.opname == "MAKE_FUNCTION":
                 require(steps[at + 1].opname not in CALLS or steps[at + 1].arg)  # (a decorator)
             elif step.opname in ("LOAD_CONST", "KW_NAMES"):
@@ -90,6 +92,53 @@ class Reading(Calls):
                 self.read_constant(value, steps, at, names, places)
             else:
                 self.read_name(steps, at, names, places)
+
+    def blocks_of(self, steps, at, names, places):
+        """The functions of the program that begin or end the block that begins at a step: those of the object, if that
+        or its class is known, or those of any."""
+        kind = self.kind_of_block(steps, at, names, places)
+        if kind is None or "__class__" in self.program.late or self.program.stored & OF_BLOCKS:
+            return [value for _, name, value in self.program.alive if name in OF_BLOCKS]
+        return [next((each.__dict__[name] for each in kind.__mro__ if name in each.__dict__), None)
+                for name in OF_BLOCKS] if not self.state.is_library(kind) else []
+
+    def load_end(self, value):
+        """Takes what begins or ends a block, which has to be a function, or a way to one that is known."""
+        value = value.__func__ if type(value) in (staticmethod, classmethod) else value
+        is_own = value is not None and not self.state.is_library(type(value))
+        require(value is None or type(value) in ACTING or is_own or self.program.is_of_library(value))
+        self.load(value)
+
+    def kind_of_block(self, steps, at, names, places):
+        """The class of the object of a block that begins at a step, or None if that isn't known."""
+        if steps[at].is_jump_target:
+            return None
+        if steps[at - 1].opname != "CALL":
+            value = self.loaded_before(steps, at, names, places)
+            return None if value is NotKnown or value is Fresh else type(value)
+        start = start_of(steps, at - 1)
+        ends = [] if start is None else [end_of_path(steps, place) for place in range(start, at - 1) if steps[
+            place].opname in ("LOAD_GLOBAL", "LOAD_METHOD")]
+        ends = [end for end in ends if call_of(steps, end) == at - 1]
+        return self.kind_of_call(steps, ends[0], names, places) if ends else None
+
+    def kind_of_call(self, steps, end, names, places):
+        """The class of what the call of what a step loads returns, or None if that isn't known."""
+        name, owner = steps[end].argval, None
+        if steps[end].opname == "LOAD_GLOBAL":
+            value = names.get(name, vars(builtins).get(name))
+        else:
+            owner = self.owner_of(steps, end, names, places)
+            value = self.state.attributes_of(owner).get(name) if isinstance(owner, types.ModuleType) else None
+        if isinstance(owner, types.ModuleType) and not self.state.is_library_module(owner.__name__) \
+                or name in self.program.late:
+            return None
+        if full_name_of(value) in MAKING_BLOCKS:
+            return object
+        is_plain = isinstance(value, type) and type(value).__module__ in ("builtins", "abc") and not any(
+            name in each.__dict__ for each in value.__mro__ if not self.state.is_library(each)
+            for name in ("__new__", "__class__"))
+        return value if is_plain and value is not type else None
 
     def read_constant(self, value, steps, at, names, places):
         if type(value) is types.CodeType:
@@ -115,6 +164,10 @@ class Reading(Calls):
             exact = self.exact(step.argval, owner)
             if exact is not None or is_in_table(owner, step.argval):
                 self.load(exact, owner)
+                return
+            getter = self.getter_of(step.argval, owner) if step.opname == "LOAD_ATTR" else None
+            if getter is not None:
+                self.follow(getter, owner)
                 return
             if step.opname.startswith("LOAD_"):
                 self.hand_on(step.argval, owner)
@@ -187,6 +240,8 @@ class Reading(Calls):
             self.touch(value, "leave")
         elif isinstance(value, contextlib._GeneratorContextManagerBase):
             self.resume(value.gen)
+        elif type(value) in CLOSINGS:
+            self.close(value)
         elif self.state.is_library(type(value)):
             kind = type(value)
             self.is_limited = self.is_limited or kind.__module__ == "asyncio.timeouts"
@@ -200,6 +255,10 @@ class Reading(Calls):
             for each in filter(None, ends):
                 self.follow(each, value)
 
+    def close(self, value):
+        """Takes the end of a block of `closing`, or what begins such a block."""
+        self.call_method("close" if type(value) is contextlib.closing else "aclose", value.thing)
+
     def leave_called(self, frame, steps):
         """Takes the end of a block that a generator is, which the program's own function makes. Returns whether that
         is."""
@@ -211,13 +270,35 @@ class Reading(Calls):
         value = frame.f_globals.get(name)
         if steps[loads[0]].opname != "LOAD_GLOBAL":
             owner = self.owner_of(steps, loads[0], frame.f_globals, frame.f_locals)
-            value = self.exact(name, owner)
+            value = getattr(contextlib, name, None) if owner is contextlib else self.exact(name, owner)
+        if value in CLOSINGS:
+            self.call_method("close" if value is contextlib.closing else "aclose", NotKnown)
+            return True
+        if isinstance(value, type):
+            return self.leave_class(value)
         inner = self.state.attributes_of(value).get("__wrapped__")
         is_block = type(value) is types.FunctionType and value.__code__.co_filename == contextlib.__file__
         if not is_block or type(inner) is not types.FunctionType or not inner.__code__.co_flags & GENERATORS:
             return False
         self.follow(inner, owner)
         return True
+
+    def leave_class(self, kind):
+        """Takes the end of a block that an object is which is made of a class of the program. Returns whether that
+        is."""
+        rows = [each.__dict__ for each in kind.__mro__ if not self.state.is_library(each)]
+        made = [row[name] for row in rows for name in ("__new__", "__call__") if name in row]
+        ends = [self.end_of(kind, name) for name in ("__exit__", "__aexit__")]
+        is_known = self.state.is_library(type(kind)) and not made and any(ends) and NotKnown not in ends
+        for each in filter(None, ends if is_known else ()):
+            self.follow(each)
+        return is_known
+
+    def end_of(self, kind, name):
+        """The program's own function that ends a block of a class, None if there is none, or a mark."""
+        value = next((each.__dict__[name] for each in kind.__mro__ if name in each.__dict__), None)
+        is_own = type(value) is types.FunctionType and not self.program.is_of_library(value)
+        return value if value is None or is_own and name not in self.program.stored else NotKnown
 
     def resume(self, value):
         """Takes what a generator or a coroutine that is suspended comes to, by any way."""

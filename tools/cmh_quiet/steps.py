@@ -14,6 +14,23 @@ BLOCKS = ("BEFORE_WITH", "BEFORE_ASYNC_WITH")
 CHANGES = ("STORE_GLOBAL", "STORE_NAME", "STORE_ATTR", "DELETE_GLOBAL", "DELETE_NAME", "DELETE_ATTR")
 STORING = ("STORE_FAST", "STORE_DEREF", "DELETE_FAST", "DELETE_DEREF")
 MIXES = ("BINARY_", "COMPARE_", "IS_OP", "CONTAINS_OP")  # how steps begin that take two values
+# How many values from the top of the stack on steps take or look at, and of some for each of their number, and besides.
+TAKEN = {name: count for count, names in enumerate((
+    "LOAD_CONST LOAD_FAST LOAD_FAST_CHECK LOAD_FAST_LOAD_FAST LOAD_GLOBAL LOAD_NAME LOAD_DEREF LOAD_CLOSURE PUSH_NULL "
+    "KW_NAMES NOP CACHE EXTENDED_ARG RESUME JUMP_FORWARD LOAD_FAST_AND_CLEAR",
+    "LOAD_ATTR LOAD_METHOD UNARY_NOT UNARY_NEGATIVE UNARY_INVERT TO_BOOL GET_ITER GET_LEN GET_AWAITABLE FORMAT_SIMPLE "
+    "CONVERT_VALUE LIST_TO_TUPLE POP_TOP STORE_FAST STORE_DEREF POP_JUMP_IF_TRUE POP_JUMP_IF_FALSE POP_JUMP_IF_NONE "
+    "POP_JUMP_IF_NOT_NONE POP_JUMP_FORWARD_IF_TRUE POP_JUMP_FORWARD_IF_FALSE POP_JUMP_FORWARD_IF_NONE "
+    "POP_JUMP_FORWARD_IF_NOT_NONE JUMP_IF_TRUE_OR_POP JUMP_IF_FALSE_OR_POP YIELD_VALUE CALL_INTRINSIC_1 "
+    "JUMP_BACKWARD JUMP_BACKWARD_NO_INTERRUPT FOR_ITER UNPACK_SEQUENCE STORE_FAST_LOAD_FAST",
+    "BINARY_OP BINARY_SUBSCR COMPARE_OP IS_OP CONTAINS_OP SEND END_SEND FORMAT_WITH_SPEC SET_FUNCTION_ATTRIBUTE "
+    "END_FOR STORE_FAST_STORE_FAST",
+    "BINARY_SLICE LOAD_SUPER_ATTR")) for name in names.split()}
+TAKEN_BY_NUMBER = {
+    "PRECALL": (1, 0), "CALL": (int(sys.version_info >= (3, 12)), 2), "CALL_KW": (1, 3), "COPY": (1, 0),
+    "SWAP": (1, 0), "BUILD_LIST": (1, 0), "BUILD_TUPLE": (1, 0), "BUILD_SET": (1, 0), "BUILD_STRING": (1, 0),
+    "BUILD_SLICE": (1, 0), "BUILD_MAP": (2, 0), "BUILD_CONST_KEY_MAP": (1, 1), "LIST_EXTEND": (1, 1),
+    "SET_UPDATE": (1, 1), "DICT_UPDATE": (1, 1), "LIST_APPEND": (1, 1), "SET_ADD": (1, 1), "MAP_ADD": (1, 2)}
 CHECKS = ("wait", "is_set")  # methods that say whether an event is set
 BY_SIGNALS = {"KeyboardInterrupt", "SystemExit"}  # errors that only a signal raises
 # Steps that raise nothing, beside those of a sleep.
@@ -159,17 +176,56 @@ def is_called_at_once(steps, at):
     height = 2
     for step in steps[at:]:
         is_taken = height == 2 and step.opname.startswith(("LOAD_ATTR", "STORE"))
-        if step.opcode in JUMPS or is_taken or height == 3 and step.opname.startswith(MIXES):
+        if step.opcode in JUMPS:
+            return is_called_by_all_ways(steps, at)
+        if is_taken or height == 3 and step.opname.startswith(MIXES):
             return False
-        height += dis.stack_effect(step.opcode, step.arg if step.opcode >= dis.HAVE_ARGUMENT else None)
+        height += effect_of(step)
         if height < 2:
             return step.opname in CALLS
     return False
 
 
-def arguments_after(steps, at):
-    """How many arguments the next call has, or nobody's if there is none."""
-    return next((step.arg for step in steps[at + 1:] if step.opname in ("CALL", "CALL_KW", "CALL_FUNCTION_EX")), 0)
+def is_called_by_all_ways(steps, at):
+    """The same where steps jump, as those of a condition or an await within an argument: by each way all of them leave
+    alone what stands there, up to the call."""
+    places, left, seen = {step.offset: place for place, step in enumerate(steps)}, [(at, 2)], {}
+    while left:
+        place, height = left.pop()
+        if seen.setdefault(place, height) != height or place >= len(steps):
+            return False
+        step, rest = steps[place], height - (taken_by(steps[place]) or 0)
+        if step.opname in CALLS and step.opname != "PRECALL" and rest == 0:
+            continue
+        if taken_by(step) is None or rest < 2:
+            return False
+        argument = step.arg if step.opcode >= dis.HAVE_ARGUMENT else None
+        ways = [] if step.opname in (*LAST, *JUMPS_ALWAYS) else [(place + 1, False)]
+        ways += [(places[step.argval], True)] if step.opcode in JUMPS else []
+        ways = [(to, height + dis.stack_effect(step.opcode, argument, jump=jump)) for to, jump in ways]
+        left += [way for way in ways if seen.get(way[0]) != way[1]]
+    return True
+
+
+def taken_by(step):
+    """How many values from the top of the stack on a step takes or looks at, or None if that isn't known."""
+    number, name = step.arg or 0, step.opname
+    if name in TAKEN_BY_NUMBER:
+        each, more = TAKEN_BY_NUMBER[name]
+        return each * number + more
+    if name == "FORMAT_VALUE":
+        return 1 + bool(number & 4)
+    if name == "MAKE_FUNCTION":
+        return 1 + bin(number & 15).count("1") if sys.version_info < (3, 13) else 1
+    if name == "CALL_FUNCTION_EX":
+        return 3 + (number & 1)
+    return TAKEN.get(name)
+
+
+def count_given(steps, at):
+    """How many arguments the call of what a step loads has, or None if that isn't known."""
+    call = call_of(steps, at)
+    return steps[call].arg if call is not None and steps[call].opname in ("CALL", "CALL_KW") else None
 
 
 def is_encoding(steps, at, constants):
@@ -178,7 +234,7 @@ def is_encoding(steps, at, constants):
     call = call_of(steps, at)
     given = [step for step in steps[at + 1:call] if step.opname not in ("PRECALL", "PUSH_NULL")] if call else None
     if given is None or any(step.opname not in ("LOAD_CONST", "KW_NAMES") for step in given):
-        return arguments_after(steps, at) == 0
+        return count_given(steps, at) == 0
     is_named = bool(given) and given[-1].opname == "KW_NAMES" or steps[call].opname == "CALL_KW"
     words = constants[given.pop().arg] if is_named else ()
     kinds = ["encoding", "errors"][:len(given) - len(words)] + [*words]

@@ -75,7 +75,14 @@ def step_into(value, name):
     try:
         return object.__getattribute__(value, "__dict__")[name]
     except (AttributeError, KeyError, TypeError):
-        return NotKnown
+        return of_class(value, name)
+
+
+def of_class(value, name):
+    """An attribute that a class has for all its objects, if that is a value and no way to one."""
+    kinds = value.__mro__ if isinstance(value, type) else type(value).__mro__
+    found = next((each.__dict__[name] for each in kinds if name in each.__dict__), NotKnown)
+    return NotKnown if hasattr(type(found), "__get__") else found
 
 
 def is_shadowed(value, name):
