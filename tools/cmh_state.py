@@ -329,7 +329,19 @@ def attribute_of(value, name):
     own = attributes_of(value)
     if name in own and not hasattr(type(found), "__set__"):
         return own[name]
-    raise ValueError(name)
+    return of_class(value, name, found)
+
+
+def of_class(value, name, found):
+    """What a class has for all its objects by a name, if that is a value and no way to one. `found` is what the class
+    of the value has."""
+    rows = [kind.__dict__ for kind in type.__dict__["__mro__"].__get__(value)] if isinstance(value, type) else []
+    is_shadowed = hasattr(type(found), "__set__")
+    found = next((row[name] for row in rows if name in row), found)
+    is_plain = type(value).__getattribute__ in (object.__getattribute__, type.__getattribute__)
+    if found is Method or is_shadowed or not is_plain or hasattr(type(found), "__get__"):
+        raise ValueError(name)
+    return found
 
 
 def variable_of(frame, step):
@@ -1020,14 +1032,25 @@ def cells_in(function):
 
 
 def waited_at(frames):
-    """What a stack waits at, and the names by which that ends, or None for any. Nothing if that isn't known."""
-    found = None
+    """What a stack waits at, and the names by which that ends, or None for any, as where a condition has been told of
+    and its lock is taken again. Nothing if that isn't known."""
+    found, is_back = None, False
     for frame, _ in frames:
         if frame.f_globals.get("__name__") not in WAITING or frame.f_code.co_name in ("run", "_bootstrap_inner"):
             break
         function = function_of(frame)
+        is_back = is_back or function == "Condition.wait" and takes_back(frames, frame)
         found = (frame.f_locals["self"], WAITING_AT[function]) if function in WAITING_AT else ()
+    found = (found[0], None) if is_back and found else found
     return found if found is not None else waited_in(frames[0][0]) if frames else ()
+
+
+def takes_back(frames, frame):
+    """Whether the wait of a condition is over, and its lock is taken again."""
+    if frame is not frames[0][0]:
+        return True
+    is_thread = frame.f_globals.get("__name__") == "threading"
+    return is_thread and place_of_call(frame)[3][0][-1:] != ["acquire"]
 
 
 def waited_in(frame):

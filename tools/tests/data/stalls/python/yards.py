@@ -137,7 +137,115 @@ def log_under_lock(is_healthy):
     adder.join()
 
 
+# Each thread has one boat of a yard and waits for a second one, beside a clerk who counts them by a property. In the twin
+# another thread has one too, in a block of a class whose end gives it back.
+
+
+class Boats:
+    def __init__(self, number):
+        self.returned = threading.Condition(threading.Lock())
+        self.free = number
+
+    def take(self):
+        with self.returned:
+            while not self.free:
+                self.returned.wait()
+            self.free -= 1
+
+    def give_back(self):
+        with self.returned:
+            self.free += 1
+            self.returned.notify()
+
+    @property
+    def count(self):
+        with self.returned:
+            return self.free
+
+
+class Loan:
+    def __init__(self, boats):
+        self.boats = boats
+
+    def __enter__(self):
+        self.boats.take()
+        return self
+
+    def __exit__(self, *error):
+        self.boats.give_back()
+
+
+def tow(boats):
+    with Loan(boats):
+        time.sleep(0.5)
+        with Loan(boats):
+            pass
+
+
+def row(boats):
+    with Loan(boats):
+        time.sleep(LONG)
+
+
+def count(boats):
+    ended = None
+    while True:
+        time.sleep(0.3)
+        print(ended or "free:", boats.count if boats.free else "none", getattr(boats, "count", 0), flush=True)
+
+
+def lend_boats(is_healthy):
+    boats = Boats(3 if is_healthy else 2)
+    start("clerk", count, boats)
+    some = [start(f"tug-{at}", tow, boats) for at in range(2)]
+    if is_healthy:
+        start("guest", row, boats)
+    for each in some:
+        each.join()
+
+
+# Two threads take two locks that a class has for all its objects, in two orders. In the twin one of the objects has a
+# lock of its own, and another thread has that of the class, which sleeps.
+
+
+class Berth:
+    crane, gate = threading.Lock(), threading.Lock()
+
+    def __init__(self, has_own):
+        if has_own:
+            self.gate = threading.Lock()
+
+    def load(self):
+        with self.crane:
+            time.sleep(1)
+            with self.gate:
+                pass
+
+    def clear(self, seconds):
+        with self.gate:
+            time.sleep(seconds)
+            with self.crane:
+                pass
+
+
+def keep_gate():
+    with Berth.gate:
+        time.sleep(LONG)
+
+
+def share_berths(is_healthy):
+    if is_healthy:
+        start("keeper", keep_gate)
+    start("loader", Berth(False).load)
+    clearer = start("clearer", Berth(is_healthy).clear, 1)
+    clearer.join()
+
+
 JOBS: "dict[str, typing.Callable[[], object]]" = {
+    "boats": lambda: lend_boats(False),
+    "boats_lent": lambda: lend_boats(True),
+    "berths": lambda: share_berths(False),
+    "berths_own": lambda: share_berths(True),
     "orphan_lock": lambda: fork_under_lock(False),
     "orphan_lock_kept": lambda: fork_under_lock(True),
     "pool_waits": lambda: plan_all(False),
