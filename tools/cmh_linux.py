@@ -71,6 +71,20 @@ AT_START = re.compile(r"(^|\0)(BASH_ENV|BASH_FUNC_[^=]*)=")  # what brings a she
 # What may set a trap in a script: the word, a text that is brought in, or a command that stands in a variable.
 TRAPPING = re.compile(r"\b(trap|source|eval|builtin|command|enable)\b|(^|[\s;&|({!`])\.[ \t]|"
                       r"(^|[;&|({!`]|\b(then|do|else|elif|if|while|until|time)\b)\s*(\w+=\S*\s+)*[$`]", re.M)
+# What a script awaits: its names of variables and its words, without what isn't of its jobs.
+OF_VARIABLE = re.compile(r"\"\$\{?(\w+)(?:\[[@*]\])?\}?\"|\$\{(\w+)(?:\[[@*]\])?\}")
+HIDES_JOB = re.compile(r"\d*[<>]&\s*[\w-]+|&>>?\s*\S+|2>\s*/dev/null")
+QUOTED = re.compile(r"'[^']*'|\"(?:\\.|[^\"\\])*\"|(?<!\S)#.*")
+SUBSTITUTED = re.compile(r"\$\(\([^()]*\)\)|\$\([^()]*\)")
+WAITS = re.compile(r"(?:^|[;&|({!]|\b(?:then|do|else|if|elif|while|until)\b)[ \t]*wait\b(?P<whom>[^\n;&|)}]*)", re.M)
+WORD_WAIT = re.compile(r"(?<![\w$.-])wait(?![\w.-])")
+UNCLEAR = re.compile(r"\b(disown|coproc|fg|bg|set\s+-\w*m\w*|monitor|(SIG)?CHLD|source|eval)\b|(^|[;&|({])\s*\.\s"
+                     r"|[`'\"]|<<|[<>$]\(|\bcase\b", re.M)
+# What takes no time between the start of jobs, or is seen as a child.
+QUICK = re.compile(r"\s*((\w+\+?=\S*\s*)+|(echo|printf|sleep|:|true|mkfifo|mkdir|touch|rm|chmod)\b[^<>|$()]*)?\s*")
+OPENING, CLOSING = {"(": ")", "{": "}", "if": "fi", "do": "done"}, (")", "}", "fi", "done")
+TOKENS = re.compile(r"(?P<name>\w+)(?:=\$!(?=\s|;|$)|(?P<more>\+=\(\$!\)))|\$\w+|\$[!#?@*]|&&|\|\||[&|;\n(){}]"
+                    r"|[^\s&|;(){}$]+|\$")
 SIGNALS = "sigmask:"  # which signals a descriptor of them takes
 NO_KEYS = ("lock:", CARRIES, RING, SIGNALS)  # what of a descriptor doesn't tell its file from others
 FILE = "file"
@@ -578,8 +592,58 @@ def traps_of(folder: str, row: Row) -> Row:
     with contextlib.suppress(OSError):
         if path and stat.S_ISREG(os.stat(f"{folder}/root{path}").st_mode):
             text = slurp(f"{folder}/root{path}")
-            return {"traps": len(text.encode()) >= MOST or has_trap("\n".join([*words, text]))}
+            is_long = len(text.encode()) >= MOST
+            return {"traps": is_long or has_trap("\n".join([*words, text])), **({} if is_long else awaited_in(text))}
     return {}
+
+
+def awaited_in(text: str) -> Row:
+    """Returns for which of its jobs in the background a script waits by its commands `wait`, where all are alike: for
+    all, or for some of those that it starts one by one, by their numbers, with how many these are, and with how many it
+    starts while it does nothing that takes time."""
+    plain = SUBSTITUTED.sub("_", OF_VARIABLE.sub(lambda it: f"${it[1] or it[2]}", text.replace("\\\n", " ")))
+    plain = HIDES_JOB.sub("", QUOTED.sub(lambda it: "" if it[0][0] == "#" else "_", plain))
+    waits, words = list(WAITS.finditer(plain)), WORD_WAIT.findall(plain)
+    is_plain = waits and len(waits) == len(words) and not any(map(WORD_WAIT.search, SUBSTITUTED.findall(text)))
+    if not is_plain or UNCLEAR.search(plain):
+        return {}
+    names = re.findall(r"\$(\w+)", waits[0]["whom"])
+    jobs = jobs_of(plain[:waits[0].start()]) if len(waits) == 1 else None
+    number = jobs[""][0] if jobs and is_prompt(plain[:waits[0].start()]) else 0
+    if not any(it["whom"].split() for it in waits):
+        return {"awaits": {"which": [], "number": 0, "prompt": number}}
+    if jobs is None or not names or len(names) != len(waits[0]["whom"].split()) or not {*names} <= jobs.keys() - {""}:
+        return {}
+    which = sorted({it for name in names for it in jobs[name]})
+    return {"awaits": {"which": which, "number": jobs[""][0], "prompt": number}}
+
+
+def is_prompt(text: str) -> bool:
+    """Whether a script does nothing that takes time once it has started its first job."""
+    _, _, rest = re.sub(r"&&|\|\|", ";", text).partition("&")
+    return all(QUICK.fullmatch(it) for it in re.findall(r"([^&;\n]*)(?=[;\n]|$)", rest))
+
+
+def jobs_of(text: str) -> Optional[Dict[str, List[int]]]:
+    """Returns which jobs of a script each name stands for, and by no name how many there are. Returns None where it
+    doesn't start them one by one."""
+    found: Dict[str, List[int]] = {"": [0]}
+    number, inside, is_piped = 0, [], False
+    for it in TOKENS.finditer(text):
+        word = it[0]
+        if word in OPENING:
+            inside.append(word)
+        elif word in CLOSING:
+            if not inside or OPENING[inside.pop()] != word:
+                return None
+        elif word == "&" and "(" not in inside:
+            if inside or is_piped:
+                return None
+            number += 1
+        elif it["name"]:
+            found[it["name"]] = [*(found.get(it["name"], []) if it["more"] else []), number]
+        is_piped = word == "|" or is_piped and word not in (";", "\n", "&")
+    return {**found, "": [number]} if number and not inside else None
 
 
 def has_read_more(words: List[str], environment: str) -> bool:
@@ -987,17 +1051,43 @@ PLAIN = re.compile(
     r"|sched_yield|s?rand|random|mem(cpy|set|move|cmp)|str(n?cpy|n?cat|n?cmp|n?len|r?chr|str|tou?l|error_r)|ato[il]"
     r"|v?sn?printf|__(mem|str|v?sn?printf|stpcpy)\w*_chk|malloc|calloc|realloc|free|pthread_setname_np|getloadavg"
     r"|sysinfo|__errno_location|__stack_chk_fail|_Zn[wa]m\w*|_Zd[la]Pv\w*|_ZNSt6chrono\w*3nowEv|_ZNSt6thread6_StateD2Ev"
-    r"|_ZNSt11this_thread11__sleep_for\w+|_ZSt\d+__throw_(bad_alloc|bad_array_new_length|length_error|system_error)\w*"
+    r"|_ZNSt11this_thread11__sleep_for\w+"
+    r"|_ZSt\d+__throw_(bad_(alloc|array_new_length|cast)|length_error|system_error)\w*"
     r"|_ZNK?St7__cxx1112basic_string(?!\w*(\d(at|substr|erase|insert|replace|compare|_M_check)Em|4copyE|RKS4_m))\w+"
+    r"|_ZSt\d+_Rb_tree_\w+|_ZNK?St8__detail\d+_(List_node_base|Prime_rehash_policy)\w+|_ZSt11_Hash_bytes\w+|l?abs"
+    r"|_ZNK?S(aIc|t6locale|t8ios_base|t9basic_iosIc|t15basic_streambufIc)\w+"
+    r"|_ZNK?St7__cxx111[5-9]basic_[io]?string(buf|stream)\w+|strn?casecmp|strn?dup|strto[dk]\w*|strc?spn|sscanf"
+    r"|__isoc99_sscanf|atof|getenv|getrusage|clock|difftime|rand_r|sysconf|floorf?|ceilf?|round|sqrtf?|pow|exp"
+    r"|log(10|2)?|sin|cos|fabs|fmod|gethostname|uname|inet_(ntop|pton)|[hn]to[hn][sl]|sig(empty|fill|add|del)set"
+    r"|pthread_(sigmask|getname_np)|socket|bind|[gs]etsockopt|getsockname|getpeername"
     r"|accept4?|__libc_start_main")  # (the other calls of texts throw where they are asked for what is behind the end)
+STREAMS_OF_CPP = (r"_ZNS[io]\w+|_ZSt(ls|rs)\w+|_ZSt(4endl|5flush|7getline|16__ostream_insert)\w+"
+                  r"|_ZNKSt5ctypeIcE13_M_widen_initEv"
+                  r"|_ZNK?St(14basic_[io]fstream|13basic_fstream|13basic_filebuf|12__basic_file)Ic\w+")
 OF_FILES = re.compile(
     r"(open|lseek|f?stat|fopen|fdopen)(64)?|read|write|close|unlink|rename|fsync|fclose|fflush|f?puts|f?putc|putchar"
-    r"|fwrite|fread|fgets|v?[fd]?printf|__v?[fd]?printf_chk|getline|send(to|msg)?|recv\w*|syslog")
-OF_FUTEXES = re.compile(r"pthread_(mutex|cond|rwlock|spin)_\w+|sem_(post|wait|trywait)|_ZNSt18condition_variable\w+")
+    r"|fwrite|fread|fgets|v?[fd]?printf|__v?[fd]?printf_chk|getline|send(to|msg)?|recv\w*|syslog|p?poll|perror"
+    r"|p?select|epoll_\w+|listen|connect|shutdown|dup2?|ioctl|fcntl(64)?|access|mkdir|ftruncate|fdatasync|remove"
+    rf"|{STREAMS_OF_CPP}")
+OF_STREAMS = re.compile(  # (of files that are opened by their names, and of the three that a program begins with)
+    r"fopen(64)?|fclose|fflush|f?puts|f?putc|putchar|perror|fwrite|fread|fgets|v?f?printf|__v?f?printf_chk|getline"
+    rf"|{STREAMS_OF_CPP}")
+OF_FUTEXES = re.compile(r"pthread_(mutex|cond|rwlock|spin)_\w+|sem_\w*(post|wait)|_ZNSt18condition_variable\w+"
+                        r"|_ZNSt28__atomic_futex_unsigned_base\w+|__cxa_guard_\w+")
+# What ends a wait at a condition, a semaphore or a future: those of other kinds it doesn't end.
+ENDERS = {"conditions": re.compile(r"pthread_cond_(?!\w*(wait|attr))\w+|_ZNSt18condition_variable(?!\d+wait)\w+"),
+          "semaphores": re.compile(r"sem_post"), "futures": re.compile(r"\w+_M_futex_notify_all\w+")}
+THROWS = re.compile(r"<(_ZSt\d+__throw_\w+|__stack_chk_fail)@")
+STAYS = "stays"  # of one that never returns from what it was started with
 # What lets calls of libraries come to other code of the program.
 BY_A_WAY = re.compile(r" (fopencookie|funopen|register_printf_\w+|_*pthread_key_create|tss_create"
-                      r"|\w*thread_(at)?exit\w*|\w+_Make_ready\w+|\w+setrobust\w*|(make|swap|set)context"
-                      r"|_*(sig)?(set|long)jmp\w*|__morestack\w*|__\w+_hook)\b")
+                      r"|\w*thread_(at)?exit\w*|\w+setrobust\w*|(make|swap|set)context"
+                      r"|_*(sig)?(set|long)jmp\w*|__morestack\w*|__\w+_hook"
+                      r"|_ZTISt(15basic_streambuf|13basic_filebuf|5ctype|\w*(punct|_put|_get)I)\w*"
+                      r"|_ZTINSt7__cxx1115basic_stringbuf\w*|_ZTINSt6locale5facetE)\b")
+RAW = re.compile(r" syscall\b")  # a call of the kernel by its number
+AT_ENDS = re.compile(r" \w+_Make_ready\w+")  # what runs at the end of a thread, and completes futures
+OPENS_BY_NUMBER = re.compile(r" (fdopen|popen|freopen(64)?|\w+stdio_(sync_)?filebuf\w+)\b")
 END_OF_HANDLER = re.compile(rb"(\x48\xc7\xc0|\xb8)\x0f\0\0\0\x0f\x05")  # to where a handler of a signal returns
 LIBRARY = re.compile(r"/(usr/)?lib(64)?/.*")
 OF_THE_SYSTEM = re.compile(r".*/(libc|libpthread|libstdc\+\+|libm|libgcc_s|librt|libdl|ld-linux-x86-64)[.-][^/]*")
@@ -1006,13 +1096,26 @@ PREFIXES = r"(?:notrack|bnd|rep\w*|lock|addr32|data16|rex(?:\.\w+)?|[c-gs]s|xacq
 STEP = re.compile(rf"^ +([0-9a-f]+):\t((?:{PREFIXES} )*)(\S+)(?: +(.*))?$")
 TARGET = re.compile(r"(?:\*0x[0-9a-f]+\(%rip\) +# )?([0-9a-f]+) <([^>]+)>")
 RUNS = re.compile(r"(_ZNSt6thread11_State_implI.*E)6_M_runEv")  # what runs a thread of C++, and its object's end
+EXPORTED = re.compile(r"^([0-9a-f]+) .{6}F \.text\t([0-9a-f]+) +\S+ +(\w+)$", re.M)
+# What bash does, by the innermost of its functions that say so.
+BASH = "bash"
+BUILTINS = {"wait_for_background_pids": "all", "wait_for_any_job": "any", "wait_for_single_pid": "one",
+            "wait_for_job": "one", "wait_for": "front"}
+FUNCTION = re.compile(r"^([0-9a-f]+) .{6}F \.text\S*\t", re.M)
+IN_PLACE = re.compile(r"\(%rip\).* # ([0-9a-f]+)(?: <|$)")
+POINTER = re.compile(r"^([0-9a-f]+) R_X86_64_RELATIVE +\*ABS\*\+0x([0-9a-f]+)$", re.M)
+KEPT = re.compile(r"%r(bx|bp|1[2-5])")  # registers that a call keeps
+SETS_HANDLER = re.compile(r"<(__sysv_signal|b?s?signal|_*sigaction|sigset|sigvec|__libc_sigaction)@")
+OF_ITSELF = (4, 5, 6, 7, 8, 11, 13, 16, 17, 24, 25, 31, 32, 33)  # signals of a process itself, its children and glibc
 COLD = ".cold"  # how the name ends of what a compiler has moved away from a function
 ODD = re.compile(r"sys(call|enter)|u?iret\w?|int\d?|l(ret|jmp|call)\w?|\(bad\)|xbegin|wrpkru|enter\w?|loop\w*|ud\w*"
                  rf"|{PREFIXES}")  # (`ud2` ends the process, and a prefix alone stands before what isn't understood)
 MOVES_STACK = re.compile(r".*,%(rsp|esp|sp)|%(rsp|esp|sp)")
 MAPPED_CODE = re.compile(r"^([0-9a-f]+)-([0-9a-f]+) (....) [0-9a-f]+ \S+ \d+ *(.*)$", re.M)
 BEHIND_CALL = re.compile(rb"\xe8.{4}$|\xff[\x10-\x1f\xd0-\xdf\x50-\x5f\x90-\x9f].{0,5}$", re.S)  # the bytes of a call
-LARGE, STACK, FUNCTIONS = 1 << 26, 1 << 18, 300  # bytes of a program and of a stack, and functions, that are looked at
+# Bytes of a program, of one that is looked at as a whole, and of a stack, and functions, that are looked at.
+LARGE, SMALL, STACK, FUNCTIONS = 1 << 26, 1 << 22, 1 << 18, 300
+WIDE = 32  # bytes that one step reads at most
 AT_ENTRY = 9  # in what the kernel has told a program: where that begins
 OF_64_BITS = b"\2"  # the fifth byte of a program
 OUTER = 2  # calls of the C library that lead to what a thread was started with
@@ -1037,17 +1140,25 @@ class Program:
     """The machine code of a program, as objdump shows it, function by function, up to some time."""
 
     def __init__(self, path: str, size: int, last: float) -> None:
-        self.path, self.last = path, last
-        found = sorted({(int(at, 16), int(size, 16), name) for at, size, name in SYMBOL.findall(
-            output_of(last, "objdump", "-t", path) if size < LARGE else "") if int(size, 16)})
+        self.path, self.name, self.last = path, os.path.realpath(path), last
+        table = output_of(last, "objdump", "-t", path) if size < LARGE else ""
+        found = sorted({(int(at, 16), int(size, 16), name) for at, size, name in SYMBOL.findall(table)
+                        if int(size, 16)})
         self.functions, self.starts = found, [at for at, _, _ in found]
-        dynamic = output_of(last, "objdump", "-T", path) if found else ""
+        dynamic = output_of(last, "objdump", "-T", path) if found or os.path.basename(self.name) == BASH else ""
+        self.exported = [(int(at, 16), int(size, 16), name) for at, size, name in EXPORTED.findall(dynamic)]
         own = [line.split()[-1] for line in dynamic.split("\n") if " .text\t" in line and "__cxx11" not in line]
         known = (PLAIN, OF_FILES, OF_FUTEXES)
+        self.completes, self.is_raw = (it.search(dynamic) is not None for it in (AT_ENDS, RAW))
+        self.opens_by_number = OPENS_BY_NUMBER.search(dynamic) is not None
         self.is_clear = bool(found and dynamic) and not BY_A_WAY.search(dynamic) and not any(
             names.fullmatch(it) for names in known for it in own)
         self.steps: Dict[int, Tuple[int, str, str]] = {}  # by its address: where the next one is, its name, its words
         self.known: Set[int] = set()
+        self.code = {int(at, 16) for at in FUNCTION.findall(table)}
+        self.pointers = sorted((int(at, 16), int(to, 16)) for at, to in POINTER.findall(
+            output_of(last, "objdump", "-R", path) if found else ""))
+        self.all: Optional[Dict[int, List[Tuple[int, str, str]]]] = None
 
     def function_at(self, address: int) -> Tuple[int, int, str]:
         at = bisect.bisect_right(self.starts, address) - 1
@@ -1065,11 +1176,41 @@ class Program:
         self.known.add(start)
         text = output_of(self.last, "objdump", "-d", "-w", "--no-show-raw-insn", f"--start-address={start}",
                          f"--stop-address={start + size}", self.path)
+        self.keep(text, start + size)
+
+    def keep(self, text: str, end: int) -> None:
+        """Keeps the steps of some code up to an address."""
         rows = [(int(it[1], 16), it[3], it[4] or "") for it in map(STEP.match, text.split("\n")) if it]
         before = ""
-        for (at, name, words), (after, *_) in zip(rows, [*rows[1:], (start + size, "", "")]):
+        for (at, name, words), (after, *_) in zip(rows, [*rows[1:], (end, "", "")]):
             self.steps[at] = after, "(bad)" if name.startswith("ret") and before else name, words
             before = words if name.startswith("push") or words.endswith(",(%rsp)") else ""
+
+    def parts(self) -> Dict[int, List[Tuple[int, str, str]]]:
+        """Returns the steps of all functions. Raises Unclear where they are too many, or it is too late."""
+        if self.all is None:
+            is_small = os.stat(self.path).st_size < SMALL
+            text = output_of(self.last, "objdump", "-d", "-w", "--no-show-raw-insn", self.path) if is_small else ""
+            self.all = {}
+            for it in map(STEP.match, text.split("\n")):
+                with contextlib.suppress(Unclear):
+                    step = (int(it[1], 16), it[3], it[4] or "") if it else None
+                    self.all.setdefault(self.function_at(step[0])[0], []).append(step) if step else None
+        if not self.all:
+            raise Unclear
+        return self.all
+
+    def taken(self, words: str) -> Set[int]:
+        """Returns the functions of which a step may take the address, by itself or from where these lie in data."""
+        place, number = IN_PLACE.search(words), re.match(r"\$0x([0-9a-f]+),", words)
+        address = int(place[1], 16) if place else int(number[1], 16) if number else -1
+        if address in self.code or not place:
+            return self.code & {address}
+        first, size = address, WIDE
+        with contextlib.suppress(Unclear):
+            first, size, _ = self.function_at(address)
+        begin, end = (bisect.bisect_left(self.pointers, (it, 0)) for it in (first, first + size))
+        return self.code & {to for _, to in self.pointers[begin:end]}
 
     def is_behind_call(self, address: int) -> bool:
         """Whether an address is one to which a call returns. Raises Unclear where it is in no known function, and isn't
@@ -1112,8 +1253,11 @@ class Reach:
         """Returns where one comes to from a step."""
         start, size, function = self.program.function_at(at)
         function = function.partition(COLD)[0]
-        if name.startswith("call"):  # (one at the end of its function doesn't come back)
-            return [*([following] if following < start + size else []), *self.target(words)]
+        if name.startswith("call"):  # (one at the end of its function doesn't come back, nor does one that throws)
+            if words.startswith(("*%r", "*0x30(%r")) and self.is_widening(at):
+                return [following]
+            is_last = following >= start + size or THROWS.search(words)
+            return [*([] if is_last else [following]), *self.target(words)]
         if name.startswith("ret"):
             self.returns.add(function)
             return []
@@ -1126,6 +1270,12 @@ class Reach:
         if is_odd or MOVES_STACK.fullmatch(words) and not is_plain_move(name, words):
             raise Unclear
         return [] if name == "hlt" else [following]
+
+    def is_widening(self, at: int) -> bool:
+        """Whether a call is that by which a stream of C++ ends a line: it comes right after one that prepares that."""
+        before = sorted(it for it in self.program.steps if at - 80 <= it < at)
+        calls = [self.program.steps[it][2] for it in before if self.program.steps[it][1].startswith("call")]
+        return bool(calls) and "<_ZNKSt5ctypeIcE13_M_widen_initEv@" in calls[-1]
 
     def is_moved(self, *addresses: int) -> bool:
         """Whether two addresses are of one function, of which a part was moved away."""
@@ -1155,6 +1305,129 @@ def is_plain_move(name: str, words: str) -> bool:
     return name.startswith("mov") and words == "%rbp,%rsp" or name.startswith(("cmp", "test"))
 
 
+# The tables by which stacks are unwound
+
+
+STACK_POINTER, RETURN, DEPTH = 7, 16, 30  # numbers of registers in these tables, and calls of libraries at most
+EH_FRAME = 0x6474E550  # the part of a program with the tables
+PLAIN_TABLE = b"\x01\x1b\x03\x3b"  # the head of one of the kind that linkers write
+Registers = Dict[int, Optional[int]]
+
+
+class Table:
+    """What the tables of a library say of a function: where its caller's registers stand, up to an address. Raises
+    Unclear for what compilers don't write for plain functions."""
+
+    def __init__(self, memory: Memory, base: int, address: int) -> None:
+        head = memory.read(base, 64)
+        at, size, number = struct.unpack_from("=Q", head, 32)[0], *struct.unpack_from("=HH", head, 54)
+        parts = [struct.unpack("=IIQQQQQQ", memory.read(base + at + size * it, 56)) for it in range(number)]
+        begins = [base + int(it[3]) for it in parts if it[0] == EH_FRAME]
+        head = memory.read(begins[0], 12) if begins else b""
+        if head[:4] != PLAIN_TABLE:
+            raise Unclear
+        rows = memory.read(begins[0] + 12, 8 * struct.unpack_from("=I", head, 8)[0])
+        places = [begins[0] + first for first, _ in struct.iter_unpack("=ii", rows)]
+        found = bisect.bisect_right(places, address) - 1
+        self.at, self.last = struct.unpack_from("=i", rows, 8 * found + 4)[0] + begins[0], address
+        self.frame: Tuple[int, int] = (0, 0)  # the register by which a caller's stack pointer is known, and how far off
+        self.saved: Dict[int, int] = {}  # how far from there the registers of the caller stand
+        self.kept: List[Tuple[Tuple[int, int], Dict[int, int]]] = []
+        self.read(memory)
+
+    def read(self, memory: Memory) -> None:
+        """Reads the entry of a function, and what it has in common with others."""
+        size, back = struct.unpack("=Ii", memory.read(self.at, 8))
+        entry = memory.read(self.at + 8, size - 4)
+        common_at = self.at + 4 - back
+        common = memory.read(common_at + 8, struct.unpack("=I", memory.read(common_at, 4))[0] - 4)
+        letters, _, rest = common[1:].partition(b"\0")
+        if common[:1] != b"\x01" or not letters.startswith(b"z") or b"S" in letters or b"R" not in letters:
+            raise Unclear
+        words = Words(rest)
+        self.unit, self.step, at_return = words.number(), words.signed(), words.number()
+        length = words.number()
+        kind = letters[1:], rest[words.at:words.at + length]
+        is_near = kind[1][-1:] == b"\x1b" and kind[0][-1:] == b"R"
+        begin = self.at + 8 + struct.unpack_from("=i", entry)[0]
+        if not is_near or at_return != RETURN or self.last >= begin + struct.unpack_from("=I", entry, 4)[0]:
+            raise Unclear
+        self.run(Words(rest[words.at + length:]), begin)
+        self.first = dict(self.saved)
+        words = Words(entry[8:])
+        length = words.number()
+        self.run(Words(words.data[words.at + length:]), begin)
+
+    def run(self, words: "Words", place: int) -> None:
+        """Follows what the tables say up to the address."""
+        while words.at < len(words.data) and place <= self.last:
+            code = words.byte()
+            kind, low = code & 0xC0, code & 0x3F
+            if kind == 0x40 or code in (2, 3, 4):
+                place += self.unit * (low if kind else words.fixed({2: 1, 3: 2, 4: 4}[code]))
+            else:
+                self.note(kind or code, low, words)
+
+    def note(self, code: int, low: int, words: "Words") -> None:
+        """Notes one thing that the tables say of registers."""
+        if code == 0x80:
+            self.saved[low] = self.step * words.number()
+        elif code == 0xC0:
+            self.saved = {**{it: at for it, at in self.saved.items() if it != low},
+                          **{it: at for it, at in self.first.items() if it == low}}
+        elif code in (0x0C, 0x0D, 0x0E):  # (where the frame is: a register and how far off, or one of both)
+            register = self.frame[0] if code == 0x0E else words.number()
+            self.frame = register, self.frame[1] if code == 0x0D else words.number()
+        elif code == 0x0A:
+            self.kept.append((self.frame, dict(self.saved)))
+        elif code == 0x0B:
+            self.frame, self.saved = self.kept.pop()
+        elif code == 0x2E:
+            words.number()  # (the size of arguments)
+        elif code:
+            raise Unclear
+
+    def outer(self, registers: Registers, memory: Memory) -> Registers:
+        """Returns the registers of the caller. Those that aren't known are missing, or None."""
+        base = registers.get(self.frame[0])
+        if base is None:
+            raise Unclear
+        end = base + self.frame[1]
+        found = {it: int.from_bytes(memory.read(end + at, 8), sys.byteorder) for it, at in self.saved.items()}
+        if not found.get(RETURN):
+            raise Unclear
+        return {**registers, **found, STACK_POINTER: end}
+
+
+class Words:
+    """Numbers as these tables have them, one behind the other."""
+
+    def __init__(self, data: bytes) -> None:
+        self.data, self.at = data, 0
+
+    def byte(self) -> int:
+        self.at += 1
+        return self.data[self.at - 1]
+
+    def fixed(self, size: int) -> int:
+        self.at += size
+        return int.from_bytes(self.data[self.at - size:self.at], sys.byteorder)
+
+    def number(self) -> int:
+        found = shift = 0
+        while True:
+            byte = self.byte()
+            found |= (byte & 0x7F) << shift
+            shift += 7
+            if byte < 0x80:
+                return found
+
+    def signed(self) -> int:
+        at = self.at
+        found = self.number()
+        return found - (1 << 7 * (self.at - at)) if self.data[self.at - 1] & 0x40 else found
+
+
 class Standing:
     """Where a thread stands: `words` has the addresses of code on its stack to which it may return, innermost first,
     each with its file. Raises Unclear where it isn't in a call of a plain library of the system, or code is mapped that
@@ -1173,13 +1446,33 @@ class Standing:
         self.is_main = thread["tid"] == row["pid"]
         stack = next((it for it in self.maps if it[0] <= pointer < it[1]), (0, 0, "", ""))
         self.memory = Memory(self.folder)
+        self.unwound: List[int] = []  # the addresses to which it returns, the innermost first
+        self.counted = before[0].split()[1:7], int(before[1])  # the arguments of its call, and how often it has slept
         try:
-            self.words = self.words_of(pointer, stack[1] - pointer)
+            self.words: List[Tuple[str, int]] = []
+            with contextlib.suppress(Unclear):
+                self.words = self.words_of(pointer, stack[1] - pointer)
+            with contextlib.suppress(Unclear, struct.error, IndexError):
+                for it in self.outward(pointer, place):
+                    self.unwound.append(it)
+            self.within = next((it for it in self.unwound if self.path_at(it) == self.exe), 0)
             if not all(map(LIBRARY.fullmatch, libraries)) or self.path_at(place) == self.exe \
                     or self.is_main != (stack[3] == "[stack]") or self.moment() != before:
                 raise Unclear
         finally:
             self.memory.close()
+
+    def outward(self, pointer: int, place: int) -> Iterator[int]:
+        """Yields the addresses to which a thread returns, the innermost first, as long as these are known."""
+        registers: Registers = {STACK_POINTER: pointer, RETURN: place}
+        for at in range(DEPTH):
+            place = registers[RETURN] or 0
+            path = self.path_at(place)
+            if not path:
+                return
+            yield place
+            base = min(first for first, _, _, it in self.maps if it == path)
+            registers = Table(self.memory, base, place - bool(at)).outer(registers, self.memory)
 
     def moment(self) -> Tuple[str, str]:
         """Returns the call of a thread that sleeps, with how often it has gone to sleep so far."""
@@ -1224,38 +1517,105 @@ class Standing:
 
 
 def add_spares(rows: Sequence[Row]) -> None:
-    """Adds to each sleeping thread what waits its code can't end from now on. What can't be read soon is left out."""
-    found: Dict[Tuple[int, int], List[str]] = {}
+    """Adds to each sleeping thread what waits its code can't end from now on, and in which call of a library it is.
+    What can't be read soon is left out."""
+    found: Dict[Tuple[int, int], Row] = {}
     if platform.machine() == "x86_64" and shutil.which("objdump"):
         worker = threading.Thread(target=find_spares, args=(rows, found), daemon=True)
         worker.start()
         worker.join(2 * PATIENCE)
     known = found.copy()
     for row in rows:
+        row.update(known.get((row["pid"], 0), {}))
         for thread in row.get("threads", ()):
-            spares = known.get((row["pid"], thread["tid"]))
-            thread.update({"spares": spares} if spares is not None else {})
+            thread.update(known.get((row["pid"], thread["tid"]), {}))
 
 
-def find_spares(rows: Sequence[Row], found: Dict[Tuple[int, int], List[str]]) -> None:
-    """Finds what the threads of some processes can't end, as long as there is time."""
+def find_spares(rows: Sequence[Row], found: Dict[Tuple[int, int], Row]) -> None:
+    """Finds what the threads of some processes can't end, and then what handlers can't, as long as there is time."""
     programs: Dict[Tuple[int, int], Program] = {}
+    known: Dict[int, Tuple[Row, Program, bool]] = {}
     asleep = [(row, it) for row in rows if "living" in row for it in row["threads"] if it["state"] == "S"]
     last = time.monotonic() + 2 * PATIENCE
     for row, thread in asleep:
         if time.monotonic() > last:
             return
         with contextlib.suppress(OSError, Unclear, ValueError):
-            found[row["pid"], thread["tid"]] = spares_of(row, thread, programs, last)
+            standing, program = Standing(row, thread), program_of(row, programs, last)
+            known[row["pid"]] = row, program, standing.has_others
+            found[row["pid"], thread["tid"]] = {**within_of(standing, program, thread), **spares_of(standing, program),
+                                                **builtin_of(standing, program, thread)}
+    found.update(((pid, 0), spared_by_handlers(*it)) for pid, it in known.items())
 
 
-def spares_of(row: Row, thread: Row, programs: Dict[Tuple[int, int], Program], last: float) -> List[str]:
-    """Returns what waits a thread can't end: those at files, at futexes, or both, by all calls of the code to which it
-    returns. Raises Unclear where that isn't known."""
-    standing, path = Standing(row, thread), f"/proc/{row['living']}/exe"
+def program_of(row: Row, programs: Dict[Tuple[int, int], Program], last: float) -> Program:
+    """Returns the code of a process, which several may have."""
+    path = f"/proc/{row['living']}/exe"
     status = os.stat(path)
     key = status.st_dev, status.st_ino
-    program = programs[key] if key in programs else programs.setdefault(key, Program(path, status.st_size, last))
+    if key not in programs:
+        programs[key] = Program(path, status.st_size, last)
+    return programs[key]
+
+
+def spared_by_handlers(row: Row, program: Program, has_others: bool) -> Row:
+    """Returns what waits the handlers of a process can't end, of signals that others may send it."""
+    caught = int(row.get("SigCgt") or "0", 16) & ~sum(1 << it - 1 for it in OF_ITSELF)
+    if not caught or has_others or program.is_raw or not program.is_clear:
+        return {}
+    with contextlib.suppress(Unclear):
+        reach, handlers = Reach(program), handlers_of(program)
+        reach.follow(handlers)
+        return {"handlers": [it for it in kinds_of(reach.calls, False, program, has_others) if it != STAYS] if handlers
+                else []}
+    return {}
+
+
+def builtin_of(standing: Standing, program: Program, thread: Row) -> Row:
+    """Returns what a shell that waits for children does, by the names of its functions on its stack: it waits for all
+    in the background, for one, or for one in the foreground."""
+    if os.path.basename(program.name) != BASH or thread.get("call") != "wait4":
+        return {}
+    base = standing.base()
+    own = [it - base for it in standing.unwound if standing.path_at(it) == standing.exe]
+    names = [name for at in own for first, size, name in program.exported if first < at <= first + size]
+    kinds = [kind for name, kind in BUILTINS.items() if name in names]
+    is_at_builtin = "wait_builtin" in names
+    if not is_same_wait(standing, thread) or not kinds or is_at_builtin != (kinds[0] != "front"):
+        return {}
+    return {"builtin": kinds[0]}
+
+
+def is_same_wait(standing: Standing, thread: Row) -> bool:
+    """Whether a thread is at the wait at which it was read."""
+    args, count = standing.counted
+    return thread.get("counts") == [count, count] and list(map(int_of, args)) == list(
+        map(int_of, thread.get("args", ())))
+
+
+def int_of(text: str) -> int:
+    return int(text, 16)
+
+
+def within_of(standing: Standing, program: Program, thread: Row) -> Row:
+    """Returns in which call of a library a thread is, if it is at the same wait as it was when it was read."""
+    name = None
+    with contextlib.suppress(OSError, Unclear):
+        is_same = standing.within and is_same_wait(standing, thread)
+        call = program.call_before(standing.within - standing.base()) if is_same else ""
+        name = TARGET.fullmatch(call)
+    return {"within": name[2].partition("@")[0]} if name and "@" in name[2] else {}
+
+
+def spares_of(standing: Standing, program: Program) -> Row:
+    """Returns what waits a thread can't end, by all calls of the code to which it returns, if that is known."""
+    with contextlib.suppress(Unclear):
+        return {"spares": spared_by(standing, program)}
+    return {}
+
+
+def spared_by(standing: Standing, program: Program) -> List[str]:
+    """Returns what waits a thread can't end. Raises Unclear where that isn't known."""
     reach, frames = Reach(program), frames_of(standing, program)
     names = [program.function_at(it - 1)[2].partition(COLD)[0] for it in frames]
     for address in frames:
@@ -1269,9 +1629,120 @@ def spares_of(row: Row, thread: Row, programs: Dict[Tuple[int, int], Program], l
         raise Unclear
     if ends:
         reach.follow(ends_of_states(program, names, any("libstdc++" in path for path, _ in standing.words)))
-    plain = {it for it in reach.calls if PLAIN.fullmatch(it)}
-    spares = ["futexes"] if all(map(OF_FILES.fullmatch, reach.calls - plain)) else []
-    return spares + (["files"] if all(map(OF_FUTEXES.fullmatch, reach.calls - plain)) else [])
+    return kinds_of(reach.calls, bool(ends), program, standing.has_others)
+
+
+def kinds_of(calls: Set[str], ends: bool, program: Program, has_others: bool) -> List[str]:
+    """Returns what waits some calls can't end, of a thread that ends or doesn't. Streams of a program that opens none
+    by a number are of files with names, or the three that it began with."""
+    rest = {it for it in calls if not PLAIN.fullmatch(it)}
+    files, futexes = ({it for it in rest if names.fullmatch(it)} for names in (OF_FILES, OF_FUTEXES))
+    is_known = rest == files | futexes
+    is_known = is_known and not (ends and completes_at_ends(program))
+    spares = ["futexes"] if is_known and not futexes else []
+    spares += ["files"] if is_known and not files else []
+    spares += ["streams"] if is_known and not (program.opens_by_number or has_others) and all(
+        map(OF_STREAMS.fullmatch, files)) else []
+    spares += [kind for kind, names in ENDERS.items() if is_known and not any(map(names.fullmatch, futexes))]
+    return [*spares, STAYS] if spares and not ends else spares
+
+
+def completes_at_ends(program: Program) -> bool:
+    """Whether the end of a thread may complete a future. What is made for that with each packaged task, and called by
+    nobody, doesn't."""
+    if not program.completes:
+        return False
+    with contextlib.suppress(Unclear):
+        users = {program.function_at(start)[2] for start, steps in program.parts().items()
+                 if any(AT_ENDS.search(words.replace("<", " ")) for _, _, words in steps)}
+        return not all("_M_run_delayedE" in it for it in users)
+    return True
+
+
+def handlers_of(program: Program) -> Set[int]:
+    """Returns the functions of a program that may be handlers of signals. Raises Unclear where these aren't found."""
+    parts, found = program.parts(), set()  # type: Dict[int, List[Tuple[int, str, str]]], Set[int]
+    left = [(start, [at for at, step in enumerate(steps) if sets_handler(step)]) for start, steps in parts.items()]
+    seen: Set[int] = set()
+    left = [it for it in left if it[1]]
+    while left:
+        start, calls = left.pop()
+        some = handlers_in(program, parts[start], calls)
+        found |= some
+        if not some and start not in seen and not are_constant(program, parts[start], calls):
+            seen.add(start)
+            left += callers_of(program, parts, start)
+    return found
+
+
+def callers_of(program: Program, parts: Dict[int, List[Tuple[int, str, str]]],
+               start: int) -> List[Tuple[int, List[int]]]:
+    """Returns who calls a function, which is given handlers, and where. Raises Unclear if that is called by its address
+    in data."""
+    found = [(it, [at for at, step in enumerate(steps) if is_call_of(step, start)]) for it, steps in parts.items()]
+    found = [it for it in found if it[1] and it[0] != start]
+    if start in {to for _, to in program.pointers}:
+        raise Unclear
+    return found
+
+
+def sets_handler(step: Tuple[int, str, str]) -> bool:
+    return step[1].startswith(("call", "jmp")) and SETS_HANDLER.search(step[2]) is not None
+
+
+def is_call_of(step: Tuple[int, str, str], start: int) -> bool:
+    """Whether a step calls a function, or may hand on where that is."""
+    found = TARGET.search(step[2]) or IN_PLACE.search(step[2])
+    return found is not None and int(found[1], 16) == start and step[0] != start
+
+
+def handlers_in(program: Program, steps: List[Tuple[int, str, str]], calls: List[int]) -> Set[int]:
+    """Returns the functions that a function may set as handlers by some calls: none where it is given these."""
+    plain = [argument_of(program, steps, at) for at in calls]
+    if None not in plain:
+        return set().union(*(it for it in plain if it))
+    if not program.pointers:  # (where its data have functions isn't known)
+        raise Unclear
+    some = [(at, program.taken(words)) for at, (_, name, words) in enumerate(steps)
+            if not name.startswith(("call", "j"))]
+    return {it for at, them in some for it in them if not is_for_other(target_of(steps[at][2]), steps[at + 1:at + 12])}
+
+
+def are_constant(program: Program, steps: List[Tuple[int, str, str]], calls: List[int]) -> bool:
+    return all(argument_of(program, steps, at) == set() for at in calls)
+
+
+def argument_of(program: Program, steps: List[Tuple[int, str, str]], at: int) -> Optional[Set[int]]:
+    """Returns the functions that a call of `signal` may set, none if it sets a constant, or None."""
+    register = "%rsi"
+    for _, name, words in reversed(steps[max(0, at - 8):at] if "<signal@" in steps[at][2] else []):
+        source, target = words.partition(" #")[0].rpartition(",")[0], target_of(words)
+        if KEPT.fullmatch(register) or name.startswith(("call", "j", "ret")):
+            break
+        if target in (register, register.replace("%r", "%e")):
+            if re.fullmatch(r"\$0x[01]", source) or name.startswith("xor") and source == target:
+                return set()
+            if name.startswith("lea") or not source.startswith("%r"):
+                return program.taken(words) or None if name in ("lea", "mov") and target[1] == "r" else None
+            register = source
+    some = [(name, program.taken(words)) for _, name, words in steps if target_of(words) == register]
+    is_kept = KEPT.fullmatch(register) and all(them or name.startswith("pop") for name, them in some)
+    return {it for _, them in some for it in them} or None if is_kept else None
+
+
+def target_of(words: str) -> str:
+    """Returns the last operand of a step."""
+    return words.partition(" #")[0].strip().rpartition(",")[2]
+
+
+def is_for_other(register: str, steps: List[Tuple[int, str, str]]) -> bool:
+    """Whether the address of a function in a register goes elsewhere than to a handler: to where a new thread begins,
+    or into what isn't on the stack."""
+    used = next((step for step in steps if register in step[2] or step[1].startswith("call")), (0, "", ""))
+    if used[1].startswith("call"):
+        return re.search(r"<(pthread_create|atexit)@", used[2]) is not None and register in ("%rdx", "%edx", "%rdi")
+    stored = re.fullmatch(re.escape(register) + r",-?(?:0x[0-9a-f]+)?\((%r\w+)\)", used[2])
+    return stored is not None and stored[1] not in ("%rsp", "%rbp")
 
 
 def ends_of_states(program: Program, names: List[str], is_of_cpp: bool) -> List[int]:

@@ -16,11 +16,12 @@ from ..sketch import (DONE, ENDED, LIMIT, SYSTEM, Process, Sketch, premise, runs
 from . import State
 from .base import Moment, Premise, Recorder, one_line
 from .linux_locks import SETLKW, ends_of_lock
-from .linux_stacks import BARRIER, STACK, add_stacks, ends_of_futex, hint, meeting_of, own_frames, system_of
+from .linux_stacks import (BARRIER, STACK, add_stacks, ends_of_futex, hint, keep_joining, meeting_of, own_frames,
+                           system_of)
 from .linux_text import ENDED as GONE
 from .linux_text import READS, WRITES, Machine, Owner, Row, Thread, call_threads, readings_of, rows_of
 from .linux_unread import Branches
-from .linux_waits import (ACCEPTS, CONNECTS, ENDING, EPOLLS, FIFO, FILES, FOR_SIGNALS, FORKS, FRONT, GROUP, IPC,
+from .linux_waits import (ACCEPTS, CONNECTS, ENDING, EPOLLS, FIFO, FILES, FOR_SIGNALS, FORKS, FRONT, GROUP, IPC, JOBS,
                           KEYLESS, MEMORY, MOVES, OPENS, PIPE, QUEUE, QUEUES, READ, REMOTE, RESTS, SETS, SIGCHLD,
                           SIGINT, SLEEPS, SUSPENDS, TRAPS, UNTIMED, WRITE, Ends, choice_of, ends_of, ends_of_connect,
                           ends_of_ipc, ends_of_set, ends_of_signals, ends_of_wait, has_limit, int32, is_shell, note_of,
@@ -49,13 +50,19 @@ class Computer(Moment):
 
 
 def keep_spares(machines: List[Machine]) -> None:
-    """Lets what the code of a thread can't do count in later readings too: it can't from then on."""
-    known = {(owner.pid, owner.row.get("start"), it.tid): it.row["spares"] for machine in machines[:1]
-             for owner in machine.owners for it in owner.threads if "spares" in it.row}
+    """Lets what the code of a thread can't do count in later readings too: it can't from then on. In which call of a
+    library it is counts where it is still at the same wait."""
+    known = {(owner.pid, owner.row.get("start"), it.tid): it for machine in machines[:1]
+             for owner in machine.owners for it in owner.threads}
+    handlers = {(it.pid, it.row.get("start")): it.handled for machine in machines[:1] for it in machine.owners}
     for owner in (it for machine in machines[1:] for it in machine.owners):
+        owner.row["handlers"] = handlers.get((owner.pid, owner.row.get("start")), [])
         for thread in owner.threads:
-            kinds = known.get((owner.pid, owner.row.get("start"), thread.tid))
-            thread.row.update({"spares": kinds} if kinds is not None else {})
+            first = known.get((owner.pid, owner.row.get("start"), thread.tid), thread)
+            is_same = bool(thread.counts) and (thread.counts, thread.row.get("args"), thread.call) == (
+                first.counts, first.row.get("args"), first.call)
+            names = ("spares", "within", "builtin") if is_same else ("spares",)
+            thread.row.update({name: first.row[name] for name in names if name in first.row})
 
 
 def signal_of(thread: Thread, moment: Computer) -> str:
@@ -103,6 +110,8 @@ class LinuxRecorder(Recorder):
         KEYLESS: Premise("a set of semaphores or a queue of messages without a key is used by those alone that descend "
                          "from the one that made it, which is of the session or the program of one who uses it"),
         GROUP: Premise("no other child joins the group for which one waits"),
+        JOBS: Premise("a shell that waits for its jobs has started its children in the background, and waits for all "
+                      "of them, or for those that its script names, in the order in which it starts them"),
         FRONT: Premise("a shell has started in the background who ignores SIGINT, and waits for the one that doesn't"),
         RESTS: Premise("the program `sleep` only sleeps: it neither reads, writes nor unlocks what it has inherited"),
         UNTIMED: Premise("a socket has no limit of its own (SO_RCVTIMEO, SO_SNDTIMEO, TCP_USER_TIMEOUT)"),
@@ -141,6 +150,7 @@ class LinuxRecorder(Recorder):
         keep_spares([reading.rows[0] for reading in readings])
         for reading in readings:
             add_stacks(reading.rows[0], self.stacks)
+            keep_joining(reading.rows[0])
         unread = list({it.pid: it for reading in readings for it in reading.rows[0].owners if it.why}.values())
         near, apart = ([it for it in unread if bool(it.row.get("apart")) == is_apart] for is_apart in (False, True))
         self.unread = [[it] for it in near] + ([apart] if apart[SHOWN:] else [[it] for it in apart])
@@ -250,7 +260,7 @@ class LinuxRecorder(Recorder):
                                          *([MADE] if len(strangers) < len(self.unread) else [])]
         others = timed_parents(moment.machine, thread.owner)
         others += [] if ends.is_exact else threads_of(moment.machine.carriers, thread, False)
-        more += [CODE] if len(left) < len(ends.bound) else []
+        more += [CODE] if len(left) < len(ends.bound) or any(it.owner.handled for it in ends.bound) else []
         whom = [*(it.name for it in [*left, *others]), *strangers]
         return {"bound": list(dict.fromkeys(whom)), "bound_by": list(map(premise, [SIGNALS, ABOVE, *more]))}
 
@@ -269,7 +279,8 @@ class LinuxRecorder(Recorder):
             more += threads_of(moment.machine.carriers, thread, False)
             besides += strangers if are_all else []
             whom += [] if are_all else strangers
-        if thread.owner.catches(SIGCHLD) and not {FRONT, TRAPS} & {*ends.premises}:  # (else it waits on for the same)
+        # (Who knows for whom it waits goes on to wait for them, whichever other child ends.)
+        if thread.owner.catches(SIGCHLD) and not {FRONT, JOBS, TRAPS} & {*ends.premises}:
             more += threads_of(moment.machine.children(thread.owner.pid), thread, False)
         unseen = unseen_signals(thread.owner)
         self.unseen.update(unseen)

@@ -9,7 +9,7 @@ import re
 from typing import Dict, Iterable, List, Optional, Tuple
 
 from ..sketch import frame
-from .linux_text import ENDED, Machine, Row, Thread
+from .linux_text import ENDED, KINDS, OPERATION, STAYS, STREAMS, Machine, Row, Thread
 from .linux_waits import MEMORY, SIGCHLD, Ends, int32, is_called, threads_of
 
 STACK = "stack"
@@ -28,7 +28,7 @@ OF_LIBRARY = re.compile(r"(_|std::|\?\?|0x|pthread_|__gnu|clone|start_thread|fut
 LIBRARIES = ("./", "../", "/usr/include/")  # where sources of glibc and of the library of C++ are said to be
 HELD = 2  # what glibc's mutex has in its word while it is held and somebody waits; of a robust one that is its owner
 OWNER = 0x3FFFFFFF  # the owner in the word of a robust mutex, or of one of which the kernel itself keeps that
-OPERATION, PRIVATE = 127, 128  # the operation of a futex without its flags, and the flag of one process alone
+PRIVATE = 128  # the flag of a futex of one process alone
 WAITS, LOCKS = (0, 9), (6, 13)  # FUTEX_WAIT and FUTEX_WAIT_BITSET, FUTEX_LOCK_PI and FUTEX_LOCK_PI2
 RECORDERS = {"python": "python", "java": "jvm", "beam": "erlang", "go": "go", "mpi": "mpi"}
 
@@ -78,6 +78,8 @@ def own_frames(thread: Thread) -> List[str]:
 
 def operation_of(thread: Thread) -> str:
     """Returns the call of glibc that a thread is in at a futex, or nothing."""
+    if not thread.stack:
+        return operation_within(thread)
     for function, _ in thread.stack[:5]:
         name = WORDS.sub("", function.partition("@")[0].partition("(")[0].strip())
         if name in (*MUTEX, *JOIN, *RWLOCK, BARRIER):
@@ -85,6 +87,16 @@ def operation_of(thread: Thread) -> str:
         if not INSIDE.match(name) and not NAMELESS.match(name):
             return ""
     return ""
+
+
+def operation_within(thread: Thread) -> str:
+    """Returns the call of glibc that a thread is in by where its stack was unwound to, or nothing. In the wait for a
+    condition it may be at that's lock."""
+    name = thread.within
+    if not thread.object and KINDS["conditions"].fullmatch(name) and thread.arguments[1] & OPERATION in WAITS[:1]:
+        return "pthread_mutex_cond_lock"
+    name = "pthread_join" if name == "_ZNSt6thread4joinEv" else name
+    return "pthread_join" if name in JOIN else name if name in (*MUTEX, *RWLOCK, BARRIER) else ""
 
 
 def ends_of_futex(machine: Machine, thread: Thread) -> Ends:
@@ -103,7 +115,7 @@ def wakers(machine: Machine, thread: Thread) -> Optional[List[Thread]]:
     name = thread.row.get("memory")
     owners += machine.with_file(name) if name else []
     some = list(dict.fromkeys(it for it in owners if it is not None))
-    if name is None or "kin" not in thread.owner.row or None in owners or any(map(is_called, some)):
+    if name is None or "kin" not in thread.owner.row or None in owners or any(is_called(it, thread) for it in some):
         return None
     some += [it for owner in some if owner.catches(SIGCHLD) for it in machine.children(owner.pid)]
     tracers = {owner.tracer for owner in some} - {0}
@@ -134,6 +146,19 @@ def owner_of_futex(machine: Machine, thread: Thread) -> Ends:
     return owned(Ends(what=word, operation=operation, premises=[STACK]), with_number(machine, thread, owner))
 
 
+def keep_joining(machine: Machine) -> None:
+    """Notes that a thread which joins one that never returns comes to nothing more, and so on for who joins that."""
+    for owner in machine.owners:
+        staying = [it for it in owner.living if it.stays]
+        while staying:  # (which grows meanwhile)
+            last = staying.pop()
+            joining = [it for it in owner.living if not it.stays and it.call == "futex" and not it.arguments[3]
+                       and operation_of(it) == "pthread_join" and it.word(0) == last.inner]
+            for thread in joining:
+                thread.row["spares"] = ["futexes", "files", STREAMS, *KINDS, STAYS]
+            staying += joining
+
+
 def meeting_of(thread: Thread) -> str:
     """Returns at which barrier a thread is: by the address of its word, if that is of one process alone."""
     is_private = thread.arguments[1] & PRIVATE
@@ -141,9 +166,10 @@ def meeting_of(thread: Thread) -> str:
 
 
 def with_number(machine: Machine, thread: Thread, tid: int) -> List[Thread]:
-    """Returns the threads that a number in a lock may stand for: of the same process, or of any if it is shared."""
-    found = [it for it in thread.owner.threads if it.inner == tid]
-    return found if found or not tid or thread.arguments[1] & PRIVATE else machine.threads(tid)
+    """Returns the threads that a number in a lock may stand for: of the same process, or of any if it is shared, each
+    as it sees itself in its container."""
+    is_private = thread.arguments[1] & PRIVATE or not tid
+    return [it for it in thread.owner.threads if it.inner == tid] if is_private else machine.threads(tid)
 
 
 def owned(ends: Ends, found: List[Thread]) -> Ends:

@@ -5,7 +5,7 @@ import json
 import re
 from collections import Counter
 from dataclasses import dataclass, field
-from typing import Any, Dict, Iterable, Iterator, List, Tuple
+from typing import Any, Dict, Iterable, Iterator, List, Sequence, Set, Tuple
 
 from ..files import Refusal, shown
 from ..sketch import quote
@@ -23,6 +23,12 @@ NO_KEYS = ("lock:", CARRIES, RING, SIGMASK)  # what of a descriptor doesn't tell
 OF_FILES = ("read", "readv", "recvfrom", "recvmsg", "recvmmsg", "write", "writev", "sendto", "sendmsg", "sendmmsg",
             "poll", "ppoll", "select", "pselect6", "epoll_wait", "epoll_pwait", "epoll_pwait2", "mq_timedsend",
             "mq_timedreceive")
+# What a thread is at whose call of a library is one of these: only what is said to end such a wait does so.
+KINDS = {"conditions": re.compile(r"pthread_cond_\w*wait|_ZNSt18condition_variable\d+wait\w+"),
+         "semaphores": re.compile(r"sem_\w*wait"), "futures": re.compile(r"\w+atomic_futex\w+_M_futex_wait_until\w+")}
+BITSET, OPERATION = 9, 127  # FUTEX_WAIT_BITSET, and the operation of a futex without its flags
+STAYS, STREAMS = "stays", "streams"  # of one that never returns; that writes and reads by streams alone
+STREAM_NUMBERS = ("0", "1", "2")  # the descriptors of the streams that a program begins with
 OF_IPC = ("semop", "semtimedop", "msgsnd", "msgrcv")
 OPEN = "open "  # how the name of an open file begins, which several descriptors may share
 TID = 0x3FFFFFFF  # the number of a thread in the word of a lock, or of a join
@@ -32,10 +38,11 @@ HEX = re.compile(r"(0x)?[0-9a-f]{1,16}")
 THREAD = {"tid": int, "state": str, "inner?": int, "comm?": str, "call?": str, "args?": [HEX] * 6,
           "counts?": [int, int], "set?": [[int]], "words?": re.compile("([0-9a-f]{2})*"), "range?": [int] * 4,
           "path?": str, "wchan?": str, "memory?": str, "mask?": HEX, "key?": int, "users?": [int],
-          "changed?": int, "spares?": [str]}
+          "changed?": int, "spares?": [str], "within?": str, "builtin?": str}
 OWNER = {"pid": int, "ppid?": int, "comm": str, "group?": int, "session?": int,
          "exe?": str, "TracerPid?": re.compile(r"\d{1,9}"), "SigCgt?": HEX,
-         "fds?": {str: [str]}, "threads?": [THREAD], "kin?": [int], "traps?": bool, "collects?": bool}
+         "fds?": {str: [str]}, "threads?": [THREAD], "kin?": [int], "traps?": bool, "handlers?": [str],
+         "awaits?": {"which": [int], "number": int, "prompt": int}, "collects?": bool}
 SOCKET = {"socket": int, "kind": str, "state": str, "at": str, "to": str, "peers": [int]}
 SHAPES = {"pid": OWNER, "socket": SOCKET, "listening": {"listening": {str: [int]}}, "warnings": {"warnings": [str]},
           "parents": {"parents": {str: [int, int]}}, "stacks": {"stacks": int, "still": {str: [str]}, "text": str},
@@ -80,6 +87,18 @@ class Owner:
         return bool(self.row.get("aio")) or any(
             "io_uring" in it[0] or more.startswith((CARRIES, RING)) for it in files for more in ("", *it[2:]))
 
+    @property
+    def handled(self) -> List[str]:
+        """Which waits the handlers of its signals can't end."""
+        return list(self.row.get("handlers", ()))
+
+    @property
+    def streams(self) -> Set[str]:
+        """What tells the files from others to which its streams may be: those that it begins with, and those with
+        names."""
+        return {key for fd, it in self.files.items() if fd in STREAM_NUMBERS or it[0].startswith("/")
+                for key in keys_of_stream(it)}
+
     def has_ended(self) -> bool:
         return not self.why and not self.living
 
@@ -114,15 +133,53 @@ class Thread:
     def name(self) -> str:
         return self.owner.name if self.tid == self.owner.pid else f"{self.owner.name}/{self.called or self.tid}"
 
+    @property
+    def within(self) -> str:
+        """The call of a library that it is in, where its stack was unwound."""
+        return str(self.row.get("within", ""))
+
+    @property
+    def stays(self) -> bool:
+        """Whether its code never returns from what it was started with."""
+        return STAYS in self.row.get("spares", ())
+
+    @property
+    def is_ticking(self) -> bool:
+        """Whether it never returns, and meanwhile sleeps and prints alone."""
+        return self.stays and {"futexes", STREAMS} <= {*self.row["spares"]}
+
+    @property
+    def object(self) -> str:
+        """What its futex is of, of those that are no locks, or nothing. In the wait for a condition it may be at that's
+        lock, and then its call is another one."""
+        is_lock = self.call != "futex" or self.arguments[1] & OPERATION != BITSET
+        found = next((kind for kind, names in KINDS.items() if names.fullmatch(self.within)), "")
+        return "" if found != "futures" and is_lock else found
+
     def spares(self, thread: "Thread") -> bool:
         """Whether its code comes to nothing that could end the wait of another thread: at a futex, at a file, or for
-        the end of its process. Its own end may do that at a futex which has its number, as that of a join."""
+        the end of its process, which is well as long as its first thread or one at its files goes on. Its own end may
+        do that at a futex which has its number, as that of a join."""
         kinds = self.row.get("spares", ())
-        if thread.call == "futex":
-            return "futexes" in kinds and self.inner not in (thread.arguments[2] & TID, thread.word(0) & TID)
+        is_own = thread.call == "futex" and self.inner in (thread.arguments[2] & TID, thread.word(0) & TID)
         if thread.call in ("wait4", "waitid"):
-            return bool(kinds) and not self.owner.tracer  # (who traces it sees each call)
-        return "files" in kinds and (thread.call in OF_FILES or "futexes" in kinds and thread.call in OF_IPC)
+            is_one_of_many = self.tid == self.owner.pid and bool(self.owner.living[1:])
+            is_quiet = "futexes" in kinds and bool({"files", STREAMS} & {*kinds})
+            return is_quiet and not is_one_of_many and not self.owner.tracer  # (who traces it sees each call)
+        return thread.is_spared(kinds, self.owner) and not (is_own and not thread.object)
+
+    def is_spared(self, kinds: Sequence[str], owner: Owner) -> bool:
+        """Whether code of another process can't end its wait, that can end no waits of some kinds."""
+        if self.call == "futex":
+            return self.object in kinds or "futexes" in kinds
+        if STREAMS in kinds and self.call in OF_FILES and not owner.streams & self.keys:
+            return True
+        return "files" in kinds and (self.call in OF_FILES or "futexes" in kinds and self.call in OF_IPC)
+
+    @property
+    def keys(self) -> Set[str]:
+        """What tells the files at which it waits from others."""
+        return {key for fd, *_ in self.events for key in keys_of_stream(self.owner.files.get(str(fd), [""]))}
 
     @property
     def is_addressed(self) -> bool:
@@ -225,6 +282,11 @@ def keys_of(it: List[str]) -> Iterator[str]:
     if it[0].startswith(("pipe:[", "socket:[")):
         yield it[0]
     yield from (more for more in it[2:] if not more.startswith(NO_KEYS))
+
+
+def keys_of_stream(it: List[str]) -> Set[str]:
+    """Returns what tells the file of a descriptor from others that a stream may be to. Sockets have two ends."""
+    return {"socket" if key.startswith("socket:[") else key for key in (it[0], *keys_of(it))}
 
 
 def rows_of(text: str, path: str) -> List[Row]:

@@ -10,7 +10,8 @@ from .linux_text import OPEN, READS, SIGMASK, WRITES, Machine, Owner, Row, Threa
 
 FILES, PIPE, FIFO, REMOTE, UNTIMED, GROUP = "files", "pipe", "fifo", "remote", "untimed", "group"
 QUEUE, MEMORY, TRAPS, KEYLESS = "queue", "memory", "traps", "keyless"
-RESTS, FRONT = "sleep", "foreground"
+RESTS, FRONT, JOBS = "sleep", "foreground", "jobs"
+SIGQUIT = 3
 READ = ("read", "readv", "pread64", "preadv", "recvfrom", "recvmsg", "recvmmsg")
 SEND = ("sendto", "sendmsg", "sendmmsg")
 WRITE = ("write", "writev", "pwrite64", "pwritev", "vmsplice", *SEND)
@@ -117,10 +118,12 @@ def with_rest(premises: List[str], owners: List[Owner]) -> List[str]:
 
 def without_sparing(found: List[Thread], thread: Thread) -> List[Thread]:
     """Returns those of some threads who could end the wait of a thread by their code. One that is alone in its process
-    could end this too, and so let go of what it has."""
-    staying = {id(it.owner) for it in found if thread.call == "futex"}
+    could end this too, and so let go of what it has, unless it never does but tick. Where nobody could, those are left
+    who wait without a limit themselves."""
+    staying = {id(it.owner) for it in found if thread.call == "futex" or it.is_ticking}
     staying.update(id(it.owner) for it in found if any(not other.spares(thread) for other in it.owner.living))
-    return [it for it in found if id(it.owner) not in staying or not it.spares(thread)]
+    left = [it for it in found if id(it.owner) not in staying or not it.spares(thread)]
+    return left or [it for it in found if it.arguments and not has_limit(it)]
 
 
 # Descriptors
@@ -315,7 +318,7 @@ def ends_of_ipc(machine: Machine, thread: Thread) -> Ends:
     tops = tops if any(may_have_made(it, thread) for it in tops) else []
     tops += [it for top in tops for it in machine.later_branches(top)]
     owners = list(dict.fromkeys([*tops, *machine.below(tops)]))
-    if tops and not any(map(is_called, owners)):
+    if tops and not any(is_called(it, thread) for it in owners):
         ends.bound, ends.premises = threads_of(owners, thread, False), [KEYLESS]
     return ends
 
@@ -342,9 +345,9 @@ def top_of(machine: Machine, owner: Owner) -> Optional[Owner]:
     return None if owner.why or "session" not in owner.row else owner
 
 
-def is_called(owner: Owner) -> bool:
-    """Whether a process may do something at a signal from outside."""
-    return owner.catches_others(OF_ITSELF)
+def is_called(owner: Owner, thread: Thread) -> bool:
+    """Whether a process may do something at a signal from outside that ends the wait of a thread."""
+    return owner.catches_others(OF_ITSELF) and not thread.is_spared(owner.handled, owner)
 
 
 # Children and connections
@@ -370,10 +373,17 @@ def ends_of_wait(machine: Machine, thread: Thread) -> Ends:
         ends.choice = "" if ends.needs_all else choice_of(thread, children)
         ends.what = "a child, or all of them" if ends.choice else what
         front = in_front(thread.owner, children) if ends.choice else []
+        jobs = jobs_awaited(thread, children) if ends.choice and not front else []
         if front:
             ends.whom, ends.others, ends.choice = threads_of(front, thread, False), front, ""
             ends.what, ends.besides = "the child in the foreground", []
             ends.premises.append(FRONT)
+        elif jobs:
+            ends.whom, ends.others, ends.choice = threads_of(jobs, thread, False), jobs, ""
+            ends.what, ends.besides, ends.needs_all = "jobs", [], len(jobs) > 1
+            ends.premises.append(JOBS)
+        elif ends.choice and thread.row.get("builtin") == "any":
+            ends.choice = ""
     elif "group" in what:
         ends.premises.append(GROUP)
     return ends
@@ -438,6 +448,28 @@ def in_front(shell: Owner, children: List[Owner]) -> List[Owner]:
         return []
     is_last = front[0] is max(children, key=lambda it: (int(it.row.get("start", 0)), it.pid))
     return front if is_last and not pipes_between(shell, front[0]) else []
+
+
+def jobs_awaited(thread: Thread, children: List[Owner]) -> List[Owner]:
+    """Returns the children of a shell for all of which it waits, if its stack or its script says which these are, and
+    each is known to be one that it has started in the background: by its stack, by their signals, or as it starts so
+    many of them at once. What it reads from or writes to is no job."""
+    shell, builtin = thread.owner, thread.row.get("builtin", "")
+    awaits = shell.row.get("awaits", {})
+    is_known = is_shell(shell, BOURNE) and (awaits or builtin == "all" and shell.row.get("traps") is False)
+    if not is_known or shell.numbers[-1] == 1 or any(len(it.living) != 1 for it in children):
+        return []
+    jobs = [it for it in children if not pipes_between(shell, it)]
+    are_told = not shell.ignores(SIGINT) and all(it.ignores(SIGINT) and it.ignores(SIGQUIT) for it in children)
+    is_full = awaits and awaits["prompt"] == len(children) and not any(map(only_sleeps, children))
+    is_sure = bool(builtin) or shell.row.get("traps") is False and (are_told or is_full)
+    if builtin in ("front", "any") or not is_sure or len(jobs) < len(children) and builtin != "all":
+        return []
+    which = [] if builtin == "all" else awaits["which"]
+    if which and awaits["number"] != len(children) or builtin == "one" and not which:
+        return []
+    some = sorted(children, key=lambda it: (int(it.row.get("start", 0)), it.pid))
+    return [some[it - 1] for it in which] if which else jobs
 
 
 def pipes_between(shell: Owner, child: Owner) -> bool:
