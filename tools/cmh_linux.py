@@ -1435,32 +1435,54 @@ class Standing:
 
     def __init__(self, row: Row, thread: Row) -> None:
         self.folder, self.exe = f"/proc/{row['living']}/task/{thread['tid']}", str(row["exe"])
-        before = self.moment()
-        number, *_, pointer, place = (int(it, 0) for it in before[0].split()[:9])
-        self.is_asleep = calls_of(platform.machine()).get(number, "") in SLEEPS
         self.maps = [(int(first, 16), int(last, 16), ways, path)
                      for first, last, ways, path in MAPPED_CODE.findall(whole(f"{self.folder}/maps"))]
         self.code = [it for it in self.maps if "x" in it[2] and it[3] not in ("[vdso]", "[vsyscall]")]
         libraries = [it[3] for it in self.code if it[3] != self.exe]
         self.has_others = not all(map(OF_THE_SYSTEM.fullmatch, libraries))
         self.is_main = thread["tid"] == row["pid"]
-        stack = next((it for it in self.maps if it[0] <= pointer < it[1]), (0, 0, "", ""))
         self.memory = Memory(self.folder)
+        self.words: List[Tuple[str, int]] = []
         self.unwound: List[int] = []  # the addresses to which it returns, the innermost first
-        self.counted = before[0].split()[1:7], int(before[1])  # the arguments of its call, and how often it has slept
         try:
-            self.words: List[Tuple[str, int]] = []
+            place, kind, data = self.read()
             with contextlib.suppress(Unclear):
-                self.words = self.words_of(pointer, stack[1] - pointer)
-            with contextlib.suppress(Unclear, struct.error, IndexError):
-                for it in self.outward(pointer, place):
-                    self.unwound.append(it)
+                self.words = self.words_of(data)
+            self.unwind(place)
             self.within = next((it for it in self.unwound if self.path_at(it) == self.exe), 0)
-            if not all(map(LIBRARY.fullmatch, libraries)) or self.path_at(place) == self.exe \
-                    or self.is_main != (stack[3] == "[stack]") or self.moment() != before:
+            if not self.are_plain(libraries) or self.path_at(place) == self.exe or self.is_main != (kind == "[stack]"):
                 raise Unclear
         finally:
             self.memory.close()
+
+    def read(self) -> Tuple[int, str, bytes]:
+        """Returns where in its code a thread sleeps, which memory its stack is, and the stack, all of one sleep."""
+        self.before = self.moment()
+        number, *_, self.pointer, place = (int(it, 0) for it in self.before[0].split()[:9])
+        stack = next((it for it in self.maps if it[0] <= self.pointer < it[1]), (0, 0, "", ""))
+        size = stack[1] - self.pointer
+        data = self.memory.read(self.pointer, size) if 0 < size <= STACK else b""
+        self.is_asleep = calls_of(platform.machine()).get(number, "") in SLEEPS
+        # The arguments of its call, and how often it has slept.
+        self.counted = self.before[0].split()[1:7], int(self.before[1])
+        self.check_sleep()
+        return place, stack[3], data
+
+    def check_sleep(self) -> None:
+        """Raises Unclear where the thread has gone on since its stack was read."""
+        if self.moment() != self.before:
+            raise Unclear
+
+    def unwind(self, place: int) -> None:
+        """Finds to which addresses the thread returns."""
+        with contextlib.suppress(Unclear, struct.error, IndexError):
+            for it in self.outward(self.pointer, place):
+                self.unwound.append(it)
+        self.check_sleep()
+
+    def are_plain(self, libraries: List[str]) -> bool:
+        """Whether some files of code are libraries that lie where those of the system do."""
+        return all(map(LIBRARY.fullmatch, libraries))
 
     def outward(self, pointer: int, place: int) -> Iterator[int]:
         """Yields the addresses to which a thread returns, the innermost first, as long as these are known."""
@@ -1488,17 +1510,18 @@ class Standing:
             raise Unclear
         return path
 
-    def words_of(self, pointer: int, size: int) -> List[Tuple[str, int]]:
+    def words_of(self, data: bytes) -> List[Tuple[str, int]]:
         """Returns what on a stack may be addresses of code behind a call, each with its file. Raises Unclear where that
         is a handler of a signal, and where there is no such stack."""
-        data = self.memory.read(pointer, size) if 0 < size <= STACK else b""
         found = []
-        for word, in struct.iter_unpack("=Q", data[:len(data) // 8 * 8]):
+        self.places: List[int] = []  # of these words, from where the stack begins
+        for at, (word,) in enumerate(struct.iter_unpack("=Q", data[:len(data) // 8 * 8])):
             path = self.path_at(word)
             if path and END_OF_HANDLER.match(self.memory.read(word, 9)):
                 raise Unclear
             if path and BEHIND_CALL.search(self.memory.read(word - 7, 7)):
                 found.append((path, word))
+                self.places.append(8 * at)
         if not data:
             raise Unclear
         return found
