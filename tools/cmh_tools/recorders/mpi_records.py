@@ -19,6 +19,8 @@ from ..sketch import (ANY, DONE, ENDED, LIMIT, SYSTEM, UNKNOWN, Process, Sketch,
                       unknown, waits_for_all, waits_for_any)
 from . import State
 from .base import Moment, Premise, Recorder, misfits
+from .mpi_code import (FINALIZES, MEETS, RECEIVES, SENDS, THREADS, keep_ahead, spares, spares_all, unsparing,
+                       waits_for_its_poll)
 
 MARK, VERSION = "cmh-mpi ", 1
 EXPECTED = "lines of cmh_mpi_reader.py are expected"
@@ -40,7 +42,7 @@ REQUEST = [int, int, (int, str), int, int, (int, type(None))]
 THREAD = {"tid": int, "inner": int, "state": str, "call?": str, "calls?": int, "polls?": int, "name?": str,
           "kind?": int, "number?": int, "comm?": int, "partner?": (int, str), "tag?": int, "requests?": [object],
           "more?": int, "place?": [object], "fault?": str, "called?": str, "switches?": int,
-          "entered?": int}
+          "entered?": int, "ahead?": [str], "meanwhile?": [str], "looks?": bool}
 COMM = {"id": str, "number": int, "size": int, "rank": int, "inter": int, "root": int, "name": str,
         "ranks?": ([int], type(None)), "parent?": str, "made?": int, "held?": int, "target?": int,
         "alone?": int, "past?": [str]}
@@ -51,7 +53,7 @@ SHAPES = {"threads": RANK, "fault": {"pid": int, "fault": str, "rank?": int}, "e
           "reading": {"reading": int, "time": [float, float]}, "end": {"end": (int, str), "ranks?": int}}
 
 FUNNELED, FINALIZED, COMPUTES, MEET, LATE = "funneled", "finalize", "computes", "meet", "late"
-WOKEN, KEPT_BY = "woken", "kept"
+WOKEN, KEPT_BY, CODE, LOOKS = "woken", "kept", "code", "looks"
 
 
 @dataclass(eq=False)
@@ -91,6 +93,11 @@ class Rank:
     def names(self) -> List[str]:
         """Those of it that may send: its threads, or itself."""
         return [it.name for it in self.threads] or [self.name]
+
+    def enders(self, kind: str) -> List[str]:
+        """Those of it that may end a wait of a kind: all, if its calls so far aren't all known."""
+        is_known = self.threads and not self.is_hidden()
+        return [it.name for it in unsparing(self.threads, kind)] if is_known else self.names()
 
     def is_away(self) -> bool:
         """Whether it is in no call of MPI, or only looks into one now and then."""
@@ -230,7 +237,8 @@ def going_on(rank: Rank) -> List[Dict[str, Any]]:
     """Returns the other threads of a rank that go on by themselves, and may send for it. A job that hasn't asked for a
     level has said nothing of its threads."""
     has_said = rank.row.get("asked") == FUNNELS == rank.level
-    return [it for it in rank.others if it["state"] == "R" or it.get("call") in BY_ITSELF] if not has_said else []
+    return [it for it in rank.others if not spares_all(it) and (it["state"] == "R" or it.get("call") in BY_ITSELF)
+            ] if not has_said else []
 
 
 def doubted(thread: Thread, process: Process, going: List[Dict[str, Any]]) -> Process:
@@ -253,6 +261,9 @@ class RecordsRecorder(Recorder):
         MEET: Premise("ranks that are at different collective calls of a communicator don't meet"),
         LATE: Premise("a collective call to which all but one have come waits for that one"),
         WOKEN: Premise("no signal and no thread that MPI_Init has begun wakes a thread of the job"),
+        CODE: Premise("a thread that sleeps comes to no code but what its stack leads to, and no signal's handler or "
+                      "library sends, receives or comes to a collective call for it"),
+        LOOKS: Premise("one that looks for one thing again and again does so until that is there"),
         KEPT_BY: Premise("a lock of a window is kept by its target, or by the first rank there or of all"),
     }
 
@@ -288,6 +299,7 @@ class RecordsRecorder(Recorder):
         rows = (((rank.number, it["tid"]), it) for rank in ranks for it in rank.row.get("threads", []))
         for was, now in pairs_of(rows):
             note_ticks(was, now)
+            keep_ahead(was, now)
         size = max([rank.row.get("size", 0) for rank in ranks] + [max(pids, default=-1) + 1])
         missing = [it for it in range(size) if it not in pids]
         if missing:
@@ -329,7 +341,8 @@ class RecordsRecorder(Recorder):
             return made
         going = going_on(thread.rank)
         made = doubted(thread, made, going) if going and made.kind in (ANY, WAITS_FOR_ALL) else made
-        made.because.append(premise(FUNNELED))
+        are_spared = len(going) == 0 and any(map(spares_all, thread.rank.others))
+        made.because += [premise(FUNNELED), *([premise(CODE)] if are_spared else [])]
         return made
 
     def wait_of_thread(self, thread: Thread, moment: Job) -> Process:
@@ -337,14 +350,19 @@ class RecordsRecorder(Recorder):
         if thread.returns:
             more.update(frames=[], operation="", note="", objects=more["objects"][:1], count=None)
             return unknown(thread.name, RETURNS, proposal="none", **more)
+        if thread.kind in (0, POLL) and frees_none_of_the_job(thread.row):
+            more.update(thread.last_call() if thread.kind == 0 else {}, count=None)
+            return runs(thread.name, "it only looks and sleeps", [premise(LIMIT), premise(CODE)], **more)
         if thread.kind == 0:
             return outside(thread, more)
+        if thread.kind == POLL and waits_for_its_poll(thread.row) and "entered" in thread.row:
+            return waits_for_poll(thread, moment, more)
         if thread.kind == POLL:
             return polls(thread, moment, more)
         if thread.rank.in_finalize():
             return finalizes(thread, moment, more)
         if thread.kind in (ALL_OF, ANY_OF):
-            need = need_of_requests(thread, moment)
+            need = need_of_requests(thread, moment, thread.kind)
         else:
             need = need_of(thread, moment, thread.row)
         if need.why or need.choice and not need.whom:
@@ -355,6 +373,11 @@ class RecordsRecorder(Recorder):
             more.update(choice=(need.choice, []), proposal="any" if need.choice == UNSEEN else "all",
                         candidates=need.likely)
         return make(thread.name, need.whom, need.because, is_open=need.is_open, **more)
+
+
+def frees_none_of_the_job(row: Dict[str, Any]) -> bool:
+    """Whether a thread ends no wait, whatever comes, but of one who sends to it."""
+    return all(spares(row, kind) for kind in (SENDS, MEETS, FINALIZES, THREADS))
 
 
 def pairs_of(some: Iterable[Tuple[Any, Any]]) -> Iterator[Tuple[Any, Any]]:
@@ -413,7 +436,9 @@ def outside(thread: Thread, more: Dict[str, Any]) -> Process:
     if joined and "switches" in thread.row:
         return parked(thread, [it for it in others if str(it.row["tid"]) == joined], "pthread_join", [SYSTEM], more)
     if is_parked(thread.row) and not hidden and can_be_woken_by_its_own(thread):
-        return parked(thread, others, "futex", [SYSTEM, premise(WOKEN)], more)
+        left = unsparing(others, THREADS)
+        because = [SYSTEM, premise(WOKEN), *([premise(CODE)] if len(left) < len(others) else [])]
+        return parked(thread, left, "futex", because, more)
     if thread.is_new():
         return new_thread(thread, more)
     if call in BY_ITSELF:
@@ -471,6 +496,19 @@ def hidden_calls(row: Dict[str, Any]) -> str:
     return NEW_CALL if row["standard"] >= NEW_CALLS else ""
 
 
+def waits_for_poll(thread: Thread, moment: Job, more: Dict[str, Any]) -> Process:
+    """Returns a thread that frees nobody before what it looks for is there."""
+    rows = thread.row.get("requests")
+    kind = ANY_OF if thread.row["name"] in ("Testany", "Testsome") else ALL_OF
+    need = need_of_requests(thread, moment, kind) if rows else need_of(thread, moment, looked_for(thread)[0])
+    if need.why or need.choice:
+        return polls(thread, moment, more)
+    more["count"] = f"{thread.calls}/{thread.row['entered']}"
+    make = waits_for_all if need.needs_all else waits_for_any
+    because = list(dict.fromkeys([*need.because, premise(CODE), premise(LOOKS)]))
+    return make(thread.name, need.whom, because, is_open=need.is_open, **more)
+
+
 def polls(thread: Thread, moment: Job, more: Dict[str, Any]) -> Process:
     """Returns a thread whose last call has looked for something and found nothing."""
     rows = looked_for(thread)
@@ -483,9 +521,12 @@ def polls(thread: Thread, moment: Job, more: Dict[str, Any]) -> Process:
 
 
 def finalizes(thread: Thread, moment: Job, more: Dict[str, Any]) -> Process:
-    working = [name for rank in moment.ranks.values() if not rank.in_finalize() for name in rank.names()[:1]]
+    left = [rank for rank in moment.ranks.values() if not rank.in_finalize()]
+    working = [name for rank in left for name in rank.names()[:1]]
     if not working:
         return unknown(thread.name, "all ranks of the state have come to MPI_Finalize", **more)
+    if not all(rank.enders(FINALIZES) for rank in left):
+        return waits_for_any(thread.name, [], [premise(FINALIZED), premise(CODE)], is_open=True, **more)
     return waits_for_all(thread.name, working, [premise(FINALIZED)], is_open=True, **more)
 
 
@@ -588,10 +629,12 @@ def need_of_message(thread: Thread, moment: Job, comm: Dict[str, Any], row: Dict
     halves = [it for it in wanted if is_under_way(thread.rank, moment.ranks[it], comm, row)]
     if halves:
         return Need(why=f"rank {halves[0]} has begun the other half of its message, which may be on its way")
-    names = [name for it in wanted for name in moment.ranks[it].names()]
+    kind = RECEIVES if row["kind"] == SEND else SENDS
+    every = [name for it in wanted for name in moment.ranks[it].names()]
+    names = [name for it in wanted for name in moment.ranks[it].enders(kind)]
     # (A thread can't send to itself while it waits, unless nobody else could.)
     others = [name for name in names if name != thread.name]
-    return Need(others or names, because=[SYSTEM])
+    return Need(others or names, because=[SYSTEM, *([premise(CODE)] if len(names) < len(every) else [])])
 
 
 def late_of(moment: Job, comm: Dict[str, Any], number: int, name: str, root: int) -> Late:
@@ -683,7 +726,11 @@ def all_of(ranks: List[int], moment: Job, late: Late) -> Need:
         return Need(why="all ranks of its communicator that are in the state have come")
     if not ranks:
         return Need(why="all ranks of its communicator have come")
-    names = [moment.ranks[it].names() for it in ranks]
+    names = [moment.ranks[it].enders(MEETS) for it in ranks]
+    if any(len(some) < len(moment.ranks[it].names()) for it, some in zip(ranks, names)):
+        because.append(premise(CODE))
+    if not all(names):
+        return Need([], because=because, is_open=late.is_open)
     if len(ranks) == 1:
         return Need(names[0], len(names[0]) == 1, because=because, is_open=late.is_open)
     if any(len(some) > 1 for some in names):
@@ -727,7 +774,7 @@ def row_name(thread: Thread, row: Dict[str, Any]) -> str:
     return str(comm["name"]) if comm.get("number") == row["number"] else ""
 
 
-def need_of_requests(thread: Thread, moment: Job) -> Need:
+def need_of_requests(thread: Thread, moment: Job, kind: int) -> Need:
     """Returns what a call needs that waits for requests: all of them, or any."""
     rows = requests_of(thread)
     number = len([it for it in thread.row.get("requests", []) if it[0]])
@@ -742,22 +789,22 @@ def need_of_requests(thread: Thread, moment: Job) -> Need:
     because = list(dict.fromkeys(reason for it in needs for reason in it.because))
     is_open = any(it.is_open for it in needs)
     if all((it.whom, it.needs_all, it.choice) == (needs[0].whom, needs[0].needs_all, needs[0].choice) for it in needs
-           ) and (thread.kind == ALL_OF or number == len(rows)):
+           ) and (kind == ALL_OF or number == len(rows)):
         return Need(whom, needs[0].needs_all, because=because, is_open=is_open, choice=needs[0].choice)
-    if thread.kind == ANY_OF and number > len(rows):
+    if kind == ANY_OF and number > len(rows):
         return Need(whom, why="one of its requests is complete, so it may be about to go on")
-    choice = next(choices_of(thread, rows, needs), "")
-    return Need(whom, thread.kind == ALL_OF or choice != "", because=because, is_open=is_open, choice=choice)
+    choice = next(choices_of(kind, rows, needs), "")
+    return Need(whom, kind == ALL_OF or choice != "", because=because, is_open=is_open, choice=choice)
 
 
-def choices_of(thread: Thread, rows: List[Dict[str, Any]], needs: List[Need]) -> Iterator[str]:
+def choices_of(kind: int, rows: List[Dict[str, Any]], needs: List[Need]) -> Iterator[str]:
     """Yields why it isn't known which of those that its requests need a call waits for."""
     yield from (it.choice for it in needs if it.choice)
-    if thread.kind == ANY_OF and any(len(it.whom) > 1 and it.needs_all for it in needs):
+    if kind == ANY_OF and any(len(it.whom) > 1 and it.needs_all for it in needs):
         yield "one of its requests is of a collective call, and needs all of several"
-    if thread.kind == ALL_OF and any(row["complete"] is None for row in rows):
+    if kind == ALL_OF and any(row["complete"] is None for row in rows):
         yield UNSEEN
-    if thread.kind == ALL_OF and any(len(it.whom) > 1 and not it.needs_all for it in needs):
+    if kind == ALL_OF and any(len(it.whom) > 1 and not it.needs_all for it in needs):
         yield "one of its requests may be ended by any of several, and others by another one"
 
 

@@ -10,7 +10,7 @@
 #include <time.h>
 #include <unistd.h>
 
-enum { TAG = 7, LATER = 8, MANY = 100000 };
+enum { TAG = 7, LATER = 8, LAST = 9, MANY = 100000 };
 static int rank, size, is_slow, it;
 static double *edge;
 static MPI_Comm world;
@@ -68,6 +68,73 @@ static void watched(void) {
     if (rank < 3)
         receive(0, TAG);
 }
+/* Rank 3 looks until rank 0 tells it something, or in the healthy job sends what rank 0 waits for after some time. */
+static void nap(void) { nanosleep(&(struct timespec){0, 100000000}, NULL); }
+static void guard(void) {
+    for (int flag;;) {
+        MPI_Iprobe(0, TAG, world, &flag, MPI_STATUS_IGNORE);
+        if (flag)
+            break;
+        nap();
+    }
+    receive(0, TAG);
+}
+static void guard_for_a_time(void) {
+    for (int flag, looks = 0; looks < 6000; looks++) {
+        MPI_Iprobe(0, TAG, world, &flag, MPI_STATUS_IGNORE);
+        if (flag)
+            return;
+        nap();
+    }
+    send(0, LATER);
+}
+static void wait_for_results(void) {
+    for (int result = 0; rank == 0 && result < 2; result++)
+        receive(MPI_ANY_SOURCE, LATER);
+    if (rank == 1)
+        send(0, LATER);
+    receive(0, TAG);
+}
+static void guarded(void) { rank < 3 ? wait_for_results() : is_slow ? guard_for_a_time() : guard(); }
+/* The same beside a rank that only sleeps, which in the healthy job sends in the end. */
+static void tick(void) {
+    for (int ticks = 0; ticks < 6000; ticks++)
+        nap();
+}
+static void tick_and_send(void) {
+    tick();
+    send(0, LATER);
+}
+static void ticking(void) { rank < 3 ? wait_for_results() : is_slow ? tick_and_send() : tick(); }
+/* Rank 0 looks for requests and answers them, and the others wait for an answer. In the healthy job it comes to look
+   for another tag, and a message with that is there. */
+static void answer(void) {
+    for (int flag;;) {
+        MPI_Status from;
+        MPI_Iprobe(MPI_ANY_SOURCE, LATER, world, &flag, &from);
+        if (flag) {
+            receive(from.MPI_SOURCE, LATER);
+            send(from.MPI_SOURCE, TAG);
+        } else
+            nap();
+    }
+}
+static void answer_in_turn(void) {
+    for (int flag, looks = 0;; looks++) {
+        MPI_Status from;
+        MPI_Iprobe(MPI_ANY_SOURCE, looks < 6000 ? LATER : LAST, world, &flag, &from);
+        if (flag) {
+            receive(from.MPI_SOURCE, LAST);
+            send(from.MPI_SOURCE, TAG);
+        } else
+            nap();
+    }
+}
+static void ask(void) {
+    send(0, is_slow ? LAST : TAG);
+    receive(0, TAG);
+}
+static void desk(void) { rank > 0 ? ask() : is_slow ? answer_in_turn() : answer(); }
 /* Rank 0 is in a broadcast, the others at a barrier. */
 static void mismatch(void) {
     if (rank == 0)
@@ -385,6 +452,7 @@ static void asked(void) {
 
 static const struct { const char *name; int ranks, level; void (*work)(void); } JOBS[] = {
     {"send_ring", 4, 0, send_ring}, {"wrong_source", 4, 0, wrong_source}, {"watched", 4, 0, watched},
+    {"guarded", 4, 0, guarded}, {"ticking", 4, 0, ticking}, {"desk", 3, 0, desk},
     {"mismatch", 3, 0, mismatch},
     {"waitall", 3, 0, waitall}, {"waitany", 3, 0, waitany}, {"any_source", 3, 0, any_source}, {"grid", 4, 0, grid},
     {"sendrecv", 4, 0, sendrecv}, {"ibarrier", 3, 0, ibarrier}, {"token", 4, 0, token}, {"polls", 2, 0, polls},
