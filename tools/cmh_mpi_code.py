@@ -494,6 +494,11 @@ class Stack(Standing):
     def path_at(self, address: int) -> str:
         return next((it[3] for it in self.code if it[0] <= address < it[1]), "")
 
+    def unwind(self, place: int) -> None:
+        """Its frames are chained by their sizes, as it may sleep for a moment alone. Raises Unclear without a stack."""
+        if not self.words:
+            raise Unclear
+
 
 class MpiProgram(Program):
     """The machine code of a program of MPI. Its libraries `call_back` if they may call it on the stack of a thread."""
