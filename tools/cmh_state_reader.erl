@@ -24,6 +24,7 @@
                     'Elixir.Task.Supervised', supervisor]).
 
 %% The applications of Erlang's or Elixir's own.
+-define(AGENT, 'Elixir.Agent.Server').
 -define(SYSTEM, [kernel, stdlib, elixir, logger, iex, mnesia, crypto, asn1]).
 
 print(Modules, Nodes) -> print(Modules, Nodes, 5).
@@ -208,7 +209,7 @@ firm_ones(Places, Rows, {Code, Names, Ticks} = Known) ->
 %% The code as it goes on where no message comes.
 without_messages(Code) ->
     maps:map(fun(_, Instructions) ->
-                 [case Each of {loop_rec, Label, _} -> {jump, Label}; _ -> Each end || Each <- Instructions]
+                 lists:flatmap(fun({loop_rec, Label, _} = Each) -> [{jump, Label}, Each]; (Each) -> [Each] end, Instructions)
              end, Code).
 
 %% Whether no receive on the way takes what timers tell, or the end of whom it begins to monitor.
@@ -350,10 +351,15 @@ aimed_at(_, _) -> aimed.
 is_so(mute, {frames, Frames}, {Code, _, _} = Known) ->
     lists:all(fun(Frame) -> is_map_key(Frame, Code) end, Frames) andalso Frames =/= [] andalso
         is_endless(lists:last(Frames), Code) andalso is_harmless(closure([{Each, #{}} || Each <- Frames], Code), Known);
+is_so(deaf, {loop, ?AGENT, _}, _) -> true; % (what a fun does that it is given, does who gives it)
 is_so(deaf, {loop, Module, _}, {Code, _, _} = Known) ->
     Own = [{Function, #{}} || {Of, Name, _} = Function <- maps:keys(Code), Of =:= Module,
                               lists:member(Name, [handle_call, handle_cast, handle_continue, handle_info])],
-    Own =/= [] andalso is_harmless(closure(Own, Code), Known);
+    Own =/= [] andalso is_harmless(closure(Own, Code) -- [raises], Known);
+is_so(deaf, {frames, [_ | _] = Frames}, {Code, _, _} = Known) ->
+    lists:all(fun(Frame) -> is_map_key(Frame, Code) end, Frames)
+        andalso is_harmless(closure([{Each, #{}} || Each <- Frames], Code) -- [raises], Known);
+is_so(wakes, {loop, ?AGENT, Limits}, _) -> Limits =/= [];
 is_so(wakes, {loop, Module, Limits}, {Code, _, Ticks} = Known) ->
     Own = [{atom, timeout} || Limits =/= []] ++ Ticks,
     not is_map_key({Module, module_info, 0}, Code)
@@ -377,37 +383,66 @@ is_so(wakes, {frames, []}, _) -> true;
 is_so(_, _, _) -> false.
 
 %% Whether nothing of what is done tells anybody else something to which that does anything.
-is_harmless(Effects, Known) -> lists:all(fun(Each) -> is_harmless_one(Each, Known) end, Effects).
+is_harmless(Effects, Known) -> is_harmless(Effects, Known, []).
 
-is_harmless_one({sends, Kind, Name, Message}, {_, Names, _} = Known) ->
+is_harmless(Effects, Known, Seen) -> lists:all(fun(Each) -> is_harmless_one(Each, Known, Seen) end, Effects).
+
+is_harmless_one({sends, agent, Name, _}, {_, Names, _}, _) -> maps:get(Name, Names, none) =:= {?AGENT, loop};
+is_harmless_one({sends, Kind, Name, Message}, {_, Names, _} = Known, Seen) ->
     case Names of
-        #{Name := {Module, loop}} -> is_silent(Module, Kind, Message, Known, []);
-        #{Name := {Module, calls}} when Kind =/= call -> is_silent(Module, Kind, Message, Known, []);
+        #{Name := {Module, loop}} -> is_silent(Module, Kind, Message, Known, Seen);
+        #{Name := {Module, calls}} when Kind =/= call -> is_silent(Module, Kind, Message, Known, Seen);
+        #{Name := {[_ | _] = Frames, waits}} when Kind =:= info -> is_noted(Frames, Message, Known, Seen);
         _ -> false % (one in the middle of a callback may take it there, or be late with an answer)
     end;
-is_harmless_one({tick, _}, _) -> true;
-is_harmless_one(Each, _) -> not lists:member(Each, [aimed, dynamic, loud]).
+is_harmless_one({tick, _}, _, _) -> true;
+is_harmless_one(Each, _, _) -> not lists:member(Each, [aimed, dynamic, loud, raises]).
+
+%% Whether a process that waits in a receive of its own for its next message tells nobody anything for this one, and
+%% comes back to the same receive, without another one meanwhile.
+is_noted([Top | _], Message, {Code, _, _} = Known, Seen) ->
+    Now = {Top, info, Message},
+    Instructions = [case Each of {loop_rec_end, _} -> if_end; _ -> Each end || Each <- maps:get(Top, Code, [])],
+    Begins = [{Rest, #{plain(Register) => Message}} || [{loop_rec, _, Register} | Rest] <- tails(Instructions)],
+    Own = walked(Begins, parts_by_label(Instructions)),
+    Others = maps:remove(Top, Code),
+    Called = [Other || {Word, Other} <- Own, Word =:= calls orelse Word =:= tail],
+    All = Own ++ closure([{Other, #{}} || Other <- Called, is_map_key(Other, Others)], Others)
+        ++ [loud || {calls, Other} <- Own, not is_map_key(Other, Others)],
+    lists:member(Now, Seen) orelse Begins =/= [] andalso do_come_back(Own, Top, Others, [])
+        andalso not lists:any(fun(Other) -> receives_in(Other, Others) end, Called ++ [It || {_, It} <- All])
+        andalso is_harmless(All, Known, [Now | Seen]).
+
+%% Whether all ways through a function end in another one that is called as the last thing.
+do_come_back(Effects, Top, Code, Seen) ->
+    lists:all(fun({returns, _}) -> false;
+                 ({tail, Next}) -> lists:member(Next, [Top | Seen]) orelse is_failure(Next)
+                                       orelse is_map_key(Next, Code)
+                                       andalso do_come_back(effects(Next, #{}, Code), Top, Code, [Next | Seen]);
+                 (_) -> true
+              end, Effects).
+
+receives_in(Function, Code) ->
+    lists:any(fun(Each) -> is_tuple(Each) andalso element(1, Each) =:= loop_rec end, maps:get(Function, Code, [])).
 
 %% Whether a server of a module that has this message tells nobody anything and goes on, but for an answer to who asks.
 is_silent(Module, Kind, Message, {Code, _, _} = Known, Seen) ->
     {Name, Arity} = case Kind of call -> {handle_call, 3}; cast -> {handle_cast, 2}; info -> {handle_info, 2} end,
     Function = {Module, Name, Arity},
-    Now = {Kind, Message},
+    Now = {Module, Kind, Message},
     lists:member(Now, Seen) orelse is_map_key(Function, Code) andalso begin
         Effects = closure([{Function, #{{x, 0} => Message}}], Code),
         Ends = ends(Function, #{{x, 0} => Message}, Code, []),
         Told = case Ends of none -> [any]; _ -> lists:flatmap(fun wakes_by/1, Ends) end,
         Next = Told ++ [It || {tick, It} <- Effects] ++ ends_heard(Effects),
         not lists:member(any, Next)
-            andalso lists:all(fun(Each) -> not is_sending(Each) andalso is_harmless_one(Each, Known) end, Effects)
+            andalso is_harmless(Effects, Known, [Now | Seen])
             andalso lists:all(fun(It) -> is_silent(Module, info, It, Known, [Now | Seen]) end, Next)
     end.
 
 %% What is told of the end of whom it begins to monitor: at once, if that isn't there.
 ends_heard(Effects) ->
     [{tuple, [{atom, 'DOWN'}, any, any, any, any]} || lists:member(monitors, Effects)].
-
-is_sending(Each) -> is_tuple(Each) andalso element(1, Each) =:= sends.
 
 %% What a server is told next by itself that has returned a value, `any` if it may stop.
 wakes_by({tuple, [{atom, noreply}, _]}) -> [];
@@ -666,10 +701,13 @@ value({literal, Term}, _) -> constant(Term);
 value(nil, _) -> {constant, []};
 value(Register, Known) -> maps:get(plain(Register), Known, any).
 
+%% What makes a text of a report.
+-define(REPORTS, [{'Elixir.GenServer', format_report, 1}, {gen_server, format_log, 1}, {logger, format_report, 1}]).
+
 constant(Term) when is_atom(Term) -> {atom, Term};
 constant(Term) when is_integer(Term) -> {integer, Term};
 constant(Term) when is_tuple(Term) -> {tuple, lists:map(fun constant/1, tuple_to_list(Term))};
-constant(Term) -> case funs_among([Term]) of [] -> {constant, Term}; _ -> any end.
+constant(Term) -> case funs_among([Term]) -- ?REPORTS of [] -> {constant, Term}; _ -> any end.
 
 %% Whether a test on a value is known to hold.
 holds(_, any, _) -> unknown;
@@ -731,6 +769,11 @@ outcome(erlang, send, [To, Message | _]) -> [sent(To, Message)];
 outcome(erlang, apply, [_, Name, _]) -> [dynamic | [aimed || may_begin(Name, any)]];
 outcome(erlang, error, [{tuple, [{atom, Word} | _]} | _]) when Word =:= bad_filter; Word =:= bad_generator;
                                                           Word =:= badkey; Word =:= badmap; Word =:= badrecord -> [];
+outcome(erlang, Name, Given) when Name =:= error; Name =:= raise; Name =:= throw; Name =:= exit, length(Given) =:= 1 ->
+    [raises];
+outcome('Elixir.Agent', Way, [{atom, Name}, {function, _} | _]) when Way =:= cast; Way =:= get; Way =:= get_and_update;
+                                                                   Way =:= update ->
+    [{sends, agent, Name, any}];
 outcome(Server, call, [{atom, Name}, Request | _]) when Server =:= gen_server; Server =:= 'Elixir.GenServer' ->
     [{sends, call, Name, Request}];
 outcome(Server, cast, [{atom, Name}, Request]) when Server =:= gen_server; Server =:= 'Elixir.GenServer' ->
@@ -781,7 +824,7 @@ outcome(Module, Name, Given) ->
                                                warning_report]]
               ++ [{os, Of} || Of <- [getenv, getpid, perf_counter, system_time, timestamp]]
               ++ [{timer, Of} || Of <- [hms, hours, minutes, now_diff, seconds, sleep, tc]]
-              ++ [{'Elixir.Kernel', inspect}, {persistent_term, get}]
+              ++ [{'Elixir.Kernel', inspect}, {persistent_term, erase}, {persistent_term, get}, {persistent_term, put}]
               ++ [{Of, exception} || Of <- ['Elixir.ArgumentError', 'Elixir.KeyError', 'Elixir.RuntimeError']]).
 %% Of the pure ones, those that do more than their module.
 -define(WILD, [{'Elixir.System', Of} || Of <- [at_exit, cmd, halt, restart, shell, stop, trap_signal]]
@@ -804,10 +847,10 @@ may_be_funs(lists, Name, [Fun | _]) ->
                                 mapfoldl, mapfoldr, merge, partition, search, sort, splitwith, takewhile, umerge, uniq,
                                 usort, zf, zipwith, zipwith3])];
 may_be_funs(maps, Name, Given) ->
-    case lists:member(Name, [filter, filtermap, fold, foreach, groups_from_list, intersect_with, map, merge_with,
-                             update_with]) of
-        true -> lists:sublist(Given, 2);
-        false -> []
+    case lists:member(Name, [filter, filtermap, fold, foreach, groups_from_list, intersect_with, map, merge_with]) of
+        true when Name =:= groups_from_list -> lists:droplast(Given);
+        true -> [hd(Given)];
+        false -> [lists:nth(2, Given) || Name =:= update_with]
     end;
 %% What is printed goes to a device, which may be a process of the program.
 may_be_funs(Module, Name, [Device | _] = Given) when Module =:= io; Module =:= 'Elixir.IO' ->
@@ -1253,7 +1296,7 @@ text(P, Info, Place, Before, After) ->
                          "{place,~b}~n",
                          [list(references(Info)), list(may_end(Info)), closures(Info), code_of(Info),
                           list(strategies(Info)), kept(Info), Number]),
-    {[{place, Number, Place} | named_of(Info)] ++ calls_of(Info),
+    {[{place, Number, Place} | named_of(Info, Place)] ++ calls_of(Info),
      [io_lib:format("=process ~p ~ts~n", [P, node()]), Before, More, Lines, After]}.
 
 %% Where a process is, for what it may do next: a server in its loop, with its limit if it has one, what an idle manager
@@ -1264,9 +1307,9 @@ place_of(Info) ->
     Frames = [{Module, Name, Arity} || {Module, Name, Arity, _} <- Stack],
     case {Frames, start_of(Info)} of
         {[{gen_server, loop, _} | _], [Module]} -> % (a server may have entered another one's loop)
-            case is_served_by(Module, Info) of
-                true -> {loop, Module, on_top(Info, "^y[(][0-9]+[)] +[0-9]+$")};
-                false -> none
+            case [Of || Of <- [?AGENT, Module], is_served_by(Of, Info)] of
+                [Of | _] -> {loop, Of, on_top(Info, "^y[(][0-9]+[)] +[0-9]+$")};
+                [] -> none
             end;
         {[{gen_statem, loop_receive, _} | _], [Module]} ->
             case on_stack(Info, "#{t0q=>\\[\\]}") of [_ | _] -> {statem, Module}; _ -> none end; % (it has no timer)
@@ -1352,13 +1395,15 @@ is_plain_text() ->
 
 frames_of(Frames, Started, Count) ->
     Below = case lists:reverse(Frames) of
-        [{proc_lib, _, _} | Rest] when Started =/= [] -> lists:reverse(Rest);
+        [{proc_lib, _, _} | Rest] when Started =/= [] -> lists:reverse(lists:dropwhile(fun is_of_task/1, Rest));
         _ -> Frames
     end,
     Own = lists:dropwhile(fun({Module, _, _}) -> is_known_of_otp(Module) end, Below),
     IsWhole = Count =:= length(Frames) + 1
         andalso not lists:any(fun({Module, _, _}) -> is_known_of_otp(Module) end, Own),
     case IsWhole of true -> {frames, Own}; false -> none end.
+
+is_of_task({Module, _, _}) -> Module =:= 'Elixir.Task.Supervised'.
 
 %% How often some words are on a stack.
 number_on_stack(Info, Words) ->
@@ -1376,17 +1421,22 @@ is_known_of_otp(Module) ->
     end.
 
 %% A server that has a name, as one that others may tell something by that.
-named_of(Info) ->
+named_of(Info, {told, {loop, _, _} = Place}) -> named_of(Info, Place);
+named_of(Info, Place) ->
     {_, Stack} = lists:keyfind(current_stacktrace, 1, Info),
-    case {lists:keyfind(registered_name, 1, Info), start_of(Info)} of
-        {{_, Name}, [Module]} when is_atom(Name), Stack =/= [] ->
-            case hd(Stack) of
-                {gen_server, loop, _, _} -> [{named, Name, {Module, loop}} || is_served_by(Module, Info)];
-                {gen, do_call, _, _} -> [{named, Name, {Module, calls}} || lists:keymember(gen_server, 1, tl(Stack))];
-                _ -> []
-            end;
+    IsFree = lists:keyfind(messages, 1, Info) =:= {messages, []}
+        andalso lists:keyfind(status, 1, Info) =:= {status, waiting},
+    case {lists:keyfind(registered_name, 1, Info), start_of(Info), Place} of
+        {{_, Name}, _, {frames, [Top | _] = Frames}} when is_atom(Name), IsFree ->
+            [{named, Name, {Frames, waits}} || Top =:= top_of(Stack)];
+        {{_, Name}, _, {loop, Module, _}} when is_atom(Name) -> [{named, Name, {Module, loop}}];
+        {{_, Name}, [Module], _} when is_atom(Name), Stack =/= [], element(1, hd(Stack)) =:= gen ->
+            [{named, Name, {Module, calls}} || element(2, hd(Stack)) =:= do_call, lists:keymember(gen_server, 1, tl(Stack))];
         _ -> []
     end.
+
+top_of([{Module, Name, Arity, _} | _]) -> {Module, Name, Arity};
+top_of([]) -> none.
 
 %% Whether a server in its loop runs the module that it began in, as one that has entered the loop later need not.
 is_served_by(Module, Info) ->
