@@ -186,12 +186,13 @@ ways(Places, Code) ->
     Rows = [{Number, [Word || Word <- [mute, deaf, wakes], is_so(Word, Place, Known)]
                      ++ [Word || Place =:= {frames, []}, Word <- Stays]}
             || {place, Number, Place} <- lists:usort(Places), Place =/= none],
+    Permits = permits(Places, Known),
     More = firm_ones(Places, Rows, Known),
     Plain = [{Module} || {Module, [_ | _] = Found} <- Told, lists:all(fun is_plain/1, Found)],
     Outside = [{Module} || {Module, Found} <- Told, lists:member(aimed, Found)],
     Grants = [{Module, list_to_atom(Tag)} || {Module, handle_call, 3} <- maps:keys(Code), Tag <- granted(Module, Code)],
     [{"places", [{Number, Words ++ maps:get(Number, More, [])} || {Number, Words} <- Rows]},
-     {"ticks", Plain}, {"outside", Outside}, {"grants", Grants}].
+     {"ticks", Plain}, {"outside", Outside}, {"grants", Grants}, {"permits", Permits}].
 
 %% Who goes on as long as no message comes, and who of them doesn't fail by itself, by the numbers of their places.
 firm_ones(Places, Rows, {Code, Names, Ticks} = Known) ->
@@ -274,6 +275,136 @@ requests_in([{test, is_eq_exact, _, [_, {atom, Tag}]} | Rest], Found) ->
 requests_in([{select_val, _, _, {list, Cases}} | Rest], Found) ->
     requests_in(Rest, [{Tag, 0, {atom, Tag}} || {atom, Tag} <- Cases] ++ Found);
 requests_in([_ | Rest], Found) -> requests_in(Rest, Found).
+
+%% The requests of servers for which these give away what each who has it gives back, as TAG/SIZE: a pool, a lock. By all
+%% code of the program: who has asked gives it back, on each of its ways, and nobody else does. And the places at which
+%% one may have it that waits for a message.
+permits(Places, {Code, Names, _}) ->
+    Servers = lists:usort([Module || {place, _, {loop, Module, _}} <- Places, is_map_key({Module, handle_call, 3}, Code)]),
+    [{Module, list_to_atom(lists:concat([Tag, "/", Size])), having(Given, Places, Code)}
+     || Module <- Servers, Given <- [given_back(Module, Code)], Given =/= [], {Tag, Size, Value} <- kept_by(Module, Code),
+        is_permit({[Name || {Name, {Of, loop}} <- maps:to_list(Names), Of =:= Module], Module, {Tag, Size, Value}, Given},
+                  Code, callers_in(Code))].
+
+%% The requests whose callers a server may keep.
+kept_by(Module, Code) ->
+    Function = {Module, handle_call, 3},
+    [Request || {_, _, Value} = Request <- requests(Function, Code), is_list(ends(Function, #{{x, 0} => Value}, Code, [])),
+                lists:any(fun({tuple, [{atom, noreply} | _]}) -> true; (_) -> false end,
+                          ends(Function, #{{x, 0} => Value}, Code, []))].
+
+%% What a server is told by which it may answer those that it keeps, but for the end of somebody; none if that may be
+%% anything.
+given_back(Module, Code) ->
+    Ways = [{Kind, {Module, Name, Arity}} || {Kind, Name, Arity} <- [{call, handle_call, 3}, {cast, handle_cast, 2},
+                                                                    {info, handle_info, 2}]],
+    All = [{Kind, Tag, Value} || {Kind, Function} <- Ways,
+                                 {Tag, _, Value} <- [{none, 0, {atom, '$other'}} | requests(Function, Code)],
+                                 not lists:member(Tag, ['DOWN', 'EXIT']),
+                                 is_map_key(Function, Code), answers(closure([{Function, #{{x, 0} => Value}}], Code))],
+    case lists:keymember(none, 2, All) of true -> []; false -> [{Kind, Value} || {Kind, _, Value} <- All] end.
+
+answers(Effects) -> lists:any(fun({calls, {_, reply, _}}) -> true; (_) -> false end, Effects).
+
+%% The places in receives at which one may give something back.
+having(Given, Places, Code) ->
+    [Number || {place, Number, {frames, [_ | _] = Frames}} <- lists:usort(Places),
+               lists:any(fun(Each) -> is_given_back(Each, any, Given) end, closure([{Each, #{}} || Each <- Frames], Code))].
+
+%% Whether what is sent is one of these, to a server of these names.
+is_given_back({sends, Kind, Name, Message}, Names, Given) ->
+    (Names =:= any orelse lists:member(Name, Names)) andalso is_given_back({posts, Kind, Message}, Names, Given);
+is_given_back({posts, Kind, Message}, _, Given) ->
+    lists:any(fun({Of, Value}) -> Of =:= Kind andalso is_like(Message, Value) end, Given);
+is_given_back(_, _, _) -> false.
+
+%% Whether a message has the tag and the size of another one.
+is_like({tuple, [Tag | _] = Parts}, {tuple, [Tag | _] = Others}) -> length(Parts) =:= length(Others);
+is_like(Message, Message) -> Message =/= any;
+is_like(_, _) -> false.
+
+is_permit({Names, Module, {Tag, _, Value}, Given} = Server, Code, Callers) ->
+    Others = [Of || {Of, handle_call, 3} = Function <- maps:keys(Code), Of =/= Module,
+                    lists:keymember(Tag, 1, requests(Function, Code))],
+    IsOwn = not lists:any(fun({Kind, Other}) -> Kind =:= call andalso is_like(Value, Other) end, Given),
+    Dealing = [{Function, Each} || {{Of, Name, _} = Function, Each} <- sends_in(Code),
+                                   not (Of =:= Module andalso lists:member(Name, [handle_call, handle_cast, handle_info])),
+                                   is_given_back(Each, Names, Given) orelse is_asked(Each, Names, Value)],
+    IsAll = lists:all(fun(One) -> lists:any(fun({_, Each}) -> is_given_back(Each, Names, [One]) end, Dealing) end, Given),
+    IsPlain = not lists:any(fun({_, {sends, _, Name, any}}) -> lists:member(Name, Names); (_) -> false end, sends_in(Code)),
+    Others =:= [] andalso IsOwn andalso IsAll andalso IsPlain
+        andalso is_even(Server, lists:usort([Function || {Function, _} <- Dealing]), Code, Callers).
+
+%% Whether each function gives back as often as it asks, or leaves that to those that call it; and none gives anything
+%% back that it doesn't have.
+is_even(Server, Dealing, Code, Callers) ->
+    {Asking, Giving} = dealers({[], []}, Server, Dealing, Code, Callers, 8),
+    Near = near(Asking ++ Giving, Dealing, Callers),
+    Free = [Each || Each <- Near, lists:member(gives, dealings(Each, 0, {Server, Asking, Giving}, Code))],
+    lists:any(fun(Each) -> lists:member(asks, dealings(Each, 0, {Server, Asking, Giving}, Code)) end, Near)
+        andalso Free -- Giving =:= []
+        andalso lists:all(fun(Each) -> maps:get(Each, Callers, []) -- [Each] =/= [] andalso not is_fun(Each) end,
+                          Asking ++ Giving).
+
+%% The functions that leave whom calls them with one thing more, and those that give one back.
+dealers(Known, _, _, _, _, 0) -> Known;
+dealers({Asking, Giving}, Server, Dealing, Code, Callers, Times) ->
+    Near = near(Asking ++ Giving, Dealing, Callers),
+    Rules = {Server, Asking, Giving},
+    More = {[Each || Each <- Near, not lists:member(Each, Giving), lists:member(leaves, dealings(Each, 0, Rules, Code))],
+            [Each || Each <- Near, gives_one(dealings(Each, 1, Rules, Code))]},
+    case More of
+        {Asking, Giving} -> More;
+        _ -> dealers(More, Server, Dealing, Code, Callers, Times - 1)
+    end.
+
+near(Some, Dealing, Callers) -> lists:usort(Dealing ++ lists:append([maps:get(Each, Callers, []) || Each <- Some])).
+
+gives_one(Dealings) -> lists:member(gave, Dealings) andalso Dealings -- [gave] =:= [].
+
+%% How a function deals with what a server gives away, where it has so many things at first: `asks`, `gives` one back that
+%% it doesn't have, `gave` one that it has, or `leaves` its callers with one.
+dealings(Function, Number, Rules, Code) ->
+    Instructions = maps:get(Function, Code),
+    [_ | Body] = lists:dropwhile(fun(Each) -> not is_entry(Each) end, Instructions),
+    Step = fun(Each, Known) -> deal(Each, Known, Rules) end,
+    lists:usort(walked([{Body, #{{has, 0} => Number}}], {parts_by_label(Instructions), Step}, #{}, [])) -- [handed].
+
+deal(Each, Known, Rules) ->
+    {Next, Jumps, Effects} = step(Each, Known),
+    Number = maps:get({has, 0}, Known, 0),
+    Word = dealing(Effects, is_made(Each), Rules),
+    Left = case Word of asks -> min(Number + 1, 8); gives -> max(Number - 1, 0); plain -> Number end,
+    Ends = Next =:= stop andalso Left > 0 andalso lists:any(fun is_end/1, Effects)
+        andalso not lists:any(fun({tail, To}) -> is_failure(To) orelse To =:= {erlang, exit, 1}; (_) -> false end, Effects),
+    Found = [asks || Word =:= asks] ++ [gives || Word =:= gives, Number =:= 0] ++ [gave || Word =:= gives, Number > 0]
+        ++ [leaves || Ends],
+    {case Next of stop -> stop; _ -> Next#{{has, 0} => Left} end, Jumps, Found}.
+
+is_made(Each) -> is_tuple(Each) andalso lists:member(element(1, Each), [make_fun2, make_fun3]).
+
+dealing(_, true, _) -> plain;
+dealing(Effects, false, {{Names, _, {_, _, Value}, Given}, Asking, Giving}) ->
+    Called = [Other || {Word, Other} <- Effects, Word =:= calls orelse Word =:= tail],
+    IsGiven = lists:any(fun(Each) -> is_given_back(Each, Names, Given) end, Effects) orelse Called -- Giving =/= Called,
+    IsAsked = lists:any(fun(Each) -> is_asked(Each, Names, Value) end, Effects) orelse Called -- Asking =/= Called,
+    case {IsGiven, IsAsked} of {true, _} -> gives; {false, true} -> asks; _ -> plain end.
+
+is_asked({sends, call, Name, Request}, Names, Value) -> lists:member(Name, Names) andalso is_like(Request, Value);
+is_asked({posts, call, Request}, _, Value) -> is_like(Request, Value);
+is_asked(_, _, _) -> false.
+
+is_fun({_, Name, _}) -> lists:prefix("-", atom_to_list(Name)).
+
+%% What the functions of the program send, and by which others each is called.
+sends_in(Code) ->
+    [{Function, Each} || Function <- maps:keys(Code), Each <- effects(Function, #{}, Code), is_tuple(Each),
+                         lists:member(element(1, Each), [posts, sends])].
+
+callers_in(Code) ->
+    Pairs = [{Other, Function} || Function <- maps:keys(Code), {Word, Other} <- effects(Function, #{}, Code),
+                                  Word =:= calls orelse Word =:= tail],
+    maps:groups_from_list(fun({Other, _}) -> Other end, fun({_, Function}) -> Function end, lists:usort(Pairs)).
 
 is_plain({tick, Message}) -> is_constant(Message);
 is_plain(aimed) -> false.
@@ -396,6 +527,7 @@ is_harmless_one({sends, Kind, Name, Message}, {_, Names, _} = Known, Seen) ->
         _ -> false % (one in the middle of a callback may take it there, or be late with an answer)
     end;
 is_harmless_one({tick, _}, _, _) -> true;
+is_harmless_one({posts, _, _}, _, _) -> false;
 is_harmless_one(Each, _, _) -> not lists:member(Each, [aimed, dynamic, loud, raises]).
 
 %% Whether a process that waits in a receive of its own for its next message tells nobody anything for this one, and
@@ -557,20 +689,20 @@ parts_by_label(Instructions) -> maps:from_list([{Label, Rest} || [{label, Label}
 %% nothing is known.
 -define(TIMES, 8).
 
-walked(Paths, Labels) -> walked(Paths, Labels, #{}, []).
+walked(Paths, Labels) -> walked(Paths, {Labels, fun step/2}, #{}, []).
 
 walked([], _, _, Found) -> Found;
 walked([{[{label, Label} | Rest], Known} | Paths], Labels, Seen, Found) ->
     Before = maps:get(Label, Seen, []),
-    Now = case length(Before) < ?TIMES of true -> Known; false -> #{} end,
+    Now = case length(Before) < ?TIMES of true -> Known; false -> counted(Known) end,
     case lists:member(Now, Before) of
         true -> walked(Paths, Labels, Seen, Found);
         false -> walked([{Rest, Now} | Paths], Labels, Seen#{Label => [Now | Before]}, Found)
     end;
 walked([{[], _} | Paths], Labels, Seen, Found) -> walked(Paths, Labels, Seen, Found);
-walked([{[Each | Rest], Known} | Paths], Labels, Seen, Found) ->
-    {Next, Jumps, Effects} = step(Each, Known),
-    Onward = [{Rest, Next} || Next =/= stop] ++ [{[{label, Label} | maps:get(Label, Labels)], After}
+walked([{[Each | Rest], Known} | Paths], {Places, Step} = Labels, Seen, Found) ->
+    {Next, Jumps, Effects} = Step(Each, Known),
+    Onward = [{Rest, Next} || Next =/= stop] ++ [{[{label, Label} | maps:get(Label, Places)], After}
                                                 || {Label, After} <- Jumps, Label > 0],
     walked(Onward ++ Paths, Labels, Seen, [handed || is_handed(Each, Known)] ++ Effects ++ Found).
 
@@ -601,7 +733,7 @@ step({wait, {f, Label}}, Known) -> {stop, [{Label, Known}], []};
 step({loop_rec_end, {f, Label}}, Known) -> {stop, [{Label, Known}], []};
 step({wait_timeout, {f, Label}, _}, Known) -> {Known, [{Label, Known}], []};
 step({loop_rec, {f, Label}, Register}, Known) -> {maps:remove(plain(Register), Known), [{Label, Known}], []};
-step({Try, _, {f, Label}}, Known) when Try =:= 'try'; Try =:= 'catch' -> {Known, [{Label, #{}}], []};
+step({Try, _, {f, Label}}, Known) when Try =:= 'try'; Try =:= 'catch' -> {Known, [{Label, counted(Known)}], []};
 step({move, From, To}, Known) -> {set(To, value(From, Known), Known), [], []};
 step({swap, One, Other}, Known) ->
     {set(One, value(Other, Known), set(Other, value(One, Known), Known)), [], []};
@@ -686,7 +818,10 @@ parts_of([{literal, _} | Rest]) -> parts_of(Rest);
 parts_of([Part | Rest]) when is_tuple(Part) -> parts_of(tuple_to_list(Part)) ++ parts_of(Rest);
 parts_of([_ | Rest]) -> parts_of(Rest).
 
-only(Word, Known) -> maps:filter(fun({Of, _}, _) -> Of =:= Word end, Known).
+only(Word, Known) -> maps:filter(fun({Of, _}, _) -> Of =:= Word orelse Of =:= has end, Known).
+
+%% How many things the function has that a server gives away, where that is counted.
+counted(Known) -> maps:with([{has, 0}], Known).
 
 plain({tr, Register, _}) -> Register;
 plain(Register) -> Register.
@@ -738,7 +873,7 @@ case_of(_, Other, []) -> Other.
 
 sent({atom, Name}, Message) -> {sends, info, Name, Message};
 sent(self, Message) -> {tick, Message};
-sent(_, _) -> loud.
+sent(_, Message) -> {posts, info, Message}.
 
 %% What a call of a function of another module does.
 external({extfunc, Module, Name, Arity}, Known) ->
@@ -778,6 +913,9 @@ outcome(Server, call, [{atom, Name}, Request | _]) when Server =:= gen_server; S
     [{sends, call, Name, Request}];
 outcome(Server, cast, [{atom, Name}, Request]) when Server =:= gen_server; Server =:= 'Elixir.GenServer' ->
     [{sends, cast, Name, Request}];
+outcome(Server, Way, [_, Request | _] = Given) when Server =:= gen_server orelse Server =:= 'Elixir.GenServer',
+                                                    Way =:= call orelse Way =:= cast ->
+    [{posts, Way, Request}, {calls, {Server, Way, length(Given)}}];
 outcome(Module, Name, Given) ->
     case is_mild(Module, Name, Given) of
         true ->

@@ -11,7 +11,7 @@ from .erlang_keepers import groups_around, kept_callers, pids_beside
 from .erlang_nodes import Nodes
 from .erlang_text import Block, NodeReading
 
-ALONE, HARMLESS, GIVES_BACK = "alone", "harmless", "gives back"
+ALONE, HARMLESS, GIVES_BACK, PERMITS = "alone", "harmless", "gives back", "permits"
 MOST = 500  # of those who may do something, or else a list is too long
 SLEEPS = ("timer:sleep", "Process.sleep")
 PORT = re.compile(r"#Port<|{port,")
@@ -26,6 +26,7 @@ def look_at_acting(moment: Nodes) -> None:
     nodes = [reading for reading in moment.readings if isinstance(reading, NodeReading)]
     moment.words = {(reading.source, number): words for reading in nodes for number, words in reading.places.items()}
     moment.grants = {(reading.source, module): tags for reading in nodes for module, tags in reading.grants.items()}
+    moment.permits = {(reading.source, *server): places for reading in nodes for server, places in reading.permits.items()}
     is_known = all(reading.places and not reading.outside and not reading.missing for reading in nodes)
     watched = {id(it) for block in moment.rows() for it in moment.watched(block)}
     moment.quiet_ones = {id(it) for it in moment.rows() if is_known and id(it) not in watched and (
@@ -136,3 +137,11 @@ def has_owner(block: Block, server: Block, moment: Nodes) -> bool:
         if owners:
             return all(it is not None and id(it) not in moment.reacting | moment.quiet_ones for it in owners)
     return False
+
+
+def is_permit(block: Block, server: Block, moment: Nodes) -> bool:
+    """Whether a server gives away for a call what each who has it gives back by its code, as a pool does, and nobody has
+    it who waits for a message. Else whoever has it may keep it for ever, or others may have work for who asks."""
+    places = moment.permits.get((server.node, server.start[0], request_of(block)))
+    return places is not None and not any(it.node == server.node and it.extra("place") in places for it in moment.rows()
+                                          if id(it) in moment.reacting | moment.quiet_ones)
