@@ -187,12 +187,14 @@ ways(Places, Code) ->
                      ++ [Word || Place =:= {frames, []}, Word <- Stays]}
             || {place, Number, Place} <- lists:usort(Places), Place =/= none],
     Permits = permits(Places, Known),
+    Tells = tells([{Number, Place} || {Number, Place} <- lists:usort([{Number, untold(Place)} || {place, Number, Place} <- Places]),
+                                      Place =/= none, not lists:member(deaf, proplists:get_value(Number, Rows, []))], Known),
     More = firm_ones(Places, Rows, Known),
     Plain = [{Module} || {Module, [_ | _] = Found} <- Told, lists:all(fun is_plain/1, Found)],
     Outside = [{Module} || {Module, Found} <- Told, lists:member(aimed, Found)],
     Grants = [{Module, list_to_atom(Tag)} || {Module, handle_call, 3} <- maps:keys(Code), Tag <- granted(Module, Code)],
     [{"places", [{Number, Words ++ maps:get(Number, More, [])} || {Number, Words} <- Rows]},
-     {"ticks", Plain}, {"outside", Outside}, {"grants", Grants}, {"permits", Permits}].
+     {"ticks", Plain}, {"outside", Outside}, {"grants", Grants}, {"permits", Permits}, {"tells", Tells}].
 
 %% Who goes on as long as no message comes, and who of them doesn't fail by itself, by the numbers of their places.
 firm_ones(Places, Rows, {Code, Names, Ticks} = Known) ->
@@ -275,6 +277,61 @@ requests_in([{test, is_eq_exact, _, [_, {atom, Tag}]} | Rest], Found) ->
 requests_in([{select_val, _, _, {list, Cases}} | Rest], Found) ->
     requests_in(Rest, [{Tag, 0, {atom, Tag}} || {atom, Tag} <- Cases] ++ Found);
 requests_in([_ | Rest], Found) -> requests_in(Rest, Found).
+
+%% For each place of some to which others those may tell something who are at it that aren't at rest with it, by their
+%% numbers. None is known of one that may do more.
+-define(PLACES, 100).
+
+tells(Places, Known) when length(Places) =< ?PLACES ->
+    All = [{Number, Place, done_at(Place, Known)} || {Number, Place} <- Places],
+    [{Number, [Other || {Other, Whom, Does} <- All, lists:any(fun(Each) -> is_heeded(Each, Whom, Does, Known) end, Told)]}
+     || {Number, _, Effects} <- All, Told <- [told_by(Effects, Known)], not lists:member(any, Told)];
+tells(_, _) -> [].
+
+untold({told, Place}) -> untold(Place);
+untold({loop, _, _} = Place) -> Place;
+untold({frames, [_ | _]} = Place) -> Place;
+untold(_) -> none.
+
+%% All that one does at a place that is told something, and what of it may be news to others.
+done_at({loop, Module, _}, {Code, _, _}) ->
+    closure([{Function, #{}} || {Of, Name, _} = Function <- maps:keys(Code), Of =:= Module,
+                                lists:member(Name, [handle_call, handle_cast, handle_continue, handle_info])], Code);
+done_at({frames, Frames}, {Code, _, _}) -> closure([{Each, #{}} || Each <- Frames], Code).
+
+told_by(Effects, {Code, _, _} = Known) ->
+    Others = [Name || {calls, Name} <- Effects, not is_map_key(Name, Code)],
+    More = Effects =:= [] orelse lists:any(fun(Each) -> lists:member(Each, [aimed, dynamic]) end, Effects)
+        orelse not lists:all(fun is_telling/1, Others)
+        orelse lists:any(fun({sends, agent, _, _} = Each) -> not is_harmless([Each], Known); (_) -> false end, Effects),
+    [any || More] ++ [reply || lists:any(fun is_reply/1, Others)]
+        ++ [Each || Each <- Effects, is_tuple(Each), lists:member(element(1, Each), [posts, sends]),
+                    not is_harmless([Each], Known)].
+
+is_telling({Module, Name, _} = Function) ->
+    is_reply(Function) orelse lists:member(Module, [gen_server, 'Elixir.GenServer']) andalso lists:member(Name, [call, cast]).
+
+%% Whether one at a place may do something else for it that it is told.
+is_heeded(reply, _, Does, _) ->
+    lists:any(fun({sends, call, _, _}) -> true; ({posts, call, _}) -> true; (_) -> false end, Does)
+        orelse lists:any(fun({calls, {Module, _, _}}) -> lists:member(Module, [gen, gen_statem, sys, 'Elixir.Task']);
+                            (_) -> false end, Does);
+is_heeded({sends, Kind, Name, Message}, Whom, Does, {_, Names, _} = Known) ->
+    case {Names, Whom} of
+        {#{Name := {Module, _}}, {loop, Of, _}} -> Of =:= Module;
+        {#{Name := {Frames, waits}}, {frames, Of}} -> Of =:= Frames;
+        {#{Name := _}, _} -> false;
+        _ -> is_heeded({posts, Kind, Message}, Whom, Does, Known)
+    end;
+is_heeded({posts, Kind, Message}, {loop, Module, _}, _, Known) -> not is_silent(Module, Kind, Message, Known, []);
+is_heeded({posts, Kind, Message}, {frames, Frames}, Does, {Code, _, _}) ->
+    Told = case Kind of
+        info -> Message;
+        cast -> {tuple, [{atom, '$gen_cast'}, Message]};
+        call -> {tuple, [{atom, '$gen_call'}, any, Message]}
+    end,
+    Called = [Other || {Word, Other} <- Does, Word =:= calls orelse Word =:= tail, is_map_key(Other, Code)],
+    lists:any(fun(Each) -> takes(Each, Told, Code) end, Frames ++ Called).
 
 %% The requests of servers for which these give away what each who has it gives back, as TAG/SIZE: a pool, a lock. By all
 %% code of the program: who has asked gives it back, on each of its ways, and nobody else does. And the places at which

@@ -27,6 +27,7 @@ def look_at_acting(moment: Nodes) -> None:
     moment.words = {(reading.source, number): words for reading in nodes for number, words in reading.places.items()}
     moment.grants = {(reading.source, module): tags for reading in nodes for module, tags in reading.grants.items()}
     moment.permits = {(reading.source, *server): places for reading in nodes for server, places in reading.permits.items()}
+    moment.tells = {(reading.source, place): others for reading in nodes for place, others in reading.tells.items()}
     is_known = all(reading.places and not reading.outside and not reading.missing for reading in nodes)
     watched = {id(it) for block in moment.rows() for it in moment.watched(block)}
     moment.quiet_ones = {id(it) for it in moment.rows() if is_known and id(it) not in watched and (
@@ -102,17 +103,34 @@ def besides_of(some: Iterable[Block], moment: Nodes) -> Tuple[List[str], List[st
 
 def doubt_moving(sketch: Sketch, moments: List[Nodes]) -> None:
     """Leaves those unknown who wait for one of all who may do something, where others do something too: two who both
-    have had messages meanwhile may be at work on more than what ticks tell them."""
+    have had messages meanwhile may be at work on more than what ticks tell them, if each may tell the other one."""
     rows = [{(it.node, it.pid, it.start): it for it in moment.rows()} for moment in moments]
     first, last = rows[0], rows[-1]
     grown = [it for key, it in first.items() if id(it) in moments[0].reacting and key in last
              and it.count != last[key].count and "deaf" not in (words_of_place(it, moments[0]) or [])]
-    if first.keys() == last.keys() and len(grown) <= 1:
+    if first.keys() == last.keys() and not may_pass_on(grown, moments[0]):
         return
     for process in sketch.processes:
         process.bound = None
         if premise(ALONE) in process.because:
             process.become_unknown("others who wait for messages have had some meanwhile, and may end its wait")
+
+
+def may_pass_on(some: List[Block], moment: Nodes) -> bool:
+    """Whether some may tell each other something in a circle, so that one of them has it at any time."""
+    left = list(some)
+    while left:
+        ends = [it for it in left if not any(may_tell(it, other, moment) for other in left if other is not it)]
+        if not ends:
+            return True
+        left = [it for it in left if it not in ends]
+    return False
+
+
+def may_tell(block: Block, other: Block, moment: Nodes) -> bool:
+    told = moment.tells.get((block.node, block.extra("place") or ""))
+    place = other.extra("place") or ""
+    return told is None or block.node != other.node or (other.node, place) not in moment.words or place in told
 
 
 def request_of(block: Block) -> str:

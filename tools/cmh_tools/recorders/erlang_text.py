@@ -40,7 +40,7 @@ OF_SYSTEM = re.compile(r"gen(_server|_statem|_event|_tcp|_udp)?|global|erpc|inet
 LOOPS = re.compile(r"(gen_server:loop|gen_statem:loop_(receive|hibernate)|gen_event:fetch_msg|proc_lib:hibernate"
                    r"|proc_lib:wake_up|erlang:hibernate)/")
 FIRST = re.compile("=(process|asks|grants|keepers|keeps|left out|locks|mnesia|nodes|numbers|outside|permits|places|"
-                   "quiet|receives|tables|ticks|timers|end) ")
+                   "quiet|receives|tables|tells|ticks|timers|end) ")
 MARK = re.compile(rf"\n{FIRST.pattern}")
 # The rows below lines of some words: the receives of a function, and whom it has sent to before; the number of another
 # node; who has a lock, or wants one of Mnesia; and what code may do: at the places of processes, and of each module.
@@ -50,7 +50,7 @@ QUIET = re.compile(r"{(\w+|'[^']*'),(\w+|'[^']*'),(\d+)}")
 MODULE, WORDS = r"{(\w+|'[^']*')", r",\[([\w,]*)\]}"
 ROWS = {"receives": RECEIVES, "asks": ASKS, "quiet": QUIET, "ticks": re.compile(f"{MODULE}}}"),
         "outside": re.compile(f"{MODULE}}}"), "keepers": re.compile(MODULE + WORDS),
-        "grants": re.compile(MODULE + r",'?([\w/+]+)'?}"), "permits": re.compile(MODULE + r",'?([\w/+]+)'?" + WORDS), "places": re.compile(r"{(\d+)" + WORDS),
+        "grants": re.compile(MODULE + r",'?([\w/+]+)'?}"), "permits": re.compile(MODULE + r",'?([\w/+]+)'?" + WORDS), "places": re.compile(r"{(\d+)" + WORDS), "tells": re.compile(r"{(\d+)" + WORDS),
         "numbers": re.compile(r"(\d+) (\S+)"),
         "locks": re.compile(r"{(.*),\[((?:{<[\d.]+>,#Ref<[\d.]+>},?)+)\]}"),
         "mnesia": re.compile(r"{(?P<word>has|wants),{(?P<what>.*)},(?P<kind>\w+),"
@@ -367,6 +367,7 @@ class NodeReading(Reading):
         self.ticks: List[str] = []
         self.grants: Dict[str, List[str]] = {}
         self.permits: Dict[Tuple[str, str], List[str]] = {}
+        self.tells: Dict[str, List[str]] = {}
         self.keepers: Dict[str, List[str]] = {}
 
     @property
@@ -405,6 +406,8 @@ class NodeReading(Reading):
             self.keepers.update({row[1]: words_of(row[2]) for row in rows})
         elif word == "grants":
             self.grants.update({row[1]: row[2].split("+") for row in rows})
+        elif word == "tells":
+            self.tells.update({row[1]: words_of(row[2]) for row in rows})
         elif word == "permits":
             self.permits.update({(row[1], row[2]): words_of(row[3]) for row in rows})
         elif word in ("outside", "ticks"):
