@@ -194,7 +194,8 @@ ways(Places, Code) ->
     Outside = [{Module} || {Module, Found} <- Told, lists:member(aimed, Found)],
     Grants = [{Module, list_to_atom(Tag)} || {Module, handle_call, 3} <- maps:keys(Code), Tag <- granted(Module, Code)],
     [{"places", [{Number, Words ++ maps:get(Number, More, [])} || {Number, Words} <- Rows]},
-     {"ticks", Plain}, {"outside", Outside}, {"grants", Grants}, {"permits", Permits}, {"tells", Tells}].
+     {"ticks", Plain}, {"outside", Outside}, {"grants", Grants}, {"tells", Tells}
+     | [{atom_to_list(Word), [Row || {Of, Row} <- Permits, Of =:= Word]} || Word <- [begins, permits]]].
 
 %% Who goes on as long as no message comes, and who of them doesn't fail by itself, by the numbers of their places.
 firm_ones(Places, Rows, {Code, Names, Ticks} = Known) ->
@@ -336,12 +337,14 @@ is_heeded({posts, Kind, Message}, {frames, Frames}, Does, {Code, _, _}) ->
 %% The requests of servers for which these give away what each who has it gives back, as TAG/SIZE: a pool, a lock. By all
 %% code of the program: who has asked gives it back, on each of its ways, and nobody else does. And the places at which
 %% one may have it that waits for a message.
-permits(Places, {Code, Names, _}) ->
+permits(Places, {Code, Names, _} = Known) ->
     Servers = lists:usort([Module || {place, _, {loop, Module, _}} <- Places, is_map_key({Module, handle_call, 3}, Code)]),
-    [{Module, list_to_atom(lists:concat([Tag, "/", Size])), having(Given, Places, Code)}
-     || Module <- Servers, Given <- [given_back(Module, Code)], Given =/= [], {Tag, Size, Value} <- kept_by(Module, Code),
-        is_permit({[Name || {Name, {Of, loop}} <- maps:to_list(Names), Of =:= Module], Module, {Tag, Size, Value}, Given},
-                  Code, callers_in(Code))].
+    Callers = callers_in(Code),
+    [{Word, {Module, list_to_atom(lists:concat([Tag, "/", Size])), having(Given, Places, Code)}}
+     || Module <- Servers, All <- [given_back(Module, Known)], {Tag, Size, Value} <- kept_by(Module, Code),
+        Given <- [All -- [{call, Value} || not replies({Module, handle_call, 3}, Value, Code)]], Given =/= [],
+        Word <- kinds_of({[Name || {Name, {Of, loop}} <- maps:to_list(Names), Of =:= Module], Module, {Tag, Size, Value},
+                          Given}, Code, Callers)].
 
 %% The requests whose callers a server may keep.
 kept_by(Module, Code) ->
@@ -350,18 +353,32 @@ kept_by(Module, Code) ->
                 lists:any(fun({tuple, [{atom, noreply} | _]}) -> true; (_) -> false end,
                           ends(Function, #{{x, 0} => Value}, Code, []))].
 
-%% What a server is told by which it may answer those that it keeps, but for the end of somebody; none if that may be
-%% anything.
-given_back(Module, Code) ->
+%% What a server is told by which it may answer those that it keeps, or have another one do so, but for the end of
+%% somebody; none if that may be anything.
+given_back(Module, {Code, _, _} = Known) ->
     Ways = [{Kind, {Module, Name, Arity}} || {Kind, Name, Arity} <- [{call, handle_call, 3}, {cast, handle_cast, 2},
                                                                     {info, handle_info, 2}]],
-    All = [{Kind, Tag, Value} || {Kind, Function} <- Ways,
-                                 {Tag, _, Value} <- [{none, 0, {atom, '$other'}} | requests(Function, Code)],
+    Told = [{none, 0, {atom, '$other'}}, {none, 0, {tuple, [{constant, reference}, any]}}],
+    All = [{Kind, Tag, Value} || {Kind, Function} <- Ways, is_map_key(Function, Code),
+                                 {Tag, _, Value} <- Told ++ requests(Function, Code),
                                  not lists:member(Tag, ['DOWN', 'EXIT']),
-                                 is_map_key(Function, Code), answers(closure([{Function, #{{x, 0} => Value}}], Code))],
-    case lists:keymember(none, 2, All) of true -> []; false -> [{Kind, Value} || {Kind, _, Value} <- All] end.
+                                 answers(Kind, closure([{Function, #{{x, 0} => Value}}], Code), Known)],
+    Continues = closure([{{Module, handle_continue, 2}, #{}} || is_map_key({Module, handle_continue, 2}, Code)], Code),
+    case lists:keymember(none, 2, All) orelse answers(info, Continues, Known) of
+        true -> [];
+        false -> [{Kind, Value} || {Kind, _, Value} <- All]
+    end.
 
-answers(Effects) -> lists:any(fun({calls, {_, reply, _}}) -> true; (_) -> false end, Effects).
+replies(Function, Value, Code) ->
+    lists:any(fun({calls, {_, reply, _}}) -> true; (_) -> false end, closure([{Function, #{{x, 0} => Value}}], Code)).
+
+%% Whether one of these tells somebody something. A call may have somebody begun for it.
+answers(call, Effects, Known) ->
+    lists:any(fun({calls, {_, reply, _}}) -> true;
+                 (Each) -> is_tuple(Each) andalso lists:member(element(1, Each), [posts, sends])
+                               andalso not is_harmless([Each], Known)
+              end, Effects);
+answers(_, Effects, Known) -> not is_harmless(Effects -- [raises], Known).
 
 %% The places in receives at which one may give something back.
 having(Given, Places, Code) ->
@@ -380,17 +397,40 @@ is_like({tuple, [Tag | _] = Parts}, {tuple, [Tag | _] = Others}) -> length(Parts
 is_like(Message, Message) -> Message =/= any;
 is_like(_, _) -> false.
 
-is_permit({Names, Module, {Tag, _, Value}, Given} = Server, Code, Callers) ->
+%% Whether a server gives something away for a request that comes back, or has another one do the work for it that it
+%% begins: `permits` or `begins`, or nothing.
+kinds_of({Names, Module, {Tag, _, Value}, Given} = Server, Code, Callers) ->
     Others = [Of || {Of, handle_call, 3} = Function <- maps:keys(Code), Of =/= Module,
                     lists:keymember(Tag, 1, requests(Function, Code))],
     IsOwn = not lists:any(fun({Kind, Other}) -> Kind =:= call andalso is_like(Value, Other) end, Given),
-    Dealing = [{Function, Each} || {{Of, Name, _} = Function, Each} <- sends_in(Code),
-                                   not (Of =:= Module andalso lists:member(Name, [handle_call, handle_cast, handle_info])),
-                                   is_given_back(Each, Names, Given) orelse is_asked(Each, Names, Value)],
-    IsAll = lists:all(fun(One) -> lists:any(fun({_, Each}) -> is_given_back(Each, Names, [One]) end, Dealing) end, Given),
-    IsPlain = not lists:any(fun({_, {sends, _, Name, any}}) -> lists:member(Name, Names); (_) -> false end, sends_in(Code)),
-    Others =:= [] andalso IsOwn andalso IsAll andalso IsPlain
-        andalso is_even(Server, lists:usort([Function || {Function, _} <- Dealing]), Code, Callers).
+    Sent = [{Function, Each} || {{Of, Name, _} = Function, Each} <- sends_in(Code),
+                                not (Of =:= Module andalso lists:member(Name, [handle_call, handle_cast, handle_info]))],
+    Giving = [Each || {_, What} = Each <- Sent, is_given_back(What, Names, Given)],
+    Asking = [Each || {_, What} = Each <- Sent, is_asked(What, Names, Value)],
+    IsAll = lists:all(fun(One) -> lists:any(fun({_, Each}) -> is_given_back(Each, Names, [One]) end, Giving) end, Given),
+    IsPlain = not lists:any(fun({_, {sends, _, Name, any}}) -> lists:member(Name, Names); (_) -> false end, Sent),
+    Kinds = [{permits, fun() -> is_even(Server, functions_of(Asking ++ Giving), Code, Callers) end},
+             {begins, fun() -> is_begun(Server, functions_of(Giving), Code, Callers) end}],
+    [Word || Others =:= [], IsOwn, IsAll, IsPlain, {Word, IsSo} <- Kinds, IsSo()].
+
+functions_of(Sent) -> lists:usort([Function || {Function, _} <- Sent]).
+
+%% Whether those alone give back whom a server begins for this request, and for no other one.
+is_begun({_, Module, {Tag, _, _}, _}, Giving, Code, Callers) ->
+    Handles = {Module, handle_call, 3},
+    Above = grown(Giving, Handles, Callers),
+    Others = [{none, 0, {atom, '$other'}} | [Each || {Of, _, _} = Each <- requests(Handles, Code), Of =/= Tag]],
+    Further = [Other || {_, _, Value} <- Others, {Word, Other} <- effects(Handles, #{{x, 0} => Value}, Code),
+                        Word =:= calls orelse Word =:= tail, lists:member(Other, Above)],
+    lists:member(Handles, Above) andalso Further =:= []
+        andalso lists:all(fun(Each) -> Each =:= Handles orelse maps:get(Each, Callers, []) -- [Each] =/= [] end, Above).
+
+%% Some functions with all that call them, as far as to one.
+grown(Some, Last, Callers) ->
+    case lists:usort(Some ++ lists:append([maps:get(Each, Callers, []) || Each <- Some, Each =/= Last])) of
+        Some -> Some;
+        More -> grown(More, Last, Callers)
+    end.
 
 %% Whether each function gives back as often as it asks, or leaves that to those that call it; and none gives anything
 %% back that it doesn't have.
@@ -907,7 +947,11 @@ holds(_, Value, _) when Value =:= asked; Value =:= new; Value =:= no_map; Value 
 holds(Test, map, _) when Test =:= is_atom; Test =:= is_tuple; Test =:= is_tagged_tuple; Test =:= is_list -> false;
 holds(_, map, _) -> unknown;
 holds(is_tagged_tuple, {tuple, [Tag | _] = Parts}, [Size, Wanted]) ->
-    case {length(Parts) =:= Size, Tag} of {false, _} -> false; {true, {atom, _}} -> Tag =:= Wanted; _ -> unknown end;
+    case {length(Parts) =:= Size, Tag} of
+        {false, _} -> false;
+        {true, {Word, _}} when Word =:= atom; Word =:= constant -> Tag =:= Wanted;
+        _ -> unknown
+    end;
 holds(is_tagged_tuple, _, _) -> false;
 holds(is_tuple, Value, _) -> is_tuple(Value) andalso element(1, Value) =:= tuple;
 holds(is_atom, Value, _) -> is_tuple(Value) andalso element(1, Value) =:= atom;
@@ -915,6 +959,7 @@ holds(test_arity, {tuple, Parts}, [Size]) -> length(Parts) =:= Size;
 holds(is_eq_exact, {Word, _} = Value, [{Other, _} = Wanted]) when Word =:= atom orelse Word =:= integer,
                                                                   Other =:= atom orelse Other =:= integer ->
     Value =:= Wanted;
+holds(is_eq_exact, {constant, _}, [{Other, _}]) when Other =:= atom; Other =:= integer -> false;
 holds(is_eq_exact, {tuple, _}, [{Other, _}]) when Other =:= atom; Other =:= integer -> false;
 holds(_, _, _) -> unknown.
 

@@ -11,7 +11,7 @@ from .erlang_keepers import groups_around, kept_callers, pids_beside
 from .erlang_nodes import Nodes
 from .erlang_text import Block, NodeReading
 
-ALONE, HARMLESS, GIVES_BACK, PERMITS = "alone", "harmless", "gives back", "permits"
+ALONE, HARMLESS, GIVES_BACK, PERMITS, BEGINS = "alone", "harmless", "gives back", "permits", "begins"
 MOST = 500  # of those who may do something, or else a list is too long
 SLEEPS = ("timer:sleep", "Process.sleep")
 PORT = re.compile(r"#Port<|{port,")
@@ -157,9 +157,17 @@ def has_owner(block: Block, server: Block, moment: Nodes) -> bool:
     return False
 
 
-def is_permit(block: Block, server: Block, moment: Nodes) -> bool:
-    """Whether a server gives away for a call what each who has it gives back by its code, as a pool does, and nobody has
-    it who waits for a message. Else whoever has it may keep it for ever, or others may have work for who asks."""
-    places = moment.permits.get((server.node, server.start[0], request_of(block)))
+def owed_by(block: Block, server: Block, moment: Nodes) -> str:
+    """Returns on what it rests that somebody else owes a server what it keeps a call for: GIVES_BACK, PERMITS or BEGINS,
+    or nothing. Else others may have work for who asks, as for a worker."""
+    if has_owner(block, server, moment):
+        return GIVES_BACK
+    return next((word for word in (PERMITS, BEGINS) if is_coming(word, block, server, moment)), "")
+
+
+def is_coming(word: str, block: Block, server: Block, moment: Nodes) -> bool:
+    """Whether by its code a server gives away for a call what each who has it gives back, as a pool does, or has another
+    one do the work that it begins for it; and nobody has it who waits for a message, and may keep it for ever."""
+    places = moment.permits.get((server.node, word, server.start[0], request_of(block)))
     return places is not None and not any(it.node == server.node and it.extra("place") in places for it in moment.rows()
                                           if id(it) in moment.reacting | moment.quiet_ones)

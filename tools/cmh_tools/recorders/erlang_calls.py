@@ -6,7 +6,7 @@ from __future__ import annotations
 from typing import Any, Dict, List, Optional, Set, Tuple
 
 from ..sketch import LIMIT, SYSTEM, Process, premise, runs, unknown, waits_for_any
-from .erlang_acting import ALONE, GIVES_BACK, HARMLESS, PERMITS, besides_of, has_owner, is_permit
+from .erlang_acting import ALONE, HARMLESS, besides_of, owed_by
 from .erlang_keepers import who_may_answer
 from .erlang_nodes import Nodes
 from .erlang_text import Block, Call, Key, NodeReading, of_elixir
@@ -125,8 +125,7 @@ def wait_for_holders(block: Block, moment: Nodes, called: List[Block], more: Dic
         others = [it for it in having if it not in keepers]
         some = [who for it in keepers for who in who_may_answer(block, it, moment)]
         more["candidates"] = moment.names([*some, *others])
-        owed = [word for word, is_owed in ((GIVES_BACK, has_owner), (PERMITS, is_permit))
-                if any(is_owed(block, it, moment) for it in keepers)][:1]
+        owed = list(filter(None, (owed_by(block, it, moment) for it in keepers)))[:1]
         more.update(bound=moment.acting, at_rest=not owed,
                     bound_by=list(map(premise, [ALONE, HARMLESS, *owed])))
         return unknown(name, f"{moment.name(keepers[0])} keeps its call in its state, to answer it once something else "

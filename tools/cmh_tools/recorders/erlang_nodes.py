@@ -41,7 +41,7 @@ class Nodes(Moment):
     has_timers: Dict[str, bool]
     words: Dict[Tuple[str, str], List[str]]
     grants: Dict[Tuple[str, str], List[str]]
-    permits: Dict[Tuple[str, str, str], List[str]]
+    permits: Dict[Tuple[str, str, str, str], List[str]]
     tells: Dict[Tuple[str, str], List[str]]
     quiet_ones: Set[int]
     reacting: Set[int]

@@ -39,7 +39,7 @@ OF_SYSTEM = re.compile(r"gen(_server|_statem|_event|_tcp|_udp)?|global|erpc|inet
                        r"Agent|DynamicSupervisor|Enum|GenServer|Process|Registry|Stream|Supervisor|Task)(\.\w+)*'")
 LOOPS = re.compile(r"(gen_server:loop|gen_statem:loop_(receive|hibernate)|gen_event:fetch_msg|proc_lib:hibernate"
                    r"|proc_lib:wake_up|erlang:hibernate)/")
-FIRST = re.compile("=(process|asks|grants|keepers|keeps|left out|locks|mnesia|nodes|numbers|outside|permits|places|"
+FIRST = re.compile("=(process|asks|begins|grants|keepers|keeps|left out|locks|mnesia|nodes|numbers|outside|permits|places|"
                    "quiet|receives|tables|tells|ticks|timers|end) ")
 MARK = re.compile(rf"\n{FIRST.pattern}")
 # The rows below lines of some words: the receives of a function, and whom it has sent to before; the number of another
@@ -50,7 +50,8 @@ QUIET = re.compile(r"{(\w+|'[^']*'),(\w+|'[^']*'),(\d+)}")
 MODULE, WORDS = r"{(\w+|'[^']*')", r",\[([\w,]*)\]}"
 ROWS = {"receives": RECEIVES, "asks": ASKS, "quiet": QUIET, "ticks": re.compile(f"{MODULE}}}"),
         "outside": re.compile(f"{MODULE}}}"), "keepers": re.compile(MODULE + WORDS),
-        "grants": re.compile(MODULE + r",'?([\w/+]+)'?}"), "permits": re.compile(MODULE + r",'?([\w/+]+)'?" + WORDS), "places": re.compile(r"{(\d+)" + WORDS), "tells": re.compile(r"{(\d+)" + WORDS),
+        "grants": re.compile(MODULE + r",'?([\w/+]+)'?}"), "permits": re.compile(MODULE + r",'?([\w/+]+)'?" + WORDS),
+        "begins": re.compile(MODULE + r",'?([\w/+]+)'?" + WORDS), "places": re.compile(r"{(\d+)" + WORDS), "tells": re.compile(r"{(\d+)" + WORDS),
         "numbers": re.compile(r"(\d+) (\S+)"),
         "locks": re.compile(r"{(.*),\[((?:{<[\d.]+>,#Ref<[\d.]+>},?)+)\]}"),
         "mnesia": re.compile(r"{(?P<word>has|wants),{(?P<what>.*)},(?P<kind>\w+),"
@@ -366,7 +367,7 @@ class NodeReading(Reading):
         self.outside: List[str] = []
         self.ticks: List[str] = []
         self.grants: Dict[str, List[str]] = {}
-        self.permits: Dict[Tuple[str, str], List[str]] = {}
+        self.permits: Dict[Tuple[str, str, str], List[str]] = {}
         self.tells: Dict[str, List[str]] = {}
         self.keepers: Dict[str, List[str]] = {}
 
@@ -408,8 +409,8 @@ class NodeReading(Reading):
             self.grants.update({row[1]: row[2].split("+") for row in rows})
         elif word == "tells":
             self.tells.update({row[1]: words_of(row[2]) for row in rows})
-        elif word == "permits":
-            self.permits.update({(row[1], row[2]): words_of(row[3]) for row in rows})
+        elif word in ("begins", "permits"):
+            self.permits.update({(word, row[1], row[2]): words_of(row[3]) for row in rows})
         elif word in ("outside", "ticks"):
             found = self.outside if word == "outside" else self.ticks
             found += [row[1] for row in rows]
