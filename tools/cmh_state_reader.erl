@@ -175,6 +175,7 @@ is_send(_) -> false.
 %% does, where all do so for ever.
 ways(Places, Code) ->
     forget(), % (what holds for another node)
+    put({?MODULE, devices}, not is_device_in(Code)),
     Names = maps:from_list([{Name, Server} || {named, Name, Server} <- Places]),
     Done = [{Module, lists:append([effects(Function, #{}, Code) || {Of, _, _} = Function <- maps:keys(Code),
                                                                    Of =:= Module])}
@@ -224,12 +225,18 @@ is_untold(Frames, {Silent, _, _}, {Code, _, Ticks}) ->
     not lists:any(fun(Each) -> lists:any(fun(Message) -> takes(Each, Message, Code) end, Told) end, Frames ++ Called).
 
 is_firm(Frames, Code) ->
-    not lists:any(fun may_fail/1, closure([{Each, #{}} || Each <- Frames], Code)).
+    not lists:member(fails, closure([{Each, #{}} || Each <- Frames], Code)).
 
-may_fail({sends, Kind, _, _}) -> Kind =/= cast;
-may_fail(Each) -> Each =:= fails.
+%% Whether a process of the program may be a device, to which others print.
+is_device_in(Code) ->
+    Asked = {tuple, [{atom, io_request}, any, any, any]},
+    lists:any(fun({Function, Instructions}) ->
+                  lists:member(io_request, atoms_among(Instructions, constants_in(Instructions)))
+                      orelse takes(Function, Asked, Code)
+              end, maps:to_list(Code)).
 
-forget() -> [erase(Key) || {Key, _} <- get(), is_tuple(Key), element(1, Key) =:= ?MODULE].
+forget() ->
+    [erase(Key) || {Key, _} <- get(), is_tuple(Key), element(1, Key) =:= ?MODULE, Key =/= {?MODULE, devices}].
 
 %% The one request of a server, as TAG/SIZE, for which it may begin to monitor somebody: as one that gives something
 %% away until that ends, or has another one do the work. None if it also monitors others without that, as its workers.
@@ -304,7 +311,9 @@ told_by(Effects, {Code, _, _} = Known) ->
     Others = [Name || {calls, Name} <- Effects, not is_map_key(Name, Code)],
     More = Effects =:= [] orelse lists:any(fun(Each) -> lists:member(Each, [aimed, dynamic]) end, Effects)
         orelse not lists:all(fun is_telling/1, Others)
-        orelse lists:any(fun({sends, agent, _, _} = Each) -> not is_harmless([Each], Known); (_) -> false end, Effects),
+        orelse lists:any(fun({sends, Kind, _, _} = Each) when Kind =:= agent; Kind =:= lists -> not is_harmless([Each], Known);
+                            (_) -> false
+                         end, Effects),
     [any || More] ++ [reply || lists:any(fun is_reply/1, Others)]
         ++ [Each || Each <- Effects, is_tuple(Each), lists:member(element(1, Each), [posts, sends]),
                     not is_harmless([Each], Known)].
@@ -528,9 +537,12 @@ is_timer({calls, {Module, Name, _}}) ->
 is_timer(Each) -> Each =:= aimed.
 
 mentions_timer(Instructions) ->
-    Constants = [Constant || Each <- Instructions, is_tuple(Each), {literal, Constant} <- tuple_to_list(Each)],
+    Constants = constants_in(Instructions),
     lists:any(fun({Module, Name, _}) -> timer(Module, Name, [any, any, any, any]) =/= none end, funs_among(Constants))
         orelse names_timer(atoms_among(Instructions, Constants)).
+
+constants_in(Instructions) ->
+    [Constant || Each <- Instructions, is_tuple(Each), {literal, Constant} <- tuple_to_list(Each)].
 
 %% Whether some names may be those of a timer, as another process is told which to begin.
 names_timer(Atoms) ->
@@ -616,6 +628,8 @@ is_harmless(Effects, Known) -> is_harmless(Effects, Known, []).
 is_harmless(Effects, Known, Seen) -> lists:all(fun(Each) -> is_harmless_one(Each, Known, Seen) end, Effects).
 
 is_harmless_one({sends, agent, Name, _}, {_, Names, _}, _) -> maps:get(Name, Names, none) =:= {?AGENT, loop};
+is_harmless_one({sends, lists, Name, _}, {_, Names, _}, _) ->
+    lists:member(maps:get(Name, Names, none), [{supervisor, loop}, {'Elixir.DynamicSupervisor', loop}]);
 is_harmless_one({sends, Kind, Name, Message}, {_, Names, _} = Known, Seen) ->
     case Names of
         #{Name := {Module, loop}} -> is_silent(Module, Kind, Message, Known, Seen);
@@ -1011,6 +1025,10 @@ outcome(erlang, Name, Given) when Name =:= error; Name =:= raise; Name =:= throw
 outcome('Elixir.Agent', Way, [{atom, Name}, {function, _} | _]) when Way =:= cast; Way =:= get; Way =:= get_and_update;
                                                                    Way =:= update ->
     [{sends, agent, Name, any}];
+outcome(Supervisor, Way, [{atom, Name}]) when Supervisor =:= supervisor orelse Supervisor =:= 'Elixir.DynamicSupervisor'
+                                               orelse Supervisor =:= 'Elixir.Supervisor',
+                                               Way =:= count_children orelse Way =:= which_children ->
+    [{sends, lists, Name, any}];
 outcome(Server, call, [{atom, Name}, Request | _]) when Server =:= gen_server; Server =:= 'Elixir.GenServer' ->
     [{sends, call, Name, Request}];
 outcome(Server, cast, [{atom, Name}, Request]) when Server =:= gen_server; Server =:= 'Elixir.GenServer' ->
@@ -1023,9 +1041,15 @@ outcome(Module, Name, Given) ->
         true ->
             [lazy || lists:member(Module, ?LAZY)] ++ [streams || lists:member(Module, ?RUNNING_STREAMS)]
                 ++ [prints || Module =:= io orelse Module =:= 'Elixir.IO']
-                ++ [fails || lists:member(Module, [ets, file, 'Elixir.File']) orelse Name =:= process_info];
+                ++ [fails || may_fail(Module, Name, length(Given))];
         false -> [{calls, {Module, Name, length(Given)}}]
     end.
+
+%% Whether a function of Erlang's or Elixir's own fails where somebody else has ended or has deleted something. Others of
+%% these fail by their arguments alone, or tell their caller so.
+may_fail(ets, Name, Arity) -> lists:member({Name, Arity}, [{lookup_element, 3}, {next, 2}, {prev, 2}, {update_counter, 3}]);
+may_fail('Elixir.File', Name, _) -> lists:last(atom_to_list(Name)) =:= $!;
+may_fail(_, Name, _) -> Name =:= process_info.
 
 %% Modules of Erlang's and Elixir's own whose functions end nobody's wait, but for what a fun does that they are given.
 -define(PURE, [array, atomics, base64, binary, calendar, counters, crypto, dict, filename, gb_sets, gb_trees, io, io_lib,
@@ -1051,8 +1075,10 @@ outcome(Module, Name, Given) ->
                                       insert_new, last, lookup, lookup_element, match, match_delete, match_object,
                                       member, new, next, prev, select, select_count, select_delete, tab2list, take,
                                       update_counter, update_element, whereis]]
-              ++ [{file, Of} || Of <- [del_dir, delete, get_cwd, list_dir, make_dir, read_file, read_file_info, rename,
-                                       write_file]]
+              ++ [{file, Of} || Of <- [close, datasync, del_dir, delete, get_cwd, list_dir, make_dir, open, read_file,
+                                       read_file_info, rename, sync, write, write_file]]
+              ++ [{disk_log, Of} || Of <- [alog, balog, blog, log, sync]]
+              ++ [{'Elixir.Registry', Of} || Of <- [count, keys, lookup, values]]
               ++ [{filelib, Of} || Of <- [ensure_dir, file_size, is_dir, is_file, is_regular, last_modified, wildcard]]
               ++ [{'Elixir.File', Of} || Of <- ['exists?', 'mkdir_p!', mkdir_p, read, 'read!', rm, 'rm!', stat, 'stat!',
                                                 write, 'write!']]
@@ -1098,7 +1124,9 @@ may_be_funs(Module, Name, [Device | _] = Given) when Module =:= io; Module =:= '
                                                    {binwrite, 2}, {inspect, 3}, {puts, 2}]),
     Plain = [{atom, Of} || Of <- [standard_error, standard_io, stderr, stdio, user]],
     IsTold = Name =:= inspect andalso length(Given) > 1 andalso not is_constant(lists:last(Given)),
-    [any || IsTold orelse IsNamed andalso not lists:member(Device, Plain)];
+    [any || IsTold orelse IsNamed andalso not lists:member(Device, Plain) andalso not get({?MODULE, devices})];
+may_be_funs(file, Name, _) when Name =:= close; Name =:= datasync; Name =:= sync; Name =:= write ->
+    [any || not get({?MODULE, devices})];
 may_be_funs(logger, _, [Text, _ | _] = Given) -> [Text | [any || lists:last(Given) =:= map]];
 may_be_funs('Elixir.Logger', Name, [_, Text | _]) when Name =:= '__do_log__'; Name =:= bare_log -> [Text];
 may_be_funs('Elixir.Inspect.Algebra', Name, Given) ->
