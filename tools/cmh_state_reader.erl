@@ -188,8 +188,8 @@ ways(Places, Code) ->
                      ++ [Word || Place =:= {frames, []}, Word <- Stays]}
             || {place, Number, Place} <- lists:usort(Places), Place =/= none],
     Permits = permits(Places, Known),
-    Tells = tells([{Number, Place} || {Number, Place} <- lists:usort([{Number, untold(Place)} || {place, Number, Place} <- Places]),
-                                      Place =/= none, not lists:member(deaf, proplists:get_value(Number, Rows, []))], Known),
+    Tells = tells([Each || {Number, Place} = Each <- lists:usort([{At, untold(Of)} || {place, At, Of} <- Places]),
+                           Place =/= none, not lists:member(deaf, proplists:get_value(Number, Rows, []))], Known),
     More = firm_ones(Places, Rows, Known),
     Plain = [{Module} || {Module, [_ | _] = Found} <- Told, lists:all(fun is_plain/1, Found)],
     Outside = [{Module} || {Module, Found} <- Told, lists:member(aimed, Found)],
@@ -214,7 +214,9 @@ firm_ones(Places, Rows, {Code, Names, Ticks} = Known) ->
 %% The code as it goes on where no message comes.
 without_messages(Code) ->
     maps:map(fun(_, Instructions) ->
-                 lists:flatmap(fun({loop_rec, Label, _} = Each) -> [{jump, Label}, Each]; (Each) -> [Each] end, Instructions)
+                 lists:flatmap(fun({loop_rec, Label, _} = Each) -> [{jump, Label}, Each];
+                                  (Each) -> [Each]
+                               end, Instructions)
              end, Code).
 
 %% Whether no receive on the way takes what timers tell, or the end of whom it begins to monitor.
@@ -286,14 +288,15 @@ requests_in([{select_val, _, _, {list, Cases}} | Rest], Found) ->
     requests_in(Rest, [{Tag, 0, {atom, Tag}} || {atom, Tag} <- Cases] ++ Found);
 requests_in([_ | Rest], Found) -> requests_in(Rest, Found).
 
-%% For each place of some to which others those may tell something who are at it that aren't at rest with it, by their
-%% numbers. None is known of one that may do more.
+%% For each place of some, at which of these those may be to whom one may tell something for which they may do more, by
+%% their numbers.
 -define(PLACES, 100).
 
 tells(Places, Known) when length(Places) =< ?PLACES ->
     All = [{Number, Place, done_at(Place, Known)} || {Number, Place} <- Places],
-    [{Number, [Other || {Other, Whom, Does} <- All, lists:any(fun(Each) -> is_heeded(Each, Whom, Does, Known) end, Told)]}
-     || {Number, _, Effects} <- All, Told <- [told_by(Effects, Known)], not lists:member(any, Told)];
+    [{Number, [Other || {Other, Whom, Does} <- All,
+                        lists:any(fun(Each) -> is_heeded(Each, Whom, Does, Known) end, Told)]}
+     || {Number, _, Effects} <- All, Told <- [told_by(Effects, Known)]];
 tells(_, _) -> [].
 
 untold({told, Place}) -> untold(Place);
@@ -311,7 +314,8 @@ told_by(Effects, {Code, _, _} = Known) ->
     Others = [Name || {calls, Name} <- Effects, not is_map_key(Name, Code)],
     More = Effects =:= [] orelse lists:any(fun(Each) -> lists:member(Each, [aimed, dynamic]) end, Effects)
         orelse not lists:all(fun is_telling/1, Others)
-        orelse lists:any(fun({sends, Kind, _, _} = Each) when Kind =:= agent; Kind =:= lists -> not is_harmless([Each], Known);
+        orelse lists:any(fun({sends, Kind, _, _} = Each) when Kind =:= agent; Kind =:= lists ->
+                                 not is_harmless([Each], Known);
                             (_) -> false
                          end, Effects),
     [any || More] ++ [reply || lists:any(fun is_reply/1, Others)]
@@ -319,9 +323,11 @@ told_by(Effects, {Code, _, _} = Known) ->
                     not is_harmless([Each], Known)].
 
 is_telling({Module, Name, _} = Function) ->
-    is_reply(Function) orelse lists:member(Module, [gen_server, 'Elixir.GenServer']) andalso lists:member(Name, [call, cast]).
+    is_reply(Function) orelse lists:member(Module, [gen_server, 'Elixir.GenServer'])
+        andalso lists:member(Name, [call, cast]).
 
 %% Whether one at a place may do something else for it that it is told.
+is_heeded(any, _, _, _) -> true;
 is_heeded(reply, _, Does, _) ->
     lists:any(fun({sends, call, _, _}) -> true; ({posts, call, _}) -> true; (_) -> false end, Does)
         orelse lists:any(fun({calls, {Module, _, _}}) -> lists:member(Module, [gen, gen_statem, sys, 'Elixir.Task']);
@@ -343,24 +349,26 @@ is_heeded({posts, Kind, Message}, {frames, Frames}, Does, {Code, _, _}) ->
     Called = [Other || {Word, Other} <- Does, Word =:= calls orelse Word =:= tail, is_map_key(Other, Code)],
     lists:any(fun(Each) -> takes(Each, Told, Code) end, Frames ++ Called).
 
-%% The requests of servers for which these give away what each who has it gives back, as TAG/SIZE: a pool, a lock. By all
-%% code of the program: who has asked gives it back, on each of its ways, and nobody else does. And the places at which
-%% one may have it that waits for a message.
+%% The requests of servers, as TAG/SIZE, for which these give away what each who has it gives back, as a pool does: who
+%% has asked gives it back, by all code of the program and on each of its ways, and nobody else does. Or for which these
+%% begin others who do the work. And the places at which one may have it that waits for a message.
 permits(Places, {Code, Names, _} = Known) ->
-    Servers = lists:usort([Module || {place, _, {loop, Module, _}} <- Places, is_map_key({Module, handle_call, 3}, Code)]),
+    Servers = lists:usort([Module || {place, _, {loop, Module, _}} <- Places,
+                                     is_map_key({Module, handle_call, 3}, Code)]),
     Callers = callers_in(Code),
     [{Word, {Module, list_to_atom(lists:concat([Tag, "/", Size])), having(Given, Places, Code)}}
      || Module <- Servers, All <- [given_back(Module, Known)], {Tag, Size, Value} <- kept_by(Module, Code),
         Given <- [All -- [{call, Value} || not replies({Module, handle_call, 3}, Value, Code)]], Given =/= [],
-        Word <- kinds_of({[Name || {Name, {Of, loop}} <- maps:to_list(Names), Of =:= Module], Module, {Tag, Size, Value},
-                          Given}, Code, Callers)].
+        Word <- kinds_of({names_of(Module, Names), Module, {Tag, Size, Value}, Given}, Code, Callers)].
+
+names_of(Module, Names) -> [Name || {Name, {Of, loop}} <- maps:to_list(Names), Of =:= Module].
 
 %% The requests whose callers a server may keep.
 kept_by(Module, Code) ->
     Function = {Module, handle_call, 3},
-    [Request || {_, _, Value} = Request <- requests(Function, Code), is_list(ends(Function, #{{x, 0} => Value}, Code, [])),
-                lists:any(fun({tuple, [{atom, noreply} | _]}) -> true; (_) -> false end,
-                          ends(Function, #{{x, 0} => Value}, Code, []))].
+    [Request || {_, _, Value} = Request <- requests(Function, Code),
+                Ends <- [ends(Function, #{{x, 0} => Value}, Code, [])], is_list(Ends),
+                lists:any(fun({tuple, [{atom, noreply} | _]}) -> true; (_) -> false end, Ends)].
 
 %% What a server is told by which it may answer those that it keeps, or have another one do so, but for the end of
 %% somebody; none if that may be anything.
@@ -392,7 +400,8 @@ answers(_, Effects, Known) -> not is_harmless(Effects -- [raises], Known).
 %% The places in receives at which one may give something back.
 having(Given, Places, Code) ->
     [Number || {place, Number, {frames, [_ | _] = Frames}} <- lists:usort(Places),
-               lists:any(fun(Each) -> is_given_back(Each, any, Given) end, closure([{Each, #{}} || Each <- Frames], Code))].
+               lists:any(fun(Each) -> is_given_back(Each, any, Given) end,
+                         closure([{Each, #{}} || Each <- Frames], Code))].
 
 %% Whether what is sent is one of these, to a server of these names.
 is_given_back({sends, Kind, Name, Message}, Names, Given) ->
@@ -412,11 +421,13 @@ kinds_of({Names, Module, {Tag, _, Value}, Given} = Server, Code, Callers) ->
     Others = [Of || {Of, handle_call, 3} = Function <- maps:keys(Code), Of =/= Module,
                     lists:keymember(Tag, 1, requests(Function, Code))],
     IsOwn = not lists:any(fun({Kind, Other}) -> Kind =:= call andalso is_like(Value, Other) end, Given),
+    Own = [handle_call, handle_cast, handle_info],
     Sent = [{Function, Each} || {{Of, Name, _} = Function, Each} <- sends_in(Code),
-                                not (Of =:= Module andalso lists:member(Name, [handle_call, handle_cast, handle_info]))],
+                                Of =/= Module orelse not lists:member(Name, Own)],
     Giving = [Each || {_, What} = Each <- Sent, is_given_back(What, Names, Given)],
     Asking = [Each || {_, What} = Each <- Sent, is_asked(What, Names, Value)],
-    IsAll = lists:all(fun(One) -> lists:any(fun({_, Each}) -> is_given_back(Each, Names, [One]) end, Giving) end, Given),
+    IsAll = lists:all(fun(One) -> lists:any(fun({_, What}) -> is_given_back(What, Names, [One]) end, Giving) end,
+                      Given),
     IsPlain = not lists:any(fun({_, {sends, _, Name, any}}) -> lists:member(Name, Names); (_) -> false end, Sent),
     Kinds = [{permits, fun() -> is_even(Server, functions_of(Asking ++ Giving), Code, Callers) end},
              {begins, fun() -> is_begun(Server, functions_of(Giving), Code, Callers) end}],
@@ -457,7 +468,7 @@ dealers(Known, _, _, _, _, 0) -> Known;
 dealers({Asking, Giving}, Server, Dealing, Code, Callers, Times) ->
     Near = near(Asking ++ Giving, Dealing, Callers),
     Rules = {Server, Asking, Giving},
-    More = {[Each || Each <- Near, not lists:member(Each, Giving), lists:member(leaves, dealings(Each, 0, Rules, Code))],
+    More = {[Each || Each <- Near -- Giving, lists:member(leaves, dealings(Each, 0, Rules, Code))],
             [Each || Each <- Near, gives_one(dealings(Each, 1, Rules, Code))]},
     case More of
         {Asking, Giving} -> More;
@@ -468,8 +479,8 @@ near(Some, Dealing, Callers) -> lists:usort(Dealing ++ lists:append([maps:get(Ea
 
 gives_one(Dealings) -> lists:member(gave, Dealings) andalso Dealings -- [gave] =:= [].
 
-%% How a function deals with what a server gives away, where it has so many things at first: `asks`, `gives` one back that
-%% it doesn't have, `gave` one that it has, or `leaves` its callers with one.
+%% How a function deals with what a server gives away, where it has so many things at first: `asks`, `gives` one back
+%% that it doesn't have, `gave` one that it has, or `leaves` its callers with one.
 dealings(Function, Number, Rules, Code) ->
     Instructions = maps:get(Function, Code),
     [_ | Body] = lists:dropwhile(fun(Each) -> not is_entry(Each) end, Instructions),
@@ -482,7 +493,9 @@ deal(Each, Known, Rules) ->
     Word = dealing(Effects, is_made(Each), Rules),
     Left = case Word of asks -> min(Number + 1, 8); gives -> max(Number - 1, 0); plain -> Number end,
     Ends = Next =:= stop andalso Left > 0 andalso lists:any(fun is_end/1, Effects)
-        andalso not lists:any(fun({tail, To}) -> is_failure(To) orelse To =:= {erlang, exit, 1}; (_) -> false end, Effects),
+        andalso not lists:any(fun({tail, To}) -> is_failure(To) orelse To =:= {erlang, exit, 1};
+                                 (_) -> false
+                              end, Effects),
     Found = [asks || Word =:= asks] ++ [gives || Word =:= gives, Number =:= 0] ++ [gave || Word =:= gives, Number > 0]
         ++ [leaves || Ends],
     {case Next of stop -> stop; _ -> Next#{{has, 0} => Left} end, Jumps, Found}.
@@ -814,8 +827,22 @@ walked([{[], _} | Paths], Labels, Seen, Found) -> walked(Paths, Labels, Seen, Fo
 walked([{[Each | Rest], Known} | Paths], {Places, Step} = Labels, Seen, Found) ->
     {Next, Jumps, Effects} = Step(Each, Known),
     Onward = [{Rest, Next} || Next =/= stop] ++ [{[{label, Label} | maps:get(Label, Places)], After}
-                                                || {Label, After} <- Jumps, Label > 0],
+                                                || {Label, After} <- Jumps, Label > 0,
+                                                   not is_form(Each, maps:get(Label, Places))],
     walked(Onward ++ Paths, Labels, Seen, [handed || is_handed(Each, Known)] ++ Effects ++ Found).
+
+%% Whether an instruction leads to a failure if a term has another form than its function takes at all: what goes on for
+%% ever would have failed at once.
+is_form({test, Test, _, _}, Part) ->
+    lists:member(Test, [is_binary, is_bitstr, is_float, is_function, is_integer, is_map, is_number, is_pid, is_port,
+                        is_reference, is_tagged_tuple, is_tuple, test_arity])
+        andalso has_no_clause(Part);
+is_form({get_map_elements, _, _, _}, Part) -> has_no_clause(Part);
+is_form(_, _) -> false.
+
+has_no_clause([{Word, _} | Part]) when Word =:= label; Word =:= line -> has_no_clause(Part);
+has_no_clause([Each | _]) -> is_entry(Each);
+has_no_clause([]) -> false.
 
 %% What an instruction does: what is known behind it (`stop` if none follows), where it may jump, and its effects.
 step({test, is_map, {f, Other}, [Register]}, Known) ->
@@ -1045,9 +1072,10 @@ outcome(Module, Name, Given) ->
         false -> [{calls, {Module, Name, length(Given)}}]
     end.
 
-%% Whether a function of Erlang's or Elixir's own fails where somebody else has ended or has deleted something. Others of
-%% these fail by their arguments alone, or tell their caller so.
-may_fail(ets, Name, Arity) -> lists:member({Name, Arity}, [{lookup_element, 3}, {next, 2}, {prev, 2}, {update_counter, 3}]);
+%% Whether a function of Erlang's or Elixir's own fails where somebody else has ended or has deleted something. Others
+%% of these fail by their arguments alone, or tell their caller so.
+may_fail(ets, Name, Arity) ->
+    lists:member({Name, Arity}, [{lookup_element, 3}, {next, 2}, {prev, 2}, {update_counter, 3}]);
 may_fail('Elixir.File', Name, _) -> lists:last(atom_to_list(Name)) =:= $!;
 may_fail(_, Name, _) -> Name =:= process_info.
 
@@ -1699,7 +1727,8 @@ named_of(Info, Place) ->
             [{named, Name, {Frames, waits}} || Top =:= top_of(Stack)];
         {{_, Name}, _, {loop, Module, _}} when is_atom(Name) -> [{named, Name, {Module, loop}}];
         {{_, Name}, [Module], _} when is_atom(Name), Stack =/= [], element(1, hd(Stack)) =:= gen ->
-            [{named, Name, {Module, calls}} || element(2, hd(Stack)) =:= do_call, lists:keymember(gen_server, 1, tl(Stack))];
+            [{named, Name, {Module, calls}} || element(2, hd(Stack)) =:= do_call,
+                                               lists:keymember(gen_server, 1, tl(Stack))];
         _ -> []
     end.
 

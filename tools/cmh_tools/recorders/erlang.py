@@ -15,7 +15,8 @@ from ..moments import APART, PARTS, Reading
 from ..sketch import COMPLETE, LIMIT, REST, RUNS, SYSTEM, Process, Sketch, premise, runs, spoilt, unknown, waits_for_any
 from . import State
 from .base import Premise, Recorder
-from .erlang_acting import ALONE, BEGINS, GIVES_BACK, HARMLESS, PERMITS, besides_of, doubt_moving, has_port, look_at_acting
+from .erlang_acting import (ALONE, BEGINS, GIVES_BACK, HARMLESS, PERMITS, besides_of, doubt_moving, has_port,
+                            look_at_acting)
 from .erlang_calls import ANSWERS, LETS_GO, NO_MAIL, place_elsewhere, wait_of_call
 from .erlang_enders import add_enders, stoppers_of, two_of_each
 from .erlang_keepers import is_awake
@@ -66,8 +67,8 @@ class ErlangRecorder(Recorder):
         GIVES_BACK: Premise("whom a server monitors beside the callers that it keeps has what these wait for"),
         PERMITS: Premise("what a server gives to a caller for a request, as a pool does, each who has it gives back by "
                          "its code, and nobody else does"),
-        BEGINS: Premise("what a server waits for to answer a call comes from those whom it begins for that, by all code of "
-                        "the program, and from nobody else"),
+        BEGINS: Premise("what a server waits for to answer a call comes from those whom it begins for that, by all "
+                        "code of the program, and from nobody else"),
         RESTARTS: Premise("a supervisor that restarts one child alone doesn't give up, as it does where children fail "
                           "again and again"),
         OWN_CHILD: Premise("a supervisor that starts or stops a child waits for that child alone"),

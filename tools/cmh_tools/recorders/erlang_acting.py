@@ -26,7 +26,7 @@ def look_at_acting(moment: Nodes) -> None:
     nodes = [reading for reading in moment.readings if isinstance(reading, NodeReading)]
     moment.words = {(reading.source, number): words for reading in nodes for number, words in reading.places.items()}
     moment.grants = {(reading.source, module): tags for reading in nodes for module, tags in reading.grants.items()}
-    moment.permits = {(reading.source, *server): places for reading in nodes for server, places in reading.permits.items()}
+    moment.permits = {(reading.source, *key): places for reading in nodes for key, places in reading.permits.items()}
     moment.tells = {(reading.source, place): others for reading in nodes for place, others in reading.tells.items()}
     is_known = all(reading.places and not reading.outside and not reading.missing for reading in nodes)
     watched = {id(it) for block in moment.rows() for it in moment.watched(block)}
@@ -128,9 +128,10 @@ def may_pass_on(some: List[Block], moment: Nodes) -> bool:
 
 
 def may_tell(block: Block, other: Block, moment: Nodes) -> bool:
-    told = moment.tells.get((block.node, block.extra("place") or ""))
-    place = other.extra("place") or ""
-    return told is None or block.node != other.node or (other.node, place) not in moment.words or place in told
+    """Whether one may tell another one something for which that does more, by the code at their places."""
+    own, place = ((it.node, it.extra("place") or "") for it in (block, other))
+    is_known = own in moment.tells and place in moment.tells and own[0] == place[0]
+    return not is_known or place[1] in moment.tells[own]
 
 
 def request_of(block: Block) -> str:
@@ -158,16 +159,16 @@ def has_owner(block: Block, server: Block, moment: Nodes) -> bool:
 
 
 def owed_by(block: Block, server: Block, moment: Nodes) -> str:
-    """Returns on what it rests that somebody else owes a server what it keeps a call for: GIVES_BACK, PERMITS or BEGINS,
-    or nothing. Else others may have work for who asks, as for a worker."""
+    """Returns on what it rests that somebody owes a server what it keeps a call for: GIVES_BACK, PERMITS or BEGINS, or
+    nothing. Else others may have work for who asks, as for a worker."""
     if has_owner(block, server, moment):
         return GIVES_BACK
     return next((word for word in (PERMITS, BEGINS) if is_coming(word, block, server, moment)), "")
 
 
 def is_coming(word: str, block: Block, server: Block, moment: Nodes) -> bool:
-    """Whether by its code a server gives away for a call what each who has it gives back, as a pool does, or has another
-    one do the work that it begins for it; and nobody has it who waits for a message, and may keep it for ever."""
+    """Whether by its code a server gives away for a call what each who has it gives back, as a pool does, or begins
+    another one that does the work; and nobody has it who waits for a message, and may keep it for ever."""
     places = moment.permits.get((server.node, word, server.start[0], request_of(block)))
     return places is not None and not any(it.node == server.node and it.extra("place") in places for it in moment.rows()
                                           if id(it) in moment.reacting | moment.quiet_ones)

@@ -39,8 +39,8 @@ OF_SYSTEM = re.compile(r"gen(_server|_statem|_event|_tcp|_udp)?|global|erpc|inet
                        r"Agent|DynamicSupervisor|Enum|GenServer|Process|Registry|Stream|Supervisor|Task)(\.\w+)*'")
 LOOPS = re.compile(r"(gen_server:loop|gen_statem:loop_(receive|hibernate)|gen_event:fetch_msg|proc_lib:hibernate"
                    r"|proc_lib:wake_up|erlang:hibernate)/")
-FIRST = re.compile("=(process|asks|begins|grants|keepers|keeps|left out|locks|mnesia|nodes|numbers|outside|permits|places|"
-                   "quiet|receives|tables|tells|ticks|timers|end) ")
+FIRST = re.compile("=(process|asks|begins|grants|keepers|keeps|left out|locks|mnesia|nodes|numbers|outside|permits|"
+                   "places|quiet|receives|tables|tells|ticks|timers|end) ")
 MARK = re.compile(rf"\n{FIRST.pattern}")
 # The rows below lines of some words: the receives of a function, and whom it has sent to before; the number of another
 # node; who has a lock, or wants one of Mnesia; and what code may do: at the places of processes, and of each module.
@@ -51,7 +51,8 @@ MODULE, WORDS = r"{(\w+|'[^']*')", r",\[([\w,]*)\]}"
 ROWS = {"receives": RECEIVES, "asks": ASKS, "quiet": QUIET, "ticks": re.compile(f"{MODULE}}}"),
         "outside": re.compile(f"{MODULE}}}"), "keepers": re.compile(MODULE + WORDS),
         "grants": re.compile(MODULE + r",'?([\w/+]+)'?}"), "permits": re.compile(MODULE + r",'?([\w/+]+)'?" + WORDS),
-        "begins": re.compile(MODULE + r",'?([\w/+]+)'?" + WORDS), "places": re.compile(r"{(\d+)" + WORDS), "tells": re.compile(r"{(\d+)" + WORDS),
+        "begins": re.compile(MODULE + r",'?([\w/+]+)'?" + WORDS), "tells": re.compile(r"{(\d+)" + WORDS),
+        "places": re.compile(r"{(\d+)" + WORDS),
         "numbers": re.compile(r"(\d+) (\S+)"),
         "locks": re.compile(r"{(.*),\[((?:{<[\d.]+>,#Ref<[\d.]+>},?)+)\]}"),
         "mnesia": re.compile(r"{(?P<word>has|wants),{(?P<what>.*)},(?P<kind>\w+),"
