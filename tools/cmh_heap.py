@@ -742,7 +742,7 @@ class Waits:
             seen |= new
             todo += [self.threads[it] for it in new if self.is_at_rest(self.threads[it])]
             found |= {it for it in new if not self.is_at_rest(self.threads[it])}
-        self.listed += len(found)
+        self.listed += len(found) if not is_all else 0
         return [thread.label for it, thread in self.threads.items() if it in found], is_all
 
     def fields_of(self, thread: Thread) -> Row:
