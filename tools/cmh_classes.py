@@ -131,7 +131,7 @@ class ClassFile:
         self.above = [self.text(it) for it in (above, *self.numbers(at + 6)) if it]
         at += 8 + 2 * self.u2(at + 6)
         self.finals: Set[str] = set()
-        self.named_fields: Set[str] = set()
+        self.named_fields: List[str] = []
         self.fields: List[str] = []
         self.methods: Dict[Tuple[str, str], Method] = {}
         self.makers: List[Tuple[int, List[int]]] = []
@@ -186,7 +186,7 @@ class ClassFile:
 
     def add_field(self, flags: int, name: str, types: str, _: int) -> None:
         self.finals.update([name] if flags & IS_FINAL else [])
-        self.named_fields.add(name)
+        self.named_fields.append(name)
         self.fields += [] if flags & IS_STATIC else [types]
 
     def add_method(self, flags: int, name: str, types: str, at: int) -> None:
@@ -246,19 +246,22 @@ class ClassFile:
         is_alone = its and len(code) == 8 and (code[0], code[3], code[4], code[7]) == (NEW, 89, SPECIAL, 176)
         return self.call(SPECIAL, U2.unpack_from(code, 5)[0]) if is_alone else None
 
-    def made_there(self, makers: Sequence[str]) -> Set[str]:
+    def made_there(self, makes: Callable[[Call], bool]) -> Set[str]:
         """Returns the final fields that get, wherever they are written, what is made for them alone: by `new`, or by a
-        method of some names."""
-        puts = [row for (name, _), it in self.methods.items() if name == "<init>" for row in self.puts(it, makers)]
+        call that makes it."""
+        puts = [row for it in self.methods.values() if self.writes(it) for row in self.puts(it, makes)]
         others = {name for name, is_new in puts if not is_new}
-        return {name for name, _ in puts if name in self.finals} - others
+        return {name for name, _ in puts if name in self.finals and self.named_fields.count(name) == 1} - others
 
-    def puts(self, method: Method, makers: Sequence[str]) -> Iterator[Tuple[str, bool]]:
+    def writes(self, method: Method) -> bool:
+        return any(what == PUTFIELD for _, what, _ in steps(method.code))
+
+    def puts(self, method: Method, makes: Callable[[Call], bool]) -> Iterator[Tuple[str, bool]]:
         """Yields which fields of its own a method writes, and whether what it puts there has just been made."""
         def result(call: Call, its: str, is_new: bool) -> str:
-            return f"{NEW_VALUE if call.name in makers else ''}{call.types.rpartition(')')[2]}"
+            return f"{NEW_VALUE if makes(call) else ''}{call.types.rpartition(')')[2]}"
 
-        flow = Flow(self, method, result)
+        flow = Flow(self, method, result, given=TYPE.findall(method.types.partition(")")[0][1:]))
         for at in (at for at, what, _ in steps(method.code) if what == PUTFIELD and at in flow.before):
             field = self.call(PUTFIELD, flow.index(at))
             if field.owner == self.name:

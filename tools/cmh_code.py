@@ -50,6 +50,7 @@ SETS_FIELDS = re.compile(r"java/lang/Class\.get(?:Declared)?Fields?|java/lang/re
 FROM_INSIDE = re.compile(r"java/lang/ref/Cleaner\..*|(?:sun|jdk/internal)/misc/Signal\..*|javax/management/.*"
                          r"|java/lang/(?:System|Runtime)\.load(?:Library)?|java/lang/Runtime\.addShutdownHook"
                          r"|java/lang/instrument/.*")
+READS_OBJECTS = re.compile(r"java/io/ObjectInputStream\..*")
 MEETS_FOR = re.compile(r"java/util/concurrent/CyclicBarrier\.<init> with Runnable")
 POOLS = re.compile(r".*\.(?:allowCoreThreadTimeOut|setCorePoolSize)")
 # Types of the JDK whose methods no method in HARMLESS calls, though the program has classes and lambdas of them.
@@ -230,6 +231,9 @@ WRITTEN = re.compile(r"[BCDFIJSZ]|Ljava/lang/String;")
 NUMBERED = re.compile(rf"java/(?:lang/(?:{NUMBERS}|String)|time/(?:Instant|Duration|Period|Local\w+|ZonedDateTime"
                       r"|OffsetDateTime|Year|YearMonth|ZoneOffset|DayOfWeek|Month)|util/(?:UUID|concurrent/TimeUnit))")
 ROOTS = re.compile(r"java/lang/(?:Object|Record|Enum|Comparable|Cloneable)|java/io/Serializable")
+# Types from which a class may derive of whose objects no stream of bytes sets the fields.
+SET_BY_ITSELF = re.compile(r"java/lang/(?:Object|Record|Enum|Comparable|Cloneable|Runnable|AutoCloseable|Thread)"
+                           r"|java/io/Closeable|java/util/concurrent/Callable")
 COLLECTIONS = re.compile(r"java/util/(?!function/).*")
 OF_STREAMS, OF_ANY = re.compile(r"java/(?:n?io|util/(?:zip|jar)|security|net)/.*|javax/.*"), re.compile(r".*")
 COLLECTION = re.compile(rf"{MAPS}|{LISTS}|java/util/ListIterator")
@@ -472,10 +476,20 @@ class Program:
         some = [it for it in self.lineage(owner) if it in self.classes and name in self.classes[it].named_fields]
         its = some[0] if some else ""
         if its not in self.made_there:
-            is_plain = its and not self.names(SETS_FIELDS) and "java/io/Serializable" not in self.kinds[its]
-            makers = () if self.by_call.get(NEW_CONDITION) else NEW_CONDITION[:1]
-            self.made_there[its] = self.classes[its].made_there(makers) if is_plain else set()
-        return f"{its.replace('/', '.')}.{name}" if name in self.made_there[its] else ""
+            is_set = not its or self.names(SETS_FIELDS) or self.may_be_read(its)
+            self.made_there[its] = set() if is_set else self.classes[its].made_there(self.makes_condition)
+        is_shown = re.search(r"\s", f"{its}.{name}") is None
+        return f"{its.replace('/', '.')}.{name}" if name in self.made_there[its] and is_shown else ""
+
+    def may_be_read(self, name: str) -> bool:
+        """Whether the fields of a class may be set by a stream of objects."""
+        is_plain = all(map(SET_BY_ITSELF.fullmatch, self.kinds[name]))
+        return "java/io/Serializable" in self.kinds[name] or not is_plain and self.names(READS_OBJECTS)
+
+    def makes_condition(self, call: Call) -> bool:
+        """Whether a call is of a lock of the JDK's that makes a new condition."""
+        is_of_jdk = call[2:] == NEW_CONDITION and JDK.fullmatch(call.owner) is not None
+        return is_of_jdk and not self.by_call.get(NEW_CONDITION)
 
     def runs_alone(self) -> bool:
         """Whether no thread but its own runs its code: no finalizer, no handler of a signal, none of native code, and no
@@ -919,7 +933,8 @@ class Reading:
             self.take(field.types)
             return
         stack = self.flow.before[at].stack
-        is_first = field.owner == self.method.owner and (
+        is_begun = self.part.line is not None and not stack[-1].startswith(NEW_VALUE)  # (others may have what it has)
+        is_first = field.owner == self.method.owner and not is_begun and (
             what == PUTSTATIC and self.method.name == "<clinit>"
             or what == PUTFIELD and self.method.name == "<init>" and field.name in self.file.finals)
         self.walk.shares = self.walk.shares or is_first and what == PUTSTATIC and not WRITTEN.fullmatch(field.types)

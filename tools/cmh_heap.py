@@ -73,6 +73,11 @@ MOST_PARTS = 1000  # parts of all parallel streams, and futures of which one nee
 COMPUTES = re.compile(r"java\.util\.concurrent\.CompletableFuture\$(?:Async(?:Supply|Run)\.run|(?:Uni|Bi)\w+\.tryFire)")
 JDK = re.compile(r"(?:java|javax|jdk|sun|com\.sun)\.")
 CONCURRENT = re.compile(r"java\.util\.concurrent\.")
+# Calls of the JDK of which none ends the wait of another one that is in one of the same, at the same object.
+_QUEUE = r"java\.util\.concurrent\.(?:(?:Array|Linked|Priority)BlockingQueue|LinkedBlockingDeque)"
+WAYS = [re.compile(it) for it in (
+    rf"{_QUEUE}\.(?:take|poll)\w*", rf"{_QUEUE}\.(?:put|offer)\w*", r"java\.util\.concurrent\.CountDownLatch\.await",
+    r"java\.util\.concurrent\.locks\.AbstractQueuedSynchronizer\$ConditionObject\.await\w*")]
 NATIVE = -3  # the line of a native method, of whose arguments no heap dump has all
 # Who lets a thread sleep, and who waits by that.
 PARKS_A_WHILE = re.compile(r"java\.util\.concurrent\.locks\.LockSupport\.park(?:Nanos|Until)")
@@ -464,6 +469,14 @@ class Thread:
         depths = {at for at, (name, _) in enumerate(self.frames) if name == method}
         return {identity for depth, identity in self.locals if depth in depths and identity in some}
 
+    def begin(self) -> int:
+        """Returns how many frames of the JDK's are on top of those of the job."""
+        return next((at for at, (name, _) in enumerate(self.frames) if not JDK.match(name)), len(self.frames))
+
+    def entry(self) -> str:
+        """Returns the method of the JDK that the job has called, or nothing."""
+        return "".join(name for name, _ in self.frames[:self.begin()][-1:])
+
 
 class Reach:
     """Who has a path of references to some objects. `into` has, of each object on a path, those that refer to it, `own`
@@ -616,10 +629,14 @@ class Reach:
         todo = [thing]
         for it in todo:  # (which grows meanwhile)
             inside = {name for name in self.by_fields[it] if CONCURRENT.match(name)}
-            todo += [other for other in self.into.get(it, ()) if inside and other not in todo
-                     and CONCURRENT.match(self.heap.name_of(self.heap.kind_of(other)).replace("/", "."))]
+            todo += [other for other in self.into.get(it, ()) if inside and other not in todo and self.is_inside(other)]
             found |= self.by_fields[it] - inside
         return {*todo}, found
+
+    def is_inside(self, thing: int) -> bool:
+        """Whether an object is of the JDK's locks and queues, or of a class of the job's that derives from one."""
+        names = map(self.heap.name_of, self.heap.lineage(self.heap.kind_of(thing)))
+        return any(CONCURRENT.match(it.replace("/", ".")) for it in names)
 
     def is_asked(self, kind: str) -> bool:
         """Whether code of the job may ask the locks of a class for their owners."""
@@ -746,16 +763,26 @@ class Waits:
         return [thread.label for it, thread in self.threads.items() if it in found], is_all
 
     def fields_of(self, thread: Thread) -> Row:
-        """Returns in which fields stands what a thread waits at, if others come to it by these alone: not by an array,
-        nor by what the code of the job has there in a frame, as it may have read that from an object that is gone."""
+        """Returns in which fields what a thread waits at stands, unless a final one is to get it yet. `held` has those
+        who have it in a frame, or may have: they may have read it from an object that is gone."""
         at = self.at[thread.identity]
         things, fields = self.reach.fields_with(at)
-        others = [it for it in self.threads.values() if it is not thread and self.at[it.identity] != at]
-        is_held = any(map(things.intersection, self.heap.natives.values())) or any(
-            held in things and not (depth < len(it.frames) and JDK.match(it.frames[depth][0]))
-            for it in others for depth, held in it.locals)
-        is_known = at and not is_held and not any(not it or JDK.match(it) for it in fields)
-        return {"fields": sorted(fields)} if is_known else {}
+        is_put = any(map(things.intersection, self.heap.natives.values())) or any(
+            held in things and it.frames[depth:depth + 1] and it.frames[depth][0].endswith((".<init>", ".<clinit>"))
+            for it in self.threads.values() for depth, held in it.locals)
+        if not at or is_put or any(not it or JDK.match(it) for it in fields):
+            return {}
+        held = [it.label for it in self.threads.values() if it is not thread and (
+            it.identity in self.hiding or self.has_at_hand(it, things, thread))]
+        return {"fields": sorted(fields - {""}), **({"held": held} if held else {})}
+
+    @staticmethod
+    def has_at_hand(thread: Thread, things: Set[int], other: Thread) -> bool:
+        """Whether a thread has one of some objects in a frame, and isn't just at it by the same call of the JDK as
+        another one, by which it ends no wait of that."""
+        begin, entries = thread.begin(), (thread.entry(), other.entry())
+        way = next((it for it in WAYS if all(map(it.fullmatch, entries))), None)
+        return any(held in things and not (way and depth < begin) for depth, held in thread.locals)
 
     def lock_of(self, at: int) -> int:
         """Returns the lock of a condition, or 0: one that was signalled still stands there until it gets the lock."""

@@ -26,7 +26,7 @@ KINDS = TASK, QUEUED, READERS, JOIN, FUTURE, FUTURES, SUPPLIED, POOL, REACH, HOO
     "lost", "server")
 ROW = {"thread": LABEL, "frames": [str], "waits": re.compile("|".join(KINDS)), "for": [LABEL], "object?": str,
        "is_full?": bool, "is_direct?": bool, "besides?": [LABEL], "reach?": [LABEL], "tasks?": [str],
-       "sites?": [str], "answers?": bool, "fields?": [str], "is_all?": bool}
+       "sites?": [str], "answers?": bool, "fields?": [str], "held?": [LABEL], "is_all?": bool}
 CANCELS, POOLS, COMPLETES, REACHES = "cancels", "pools", "completes", "reaches"
 PREMISES = {
     CANCELS: "nobody cancels a task for which a thread waits, nor interrupts a thread that waits for another one",
@@ -43,8 +43,8 @@ class Wait:
     """What a heap shows of the wait of a thread: of which of KINDS it is, whom it waits for, who else has at hand what
     it waits at; whether the pool of a queued task takes no more threads, and whether who computes the first future of
     a chain also does what follows. `reach` has those who have a reference to what it waits at, if not anybody may, with
-    the thread that it joins, and `fields` all fields in which that stands, if these are known. `is_all` says that all
-    threads of the job come to it, by a static field."""
+    the thread that it joins, and `fields` all fields in which that stands, if these are known: `held` are those who may
+    have it without reading one of these. `is_all` says that all threads of the job come to it, by a static field."""
 
     kind: str
     frames: List[str]
@@ -54,6 +54,7 @@ class Wait:
     is_direct: bool = False
     reach: Optional[List[Label]] = None
     fields: Optional[List[str]] = None
+    held: List[Label] = field(default_factory=list)
     is_all: bool = False
 
 
@@ -96,7 +97,7 @@ def wait_of_row(row: Dict[str, Any]) -> Wait:
     reach = row["for"] if row["waits"] == REACH else row.get("reach")
     return Wait(row["waits"], frames, whom, besides, row.get("is_full", False), row.get("is_direct", False),
                 None if reach is None else list(dict.fromkeys(map(key_of, reach))), row.get("fields"),
-                row.get("is_all", False))
+                list(map(key_of, row.get("held", []))), row.get("is_all", False))
 
 
 def is_named(thread: Thread) -> bool:
@@ -152,9 +153,16 @@ class Heaps:
     def reach_of(self, thread: Thread) -> Optional[List[str]]:
         """Returns the names of those who are likely to end the wait of a thread: who have a reference, but for those
         for whom nobody has one, and those whose code ends no such wait."""
-        some, kinds = self.enders_of(thread), self.kinds_of(thread)
+        some = self.enders_of(thread)
         return None if some is None else [self.names[it.key] for it in some if self.labels_of(it) != []
-                                          and not self.frees_nobody(it, kinds)]
+                                          and not self.ends_no_wait(it, thread)]
+
+    def ends_no_wait(self, thread: Thread, other: Thread) -> bool:
+        """Whether the code of a thread doesn't end the wait of another one, by the fields too in which stands what that
+        waits at, but for one that may have this without reading a field."""
+        wait, kinds = self.heap.wait_of(other) if self.heap else None, self.kinds_of(other)
+        is_held = wait is not None and label_of(thread) in wait.held
+        return self.frees_nobody(thread, [it.partition(" ")[0] for it in kinds] if is_held and kinds else kinds)
 
     def kinds_of(self, thread: Thread) -> Optional[Iterable[str]]:
         """Returns of which kinds what may end the wait of a thread is. The end of a task is its own alone, if it is
@@ -170,8 +178,7 @@ class Heaps:
         for those at what nobody has but they, unless it is a task, and those whose code ends none. One that joins
         another, or waits for a task, goes on without a reference to it."""
         some = [it for it in self.enders_of(thread) or () if not self.is_lost(it) or awaits_task(it)]
-        kinds = self.kinds_of(thread)
-        found = [it for it in some if not self.frees_nobody(it, kinds)]
+        found = [it for it in some if not self.ends_no_wait(it, thread)]
         if not found and not self.is_for_all(thread):
             found = [it for it in some if it.state == "WAITING"]  # (who may hang as well)
         return [self.names[it.key] for it in found], [REACHES, *([CODE] if len(found) < len(some) else [])]
@@ -256,10 +263,10 @@ class Heaps:
         waits = waits_for_all if wait.kind == FUTURES else waits_for_any
         enders = self.enders_of(thread)
         if enders is not None:
-            is_by_code = any(self.frees_nobody(it, self.kinds_of(thread)) for it in enders)
+            is_by_code = any(self.ends_no_wait(it, thread) for it in enders)
             because += map(premise, [REACHES, *([CODE] if is_by_code else [])])
             self.bounded.add(name)
-        others = [self.names[it.key] for it in enders or () if not self.frees_nobody(it, self.kinds_of(thread))]
+        others = [self.names[it.key] for it in enders or () if not self.ends_no_wait(it, thread)]
         return waits(name, whom, because, besides=list(dict.fromkeys([*self.names_of(wait.besides), *others])))
 
     def stands(self, thread: Thread) -> bool:
