@@ -254,7 +254,7 @@ class ClassFile:
         return {name for name, _ in puts if name in self.finals and self.named_fields.count(name) == 1} - others
 
     def writes(self, method: Method) -> bool:
-        return any(what == PUTFIELD for _, what, _ in steps(method.code))
+        return any(what in (PUTFIELD, PUTSTATIC) for _, what, _ in steps(method.code))
 
     def puts(self, method: Method, makes: Callable[[Call], bool]) -> Iterator[Tuple[str, bool]]:
         """Yields which fields of its own a method writes, and whether what it puts there has just been made."""
@@ -262,7 +262,7 @@ class ClassFile:
             return f"{NEW_VALUE if makes(call) else ''}{call.types.rpartition(')')[2]}"
 
         flow = Flow(self, method, result, given=TYPE.findall(method.types.partition(")")[0][1:]))
-        for at in (at for at, what, _ in steps(method.code) if what == PUTFIELD and at in flow.before):
+        for at in (at for at, what, _ in steps(method.code) if what in (PUTFIELD, PUTSTATIC) and at in flow.before):
             field = self.call(PUTFIELD, flow.index(at))
             if field.owner == self.name:
                 yield field.name, flow.before[at].stack[-1].startswith(NEW_VALUE)
@@ -481,7 +481,7 @@ class Flow:
         elif what in (178, 180, 181):
             field = self.file.call(what, index)
             left = "V" if what == 181 else f"{field.types}{self.source_by(field, stack[-1]) if what == 180 else ''}"
-            left += f"{OF_FIELD}{field.owner}.{field.name}" if what == 180 and WAITED_AT.fullmatch(field.types) else ""
+            left += f"{OF_FIELD}{field.owner}.{field.name}" if what != 181 and WAITED_AT.fullmatch(field.types) else ""
             taken = 1 + len(slots([field.types])) if what == 181 else int(what == 180)
         elif VIRTUAL <= what <= DYNAMICALLY:
             call = self.file.call(what, index)

@@ -770,7 +770,7 @@ class Waits:
         is_put = any(map(things.intersection, self.heap.natives.values())) or any(
             held in things and it.frames[depth:depth + 1] and it.frames[depth][0].endswith((".<init>", ".<clinit>"))
             for it in self.threads.values() for depth, held in it.locals)
-        if not at or is_put or any(not it or JDK.match(it) for it in fields):
+        if not at or is_put:
             return {}
         held = [it.label for it in self.threads.values() if it is not thread and (
             it.identity in self.hiding or self.has_at_hand(it, things, thread))]
