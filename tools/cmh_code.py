@@ -492,8 +492,8 @@ class Program:
         return is_of_jdk and not self.by_call.get(NEW_CONDITION)
 
     def runs_alone(self) -> bool:
-        """Whether no thread but its own runs its code: no finalizer, no handler of a signal, none of native code, and no
-        hook of the JVM's end."""
+        """Whether no thread but its own runs its code: there is no finalizer, no handler of a signal, no hook of the
+        JVM's end, and no native code."""
         has_finalizer = any(FINALIZE in it.methods for it in self.classes.values())
         is_native = any(it.flags & IS_NATIVE for each in self.classes.values() for it in each.methods.values())
         return not (has_finalizer or is_native or self.names(FROM_INSIDE))

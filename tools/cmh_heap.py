@@ -208,7 +208,7 @@ class Heap:
         self.locals: Dict[int, List[Tuple[int, int]]] = defaultdict(list)
         self.natives: Dict[int, Set[int]] = defaultdict(set)
         self.of_all: Set[int] = set()
-        self.statics: Set[int] = set()
+        self.statics: Dict[int, Set[str]] = defaultdict(set)
         self.hooks: Set[int] = set()
         self.linked: Dict[int, int] = {}
         self.keeps_references = True
@@ -338,7 +338,7 @@ class Heap:
                     name = self.text(IDENTITY.unpack_from(self.data, at)[0]) if head == 8 else ""
                     self.linked.update({kind: held} if name == LINKED else {})
                     if is_own and name.isidentifier():
-                        self.statics.add(held)
+                        self.statics[held].add(f"{self.name_of(kind)}.{name}".replace("/", "."))
                     else:
                         of_all.append(held)
                 at += head + 1 + WIDTHS[self.data[at + head]]
@@ -488,7 +488,7 @@ class Reach:
         self.into: Dict[int, Set[int]] = {}
         self.own: Dict[int, Set[int]] = defaultdict(set)
         self.having: Dict[int, Set[int]] = defaultdict(set)
-        self.of_all, self.statics = {*heap.of_all}, heap.statics - {0}
+        self.of_all, self.statics = {*heap.of_all}, heap.statics.keys() - {0}
         self.unused: Set[int] = set()
         self.fields: Dict[int, List[Tuple[int, int]]] = {}
         self.by_fields: Dict[int, Set[str]] = defaultdict(set)
@@ -630,7 +630,7 @@ class Reach:
         for it in todo:  # (which grows meanwhile)
             inside = {name for name in self.by_fields[it] if CONCURRENT.match(name)}
             todo += [other for other in self.into.get(it, ()) if inside and other not in todo and self.is_inside(other)]
-            found |= self.by_fields[it] - inside
+            found |= (self.by_fields[it] - inside).union(self.heap.statics.get(it, ()))
         return {*todo}, found
 
     def is_inside(self, thing: int) -> bool:
