@@ -14,9 +14,9 @@ pattern finds isn't whole while more of it may be started: by a goroutine that i
 from __future__ import annotations
 
 from collections import defaultdict
-from typing import DefaultDict, Dict, Iterable, List, Optional, Set, Tuple
+from typing import Any, DefaultDict, Dict, Iterable, List, Optional, Set, Tuple
 
-from ..files import Refusal
+from ..files import Refusal, shown
 from ..moments import APART, CUT, ONCE, Reading
 from ..sketch import (COMPLETE, LIMIT, RUNS, SYSTEM, UNKNOWN, Process, Sketch, premise, runs, spoilt, unknown,
                       waits_for_any)
@@ -24,6 +24,7 @@ from . import State
 from .base import Moment, Premise, Recorder
 from .go_frames import NEEDS_ALL, Place, entry_of, is_at_another, is_jobs, is_of_runtime, takes_state
 from .go_likely import Likely, may_rest
+from .go_reach import TICKS, Record, Wait, read_record, split_record
 from .go_starters import MAIN, UNSEEN, Starters, unseen_starter
 from .go_text import ADDRESS, TAKER, Dump, Goroutine, read_dumps
 
@@ -44,7 +45,7 @@ ENDERS = {
             "which",
     WRITER: "who holds the lock now ends this wait, and nobody who waits for it; the state doesn't show who that is"}
 ANOTHER = "another wait"  # beside the objects of one that has left its place between two states
-INTENT = "empty-select"
+INTENT, REACH, MOVED, CODE = "empty-select", "reach", "moved", "code"
 
 
 class Goroutines(Moment):
@@ -68,19 +69,37 @@ class GoRecorder(Recorder):
 
     NAME, IDLE, MOMENT = "go", "goroutines", ONCE
     MOMENT_CLASS = Goroutines
-    PREMISES = {INTENT: Premise("main waits in an empty select by intent, as that of a service does")}
+    PREMISES = {
+        INTENT: Premise("main waits in an empty select by intent, as that of a service does"),
+        REACH: Premise("who ends a wait at a channel or lock has a pointer of Go to it, on its stack, on the heap or "
+                       "in a global variable: none is hidden in C, in a number or in memory that the program maps"),
+        MOVED: Premise("what goroutines handed on while the memory was read was seen in one of the readings"),
+        CODE: Premise("whose code ahead sends, closes or unlocks nothing ends no such wait, and what it calls of fmt, "
+                      "log and time calls nothing of the program's own that does")}
 
     def __init__(self) -> None:
         self.dumps: List[Dump] = []
+        self.records: List[Record] = []
         self.warnings: List[str] = []
         self.names: Dict[str, str] = {}
         self.again: Dict[int, str] = {}
         self.parents: Set[str] = set()
 
     def read(self, state: State) -> List[Reading]:
-        found = read_dumps(state.path, state.text)
+        text, lines = split_record(state.text)
+        found = read_dumps(state.path, text)
         self.dumps += found
+        if lines:
+            self.add_record(shown(state.path), lines, found[-1])
         return [self.reading_of(dump) for dump in found]
+
+    def add_record(self, path: str, lines: List[str], dump: Dump) -> None:
+        """Keeps what a state has of who reaches channels and locks, if it is of the same program."""
+        record, why = read_record(path, lines)
+        misfit = record.misfit(dump) if record is not None else ""
+        why = why or misfit and f"{path}: the lines of channels and locks are of another program: {misfit}"
+        self.warnings += [why] if why else []
+        self.records += [record] if record is not None and not why else []
 
     def reading_of(self, dump: Dump) -> Reading:
         """Returns the reading of a dump. A text may be cut off after any goroutine, and nothing shows that."""
@@ -183,9 +202,37 @@ class GoRecorder(Recorder):
             return unknown(name, f"{state}: the other end may be in the dump, and the state doesn't show it")
         if not state:
             return unknown(name, "it has no state")
+        if self.is_timed(goroutine, place):
+            return runs(name, "waits for a timer", [premise(LIMIT)], operation=f"timed {place.operation}")
         others = [name for at in place.objects for name in moment.seen[at]]
         who = ENDERS.get(place.operation, "the state doesn't show what ends this wait")
-        return unknown(name, f"{state}: {who}{also_at(others)}", candidates=self.guess(goroutine, place, moment))
+        return unknown(name, f"{state}: {who}{also_at(others)}", candidates=self.guess(goroutine, place, moment),
+                       **self.bound_of(goroutine, place, moment))
+
+    def record_of(self, goroutine: Goroutine, place: Place) -> Tuple[Optional[Record], Optional[Wait]]:
+        """Returns the last record, and the wait of a goroutine in it, if these are there."""
+        record = self.records[-1] if self.records else None
+        return record, record.wait_of(goroutine, place.objects) if record is not None else None
+
+    def is_timed(self, goroutine: Goroutine, place: Place) -> bool:
+        """Whether a goroutine waits at a channel into which a timer sends."""
+        _, wait = self.record_of(goroutine, place)
+        return wait is not None and TICKS in wait.roots
+
+    def bound_of(self, goroutine: Goroutine, place: Place, moment: Goroutines) -> Dict[str, Any]:
+        """Returns all who may end a wait, if the last state has who reaches what it is at."""
+        record, wait = self.record_of(goroutine, place)
+        if record is None or wait is None:
+            return {}
+        number = int(goroutine.number)
+        new = {int(it) for it in moment.places if int(it) not in record.created}
+        numbers, roots, is_spared = record.enders(goroutine, wait, new)
+        is_lone = goroutine.number == MAIN and not numbers and not record.is_waited_for(number)
+        if is_lone or not all(str(it) in moment.places for it in numbers):
+            return {}
+        whom = [self.names[str(it)] for it in sorted(numbers)] + ([UNSEEN] if roots else [])
+        because = [REACH, *([] if record.is_exact else [MOVED]), *([CODE] if is_spared else [])]
+        return {"bound": whom, "bound_by": list(map(premise, because))}
 
     def guess(self, goroutine: Goroutine, place: Place, moment: Goroutines) -> List[str]:
         """Returns who may end a wait, as words of facts for people to complete: its children, if it waits for all of
@@ -212,7 +259,8 @@ class GoRecorder(Recorder):
     def finish(self, sketch: Sketch, moments: List[Goroutines]) -> None:
         """Adds the warnings, and for each creator the group of those that it has created."""
         sketch.warnings = list(dict.fromkeys([*self.warnings, *sketch.warnings]))
-        if any(UNSEEN in some for moment in moments for some in moment.lists()):
+        is_wanted = any(UNSEEN in (it.bound or ()) for it in sketch.processes)
+        if is_wanted or any(UNSEEN in some for moment in moments for some in moment.lists()):
             sketch.processes.append(unseen_starter())
         if self.dumps[0].is_last:
             sketch.as_of = "as of SIGQUIT, which ended the program"
