@@ -23,13 +23,16 @@ sys.dont_write_bytecode = True
 
 from cmh_go_code import ANYTHING, Code, Steps  # noqa: E402
 from cmh_go_layout import Unreadable  # noqa: E402
-from cmh_go_memory import (AT_CHANNEL, FINALIZERS, GLOBALS, PAGE, RUNNABLE, SYSCALL, TIMERS, WAITING,  # noqa: E402
-                           Goroutine, Program, Snapshot)
+from cmh_go_memory import AT_CHANNEL, FINALIZERS, GLOBALS, PAGE, TIMERS, Goroutine, Program, Snapshot  # noqa: E402
 
 Who = Union[int, str]  # a goroutine by its number, or another root
 
+NOBODY: Set[Who] = set()
 HEADING, FORMAT = "channels and locks by cmh_go", 1
 AHEAD = ("sleep", "chan receive", "select")  # waits of those whose code ahead is read
+BASE, LAST = 6, "runtime.goexit"  # the word of where a goroutine stands that points to its frames, and the outermost
+LIBRARY = re.compile(r"(?:bufio|bytes|context|encoding|errors|fmt|internal|io|log|math|net|os|reflect|runtime|sort"
+                     r"|strconv|strings|sync|syscall|time|unicode)[./]")
 # Finalizers that call nothing of the program's own.
 HARMLESS = re.compile(r"(?:os|net|syscall|crypto|internal|runtime)[./].*")
 SECONDS = 8.0  # of processor time
@@ -49,18 +52,19 @@ class Reach:
         objects = (at for rows in snapshot.rows.values() for row in rows for at in row.objects)
         self.bits = {at: 1 << bit for bit, at in enumerate(dict.fromkeys(map(snapshot.heap.object_of, objects)))}
         hidden = {*snapshot.addresses, *snapshot.processors()}
-        self.leading: Set[int] = self.leading_of(snapshot.parts(), hidden)
+        self.sources: Dict[Who, Set[int]] = {who: set().union(*map(self.objects, parts)) - hidden
+                                             for who, parts in snapshot.parts()}
+        self.leading = self.leading_of(set().union(*self.sources.values()), hidden)
         self.masks: Dict[int, int] = dict.fromkeys(hidden, 0)  # of each object that is done
         self.order: Dict[int, int] = {}
         self.lowest: Dict[int, int] = {}
         self.found: Dict[int, int] = {}
         self.open: List[int] = []
 
-    def leading_of(self, parts: Iterable[Sequence[int]], hidden: Set[int]) -> Set[int]:
-        """Returns the objects from which one can be reached that somebody waits at."""
+    def leading_of(self, first: Set[int], hidden: Set[int]) -> Set[int]:
+        """Returns the objects from which one can be reached that somebody waits at. All begins at some."""
         sources, targets = array("Q"), array("Q")
-        todo = list(set().union(*map(self.objects, parts)) - hidden)
-        seen = {*todo, *hidden}
+        todo, seen = list(first), first | hidden
         while todo:
             item = todo.pop()
             found = self.objects(self.words_of(item))
@@ -79,7 +83,7 @@ class Reach:
     def objects(self, words: Sequence[int]) -> Set[int]:
         """Returns the objects that some words point into, but for those without pointers that nobody waits at."""
         pages, low, high, bits, found = self.pages, self.low, self.high, self.bits, set()
-        for word in words:
+        for word in set(words):
             row = pages.get(word >> PAGE) if low <= word < high else None
             if row is not None:
                 start, size, inside = row
@@ -97,10 +101,10 @@ class Reach:
         words = inside[at:at + (size >> 3)]
         return () if size == self.sudog and words and words[0] in self.addresses else words
 
-    def of(self, words: Sequence[int]) -> int:
-        """Returns the mask of what can be reached from some words."""
+    def mask_of(self, who: Who) -> int:
+        """Returns the mask of what somebody can reach."""
         mask = 0
-        for item in self.objects(words) & self.leading:
+        for item in self.sources[who] & self.leading:
             mask |= self.masks[item] if item in self.masks else self.follow(item)
         return mask
 
@@ -180,32 +184,30 @@ class Reading:
         self.rows = {number: rows[-1] for number, rows in snapshot.rows.items()}
         inner = {number for number, it in self.rows.items() if program.is_inner(it)}
         moved = {snapshot.numbers.get(it, 0) for it in snapshot.moved}
-        self.is_exact = moved <= inner and all(is_at_rest(rows) for number, rows in snapshot.rows.items()
-                                               if number not in inner)
+        resting = {number for number, rows in snapshot.rows.items() if snapshot.is_at_rest(rows)}
+        self.is_exact = moved <= inner and self.rows.keys() <= resting | inner
         self.waits = {number: Wait(it.status, it.reason, it.place, tuple(it.objects))
-                      for number, it in self.rows.items() if is_at_rest(snapshot.rows[number]) and it.is_blocked()
-                      and all(map(heap.is_followed, it.objects))}
+                      for number, it in self.rows.items()
+                      if number in resting and it.is_blocked() and all(map(heap.is_followed, it.objects))}
         finalizers = map(program.name_at, heap.special[1::2])
         self.callbacks = {TIMERS} if snapshot.roots[TIMERS] else set()
         self.callbacks |= {FINALIZERS} if not all(map(HARMLESS.fullmatch, finalizers)) else set()
-        found = reached_in(snapshot, Reach(snapshot, last))
-        self.who = {at: {GLOBALS} if heap.is_global(at) else found.get(heap.object_of(at), set())
+        found = reached_in(Reach(snapshot, last))
+        self.who = {at: {GLOBALS} if heap.is_global(at) else found.get(heap.object_of(at), NOBODY)
                     for wait in self.waits.values() for at in wait.objects}
 
 
-def reached_in(snapshot: Snapshot, reach: Reach) -> Dict[int, Set[Who]]:
+def reached_in(reach: Reach) -> Dict[int, Set[Who]]:
     """Returns who reaches each object that somebody waits at. Those with the same mask are looked at once."""
     masks: Dict[int, Set[Who]] = {}
-    for name, words in snapshot.roots.items():
-        masks.setdefault(sum_of(reach, words), set()).add(name)
-    for number, rows in snapshot.rows.items():
-        masks.setdefault(sum_of(reach, [part for it in rows for part in (it.words, it.stack)]), set()).add(number)
+    for who in reach.sources:
+        masks.setdefault(reach.mask_of(who), set()).add(who)
     objects = {bit: at for at, bit in reach.bits.items()}
     found: Dict[int, Set[Who]] = {}
-    for mask, who in masks.items():
+    for mask, some in masks.items():
         for bit in bits_of(mask):
             reach.count()
-            found.setdefault(objects[bit], set()).update(who)
+            found.setdefault(objects[bit], set()).update(some)
     return found
 
 
@@ -213,19 +215,6 @@ def bits_of(mask: int) -> Iterator[int]:
     while mask:
         yield mask & -mask
         mask &= mask - 1
-
-
-def is_at_rest(rows: Sequence[Goroutine]) -> bool:
-    """Whether a goroutine hasn't run between the first time it was read and the last."""
-    return len(rows) == 2 and rows[0][:5] == rows[1][:5] and rows[0].objects == rows[1].objects \
-        and rows[0].status in (RUNNABLE, SYSCALL, WAITING)
-
-
-def sum_of(reach: Reach, parts: Iterable[Sequence[int]]) -> int:
-    mask = 0
-    for words in parts:
-        mask |= reach.of(words)
-    return mask
 
 
 def readings_of(program: Program) -> List[Reading]:
@@ -237,7 +226,7 @@ def readings_of(program: Program) -> List[Reading]:
         time.sleep(PAUSE * (1 + number % 3) if number else 0)
         found.append(Reading(program, last))
         exact = [it for it in found if it.is_exact]
-        if len(exact) == 2 or exact and time.process_time() > last - SECONDS / 2:  # (one alone is as right)
+        if len(exact) == 2 or exact and time.process_time() > last - SECONDS * 3 / 4:  # (one alone is as right)
             return exact
     return found
 
@@ -246,8 +235,8 @@ def record_of(program: Program) -> Iterator[str]:
     """Yields the lines of what the readings have together, of those who waited through all."""
     readings = readings_of(program)
     later = readings[-1]
-    how = "exact readings" if all(it.is_exact for it in readings) else "readings while it ran"
-    yield f"{HEADING} {FORMAT} of process {program.pid}, {program.version}, in {len(readings)} {how}"
+    how = "nothing" if all(it.is_exact for it in readings) else "it"
+    yield f"{HEADING} {FORMAT} of process {program.pid}, {program.version}, read {len(readings)} times while {how} ran"
     yield from lines_of("goroutines {} created by {}", ((program.creator(it), it.number) for it in later.rows.values()))
     places: Dict[Tuple[str, str, str], List[int]] = {}
     for number, wait in sorted(later.waits.items()):
@@ -269,15 +258,36 @@ def record_of(program: Program) -> Iterator[str]:
 def ahead_of(program: Program, rows: Iterable[Goroutine]) -> Iterator[Tuple[str, int]]:
     """Yields what the code ahead of goroutines may do that ends waits, of those of whom it isn't anything."""
     code = Code(program.elf, program.prints_to_file())
-    low, high = program.elf.starts[0], program.elf.starts[-1] + program.elf.sizes[-1]
     found: Dict[FrozenSet[int], Steps] = {}
     for it in rows:
-        words = {word for word in it.stack if low <= word < high} if it.reason in AHEAD else set()
-        functions = frozenset(number for number in map(program.elf.number_of, words) if number >= 0)
+        functions = functions_of(program, it) if it.reason in AHEAD else frozenset()
         if functions and functions not in found:
             found[functions] = code.ahead(functions)
         if functions and ANYTHING not in found[functions].kinds:
             yield " ".join(sorted(kinds_of(program, it, found[functions]))) or "nothing", it.number
+
+
+def functions_of(program: Program, goroutine: Goroutine) -> FrozenSet[int]:
+    """Returns the functions to which a goroutine comes back: those in its frames, and of the job's own all whose code
+    anything on its stack points to. What else points to one of the library may be left of a call that has ended."""
+    names = program.elf.functions
+    low, high = program.elf.starts[0], program.elf.starts[-1] + program.elf.sizes[-1]
+    words = {word for word in goroutine.stack if low <= word < high}
+    rest = {number for number in map(program.elf.number_of, words) if number >= 0}
+    frames = set(map(program.elf.number_of, returns_of(program, goroutine)))
+    return frozenset(frames | {it for it in rest if not LIBRARY.match(names[it])} if -1 not in frames else ())
+
+
+def returns_of(program: Program, goroutine: Goroutine) -> List[int]:
+    """Returns where the frames of a goroutine go on, by the pointers from each to the one that called it, or -1 where
+    these don't lead to the end of its stack."""
+    sched = program.g["sched"] >> 3
+    high, start, place, at = (goroutine.words[it] for it in (1, sched, sched + 1, sched + BASE))
+    found = [place]
+    while start <= at <= high - 16 and len(found) <= len(goroutine.stack):
+        at, place = goroutine.stack[(at - start) >> 3], goroutine.stack[((at - start) >> 3) + 1]
+        found.append(place)
+    return found if program.function_of(found[-1]).startswith(LAST) else [-1]
 
 
 def kinds_of(program: Program, goroutine: Goroutine, steps: Steps) -> Set[str]:

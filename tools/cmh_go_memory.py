@@ -9,7 +9,7 @@ import contextlib
 import os
 import re
 import struct
-from typing import Dict, Iterator, List, NamedTuple, Optional, Sequence, Set, Tuple
+from typing import Dict, Iterator, List, NamedTuple, Optional, Sequence, Set, Tuple, Union
 
 from cmh_go_layout import Elf, Types, Unreadable
 
@@ -246,12 +246,19 @@ class Snapshot:
         if self.memory.word(program.at("finq")):
             raise Unreadable("finalizers are about to run")
 
-    def parts(self) -> Iterator[Sequence[int]]:
-        """Yields all words from which the heap is reached."""
-        for words in self.roots.values():
-            yield from words
-        for rows in self.rows.values():
-            yield from (part for it in rows for part in (it.words, it.stack))
+    def parts(self) -> Iterator[Tuple[Union[int, str], List[Sequence[int]]]]:
+        """Yields each goroutine by its number, and what else reaches the heap, with the words of it."""
+        yield from self.roots.items()
+        for number, rows in self.rows.items():
+            some = rows[-1:] if self.is_at_rest(rows) else rows
+            yield number, [part for it in some for part in (it.words, it.stack)]
+
+    @staticmethod
+    def is_at_rest(rows: Sequence[Goroutine]) -> bool:
+        """Whether a goroutine hasn't run between the first time it was read and the last."""
+        first, last = rows[0], rows[-1]
+        is_same = first[:5] == last[:5] and first.objects == last.objects and len(first.stack) == len(last.stack)
+        return len(rows) == 2 and is_same and last.status in (RUNNABLE, SYSCALL, WAITING)
 
     def goroutines(self) -> Dict[int, Goroutine]:
         """Returns the goroutines that haven't ended, by their addresses."""

@@ -14,15 +14,14 @@ HEADING = "channels and locks by cmh_go"
 FORMAT = "1"
 GLOBALS, TICKS = "globals", "ticks"
 NUMBERS = r"(?P<{}>\d[\d,-]*)"
-HEAD = re.compile(rf"{HEADING} (?P<format>\d+)(?: of process \d+, \S+, in \d+ (?P<how>exact readings|readings while "
-                  r"it ran)| failed: (?P<why>.*))")
+HEAD = re.compile(rf"{HEADING} (?P<format>\d+)(?: of process \d+, \S+, read \d+ times while "
+                  r"(?P<who>nothing|it) ran| failed: (?P<why>.*))")
 CREATED = re.compile(rf"goroutines {NUMBERS.format('some')} created by (?P<function>.+)")
 WAIT = re.compile(r"(?:at (?P<at>0x[0-9a-f]+)(?: of (?P<type>0x[0-9a-f]+))?|nowhere) \[(?P<reason>[^]]+)\] wait "
                   rf"{NUMBERS.format('some')} reached by (?P<who>[\d,-]+|nobody)(?P<roots>(?: [a-z]+)*)")
 KIND = "[a-z]+(?::0x[0-9a-f]+)?"  # what code may do, and of receiving the type of what comes
 AHEAD = re.compile(rf"ahead of {NUMBERS.format('some')}: (?P<kinds>{KIND}(?: {KIND})*)")
 CALLS_BACK = re.compile(r"calls back: (?P<roots>[a-z]+(?: [a-z]+)*)")
-EXACT = "exact readings"
 END = f"{HEADING} end"
 FIRST, RUNTIME = 1, "runtime."  # the goroutine of main, and who creates it and the runtime's own
 MOST = 1_000_000  # goroutines of a record
@@ -95,9 +94,9 @@ class Record:
         for it in dump.goroutines:
             known = self.created.get(int(it.number))
             if known is not None and it.created_by and plain(known) != plain(it.created_by):
-                return f"goroutine {it.number} is created by {it.created_by} there, and by {known} here"
+                return f"goroutine {it.number} is created by {known} there, and by {it.created_by} in the text"
         missing = [number for number in self.waits if str(number) not in {it.number for it in dump.goroutines}]
-        return f"goroutine {missing[0]} waits here, and isn't there" if len(missing) > len(self.waits) // 2 else ""
+        return f"goroutine {missing[0]} waits there, and isn't in the text" if len(missing) > len(self.waits) // 2 else ""
 
     def wait_of(self, goroutine: Goroutine, addresses: List[str]) -> Optional[Wait]:
         """Returns the wait of a goroutine, if that is where its text has it."""
@@ -145,7 +144,7 @@ def split_record(text: str) -> Tuple[str, List[str]]:
 
 def read_record(path: str, lines: List[str]) -> Tuple[Optional[Record], str]:
     """Returns what a record has, or why nothing of it is used."""
-    head = HEAD.match(lines[0])
+    head = HEAD.fullmatch(lines[0])
     if head is None or head["format"] != FORMAT:
         return None, f"{path}: this isn't understood: {shown(lines[0])[:200]}"
     if head["why"] is not None:
@@ -153,7 +152,7 @@ def read_record(path: str, lines: List[str]) -> Tuple[Optional[Record], str]:
     if lines[-1] != END:
         return None, f"{path}: the lines of channels and locks are cut off"
     try:
-        return Record(head["how"] == EXACT, lines[1:-1]), ""
+        return Record(head["who"] == NOTHING, lines[1:-1]), ""
     except Misread as error:
         return None, f"{path}: this line isn't understood: {shown(str(error))[:200]}"
 
