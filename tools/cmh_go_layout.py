@@ -95,11 +95,14 @@ class Types:
         self.info = elf.sections.get(".debug_info", b"")
         if not self.info:
             raise Unreadable("it has no DWARF, as after -ldflags=-w")
+        self.known: Dict[str, Dict[str, int]] = {}
         self.shapes = shapes_of(elf.sections.get(".debug_abbrev", b""))
 
     def fields(self, name: str) -> Dict[str, int]:
         """Returns the offsets of the fields of a structure."""
-        return dict(self.members(self.place(name)))
+        if name not in self.known:
+            self.known[name] = dict(self.members(self.place(name)))
+        return self.known[name]
 
     def place(self, name: str) -> int:
         """Returns where the entry of a structure begins. Go has the names of types in the entries themselves."""

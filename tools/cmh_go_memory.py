@@ -226,19 +226,20 @@ class Snapshot:
         self.program, self.memory = program, program.memory
         self.reasons = program.reasons()
         self.conditions: Dict[int, Set[int]] = {}
+        self.addresses = set(self.memory.slice(program.at("allgs")))
         counts = self.counts()
         before = self.goroutines()
         self.roots: Dict[str, List[Sequence[int]]] = {GLOBALS: self.globals(), TIMERS: [], TICKS: []}
         self.add_timers()
         self.heap = Heap(program)
         self.conditions = {}
+        self.addresses |= set(self.memory.slice(program.at("allgs")))
         after = self.goroutines()
         self.roots[GLOBALS] += self.globals()
         self.add_timers()
         self.roots[FINALIZERS] = [self.heap.special]
         later = self.counts()
         self.moved = {it for it in counts.keys() | later.keys() if counts.get(it) != later.get(it)}
-        self.addresses = set(self.memory.slice(program.at("allgs")))
         self.rows: Dict[int, List[Goroutine]] = {}
         self.numbers = {at: it.number for at, it in before.items()}
         for it in (*before.values(), *after.values()):
@@ -307,14 +308,16 @@ class Snapshot:
         return self.conditions[address]
 
     def queue_of(self, first: int, last: int, link: str) -> List[int]:
-        """Returns the goroutines of a queue, none if it doesn't end where it should."""
+        """Returns the goroutines of a queue, none if it is no queue, or doesn't end where it should."""
         found: List[int] = []
-        at = first
-        while at and len(found) < MANY:
-            found.append(at)
-            at = self.memory.word(at + self.program.sudog[link]) if at != last else 0
-        is_whole = not last or found[-1:] == [last]
-        return [self.memory.word(it + self.program.sudog["g"]) for it in found] if is_whole else []
+        at, before = first, 0
+        while at and before != (last or -1) and len(found) <= len(self.addresses):
+            found.append(self.memory.word(at + self.program.sudog["g"]))
+            if found[-1] not in self.addresses:
+                return []
+            before, at = at, self.memory.word(at + self.program.sudog[link])
+        is_whole = before == last if last else not at
+        return found if is_whole else []
 
     def counts(self) -> Dict[int, int]:
         """Returns by its address how often each goroutine has come to rest, also of those that have ended, and by that
