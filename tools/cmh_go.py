@@ -63,6 +63,15 @@ class Reach:
 
     def leading_of(self, first: Set[int], hidden: Set[int]) -> Set[int]:
         """Returns the objects from which one can be reached that somebody waits at. All begins at some."""
+        sources, targets = self.edges_of(first, hidden)
+        leading, before = set(self.bits), -1
+        while before != len(leading):
+            before = len(leading)
+            leading.update(source for source, target in zip(reversed(sources), reversed(targets)) if target in leading)
+        return leading - hidden
+
+    def edges_of(self, first: Set[int], hidden: Set[int]) -> Tuple["array[int]", "array[int]"]:
+        """Returns which objects point to which others, of all that is reached from some, those found later behind."""
         sources, targets = array("Q"), array("Q")
         todo, seen = list(first), first | hidden
         while todo:
@@ -74,11 +83,7 @@ class Reach:
             seen |= found
             todo.extend(found)
             self.count()
-        leading, before = set(self.bits), -1
-        while before != len(leading):
-            before = len(leading)
-            leading.update(source for source, target in zip(reversed(sources), reversed(targets)) if target in leading)
-        return leading - hidden
+        return sources, targets
 
     def objects(self, words: Sequence[int]) -> Set[int]:
         """Returns the objects that some words point into, but for those without pointers that nobody waits at."""
@@ -107,6 +112,12 @@ class Reach:
         for item in self.sources[who] & self.leading:
             mask |= self.masks[item] if item in self.masks else self.follow(item)
         return mask
+
+    def bits_of(self, mask: int) -> Iterator[int]:
+        while mask:
+            yield mask & -mask
+            mask &= mask - 1
+            self.count()
 
     def children(self, item: int) -> Tuple[int, List[int]]:
         """Returns the bit of an object, and which others it leads to."""
@@ -203,18 +214,15 @@ def reached_in(reach: Reach) -> Dict[int, Set[Who]]:
     for who in reach.sources:
         masks.setdefault(reach.mask_of(who), set()).add(who)
     objects = {bit: at for at, bit in reach.bits.items()}
+    return together((objects[bit], some) for mask, some in masks.items() for bit in reach.bits_of(mask))
+
+
+def together(pairs: Iterable[Tuple[int, Set[Who]]]) -> Dict[int, Set[Who]]:
+    """Returns what stands beside each number in some pairs."""
     found: Dict[int, Set[Who]] = {}
-    for mask, some in masks.items():
-        for bit in bits_of(mask):
-            reach.count()
-            found.setdefault(objects[bit], set()).update(some)
+    for number, some in pairs:
+        found.setdefault(number, set()).update(some)
     return found
-
-
-def bits_of(mask: int) -> Iterator[int]:
-    while mask:
-        yield mask & -mask
-        mask &= mask - 1
 
 
 def readings_of(program: Program) -> List[Reading]:
@@ -234,25 +242,29 @@ def readings_of(program: Program) -> List[Reading]:
 def record_of(program: Program) -> Iterator[str]:
     """Yields the lines of what the readings have together, of those who waited through all."""
     readings = readings_of(program)
-    later = readings[-1]
+    rows = readings[-1].rows.values()
     how = "nothing" if all(it.is_exact for it in readings) else "it"
     yield f"{HEADING} {FORMAT} of process {program.pid}, {program.version}, read {len(readings)} times while {how} ran"
-    yield from lines_of("goroutines {} created by {}", ((program.creator(it), it.number) for it in later.rows.values()))
-    places: Dict[Tuple[str, str, str], List[int]] = {}
-    for number, wait in sorted(later.waits.items()):
-        is_steady = all(it.waits.get(number) == wait for it in readings)
-        for at in (wait.objects or [0]) if is_steady else ():
-            kind = f" of {program.type_of(at):#x}" if wait.reason in AT_CHANNEL and at else ""
-            who: Set[Who] = set().union(*(it.who.get(at, ()) for it in readings))
-            text = text_of({it for it in who if isinstance(it, str) or it in later.rows})
-            places.setdefault((f"at {at:#x}{kind}" if at else "nowhere", wait.reason, text), []).append(number)
-    for (place, reason, text), some in places.items():
-        yield f"{place} [{reason}] wait {ranges(some)} reached by {text}"
+    yield from lines_of("goroutines {} created by {}", ((program.creator(it), it.number) for it in rows))
+    waits = lines_of("{1}|{0}", waits_of(program, readings))
+    yield from (line.rpartition("|")[0].replace("{}", line.rpartition("|")[2]) for line in waits)
     callbacks = sorted(set().union(*(it.callbacks for it in readings)))
-    if callbacks:
-        yield f"calls back: {' '.join(callbacks)}"
-    yield from lines_of("ahead of {}: {}", ahead_of(program, later.rows.values()))
+    yield from [f"calls back: {' '.join(callbacks)}"] if callbacks else []
+    yield from lines_of("ahead of {}: {}", ahead_of(program, rows))
     yield f"{HEADING} end"
+
+
+def waits_of(program: Program, readings: Sequence[Reading]) -> Iterator[Tuple[str, int]]:
+    """Yields where each goroutine waits that waited through all readings, with room for its number."""
+    later = readings[-1]
+    steady = {number: wait for number, wait in later.waits.items()
+              if all(it.waits.get(number) == wait for it in readings)}
+    for number, wait, at in ((number, wait, at) for number, wait in steady.items() for at in wait.objects or (0,)):
+        kind = f" of {program.type_of(at):#x}" if wait.reason in AT_CHANNEL and at else ""
+        who: Set[Who] = set().union(*(it.who.get(at, ()) for it in readings))
+        text = text_of({it for it in who if isinstance(it, str) or it in later.rows})
+        place = f"at {at:#x}{kind}" if at else "nowhere"
+        yield f"{place} [{wait.reason}] wait {{}} reached by {text}", number
 
 
 def ahead_of(program: Program, rows: Iterable[Goroutine]) -> Iterator[Tuple[str, int]]:
@@ -305,13 +317,12 @@ def text_of(who: Set[Who]) -> str:
     return " ".join([found, *sorted(it for it in who if isinstance(it, str))])
 
 
-def lines_of(form: str, pairs: Iterable[Tuple[str, int]]) -> Iterator[str]:
-    """Yields a line for each text, with the numbers that stand beside it."""
+def lines_of(form: str, pairs: Iterable[Tuple[str, int]]) -> List[str]:
+    """Returns a line for each text, with the numbers that stand beside it."""
     found: Dict[str, List[int]] = {}
     for text, number in pairs:
         found.setdefault(text, []).append(number)
-    for text, some in found.items():
-        yield form.format(ranges(sorted(some)), text)
+    return [form.format(ranges(sorted(some)), text) for text, some in found.items()]
 
 
 def ranges(numbers: Sequence[int]) -> str:

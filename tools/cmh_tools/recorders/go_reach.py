@@ -95,8 +95,10 @@ class Record:
             known = self.created.get(int(it.number))
             if known is not None and it.created_by and plain(known) != plain(it.created_by):
                 return f"goroutine {it.number} is created by {known} there, and by {it.created_by} in the text"
-        missing = [number for number in self.waits if str(number) not in {it.number for it in dump.goroutines}]
-        return f"goroutine {missing[0]} waits there, and isn't in the text" if len(missing) > len(self.waits) // 2 else ""
+        shown = {int(it.number) for it in dump.goroutines}
+        missing = [number for number in self.waits if number not in shown]
+        is_other = len(missing) > len(self.waits) // 2
+        return f"goroutine {missing[0]} waits there, and isn't in the text" if is_other else ""
 
     def wait_of(self, goroutine: Goroutine, addresses: List[str]) -> Optional[Wait]:
         """Returns the wait of a goroutine, if that is where its text has it."""
@@ -122,7 +124,7 @@ class Record:
         spared = {it for it, kinds in self.ahead.items() if needed and not kinds & needed}
         is_global = GLOBALS in wait.roots
         found = (wait.who | (self.jobs if is_global else set())) - {int(goroutine.number)}
-        left = found - spared
+        left = found - spared - {number for number, it in self.waits.items() if not it.objects}  # (who waits for ever)
         left |= set() if self.waits.keys() >= left else new
         return left, wait.roots - {GLOBALS} | (self.callbacks if is_global else set()), bool(found & spared)
 
