@@ -10,6 +10,7 @@ who wait. Who can't be reached by anybody who goes on can't go on itself.
 """
 from __future__ import annotations
 
+import contextlib
 import os
 import re
 import struct
@@ -22,7 +23,7 @@ from typing import Dict, FrozenSet, Iterable, Iterator, List, NamedTuple, Sequen
 sys.dont_write_bytecode = True
 
 from cmh_go_code import ANYTHING, Code, Steps  # noqa: E402
-from cmh_go_layout import Unreadable  # noqa: E402
+from cmh_go_layout import Changed, Unreadable  # noqa: E402
 from cmh_go_memory import AT_CHANNEL, FINALIZERS, GLOBALS, PAGE, TIMERS, Goroutine, Program, Snapshot  # noqa: E402
 
 Who = Union[int, str]  # a goroutine by its number, or another root
@@ -36,7 +37,8 @@ LIBRARY = re.compile(r"(?:bufio|bytes|context|encoding|errors|fmt|internal|io|lo
 # Finalizers that call nothing of the program's own.
 HARMLESS = re.compile(r"(?:os|net|syscall|crypto|internal|runtime)[./].*")
 SECONDS = 8.0  # of processor time
-READINGS, PAUSE = 8, 0.07  # readings at most, and seconds between two, or twice or three times that
+READINGS, TRIES = 8, 24  # readings of a program that never rests, and at most with those that fail
+PAUSE = 0.07  # seconds between two, or twice or three times that
 HERE = ("localhost", "127.0.0.1", "[::1]", "")
 LISTENS = "0A"  # the state of a socket
 
@@ -230,13 +232,16 @@ def readings_of(program: Program) -> List[Reading]:
     read is seen in one of them."""
     last = time.process_time() + SECONDS
     found: List[Reading] = []
-    for number in range(READINGS):
+    for number in range(TRIES):
         time.sleep(PAUSE * (1 + number % 3) if number else 0)
-        found.append(Reading(program, last))
+        with contextlib.suppress(Changed):
+            found.append(Reading(program, last))
         exact = [it for it in found if it.is_exact]
         if len(exact) == 2 or exact and time.process_time() > last - SECONDS * 3 / 4:  # (one alone is as right)
             return exact
-    return found
+        if len(found) == READINGS:
+            return found
+    raise Unreadable("its memory changes all the time")
 
 
 def record_of(program: Program) -> Iterator[str]:

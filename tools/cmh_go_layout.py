@@ -26,6 +26,10 @@ class Unreadable(Exception):
     """What of a program can't be read, in words."""
 
 
+class Changed(Unreadable):
+    """Memory that can't be read, as since the program has just let go of it."""
+
+
 class Elf:
     """The sections and symbols of an executable file."""
 

@@ -11,7 +11,7 @@ import re
 import struct
 from typing import Dict, Iterator, List, NamedTuple, Optional, Sequence, Set, Tuple, Union
 
-from cmh_go_layout import Elf, Types, Unreadable
+from cmh_go_layout import Changed, Elf, Types, Unreadable
 
 KNOWN = re.compile(r"go1\.19(?:\.\d+)?")
 PAGE = 13  # bits of an address within a page of the heap
@@ -64,7 +64,7 @@ class Memory:
         except (OSError, OverflowError):
             pass
         if len(found) != size:
-            raise Unreadable(f"its memory at {at:#x} can't be read, or has just changed")
+            raise Changed(f"its memory at {at:#x} can't be read, or has just changed")
         return found
 
     def words(self, at: int, size: int) -> Sequence[int]:
@@ -321,9 +321,12 @@ class Snapshot:
 
     def counts(self) -> Dict[int, int]:
         """Returns by its address how often each goroutine has come to rest, also of those that have ended, and by that
-        of each processor how many it has begun."""
+        of each processor how many it has begun. The first is of one byte, so beside it stands what the scheduler counts
+        of all, which each eighth time adds to."""
         begun = self.program.types.fields("runtime.p")["goidcache"]
         found = {it: self.memory.word(it + begun) for it in self.processors()}
+        waits = self.program.at("sched") + self.program.types.fields("runtime.schedt")["timeToRun"]
+        found[waits] = hash(self.memory.read(waits, self.program.types.size("runtime.timeHistogram")))
         at = self.program.g["trackingSeq"]
         found.update((it, self.memory.read(it + at, 1)[0]) for it in self.memory.slice(self.program.at("allgs")))
         return found

@@ -182,8 +182,8 @@ def capture_for(system: str, targets: List[str], may_kill: bool, may_dump: bool)
     a signal, and a Go process that is named by its number, are taken as Linux sees them, since nothing is sent to a
     process that may end by it: unless people ask."""
     if may_kill:
-        return Capture(system, ["--kill", *targets], "its memory is read, which stops nothing; then the program is ended "
-                       "by SIGQUIT, and writes its goroutines")
+        return Capture(system, ["--kill", *targets], "its memory is read, which stops nothing; then SIGQUIT ends the "
+                       "program, which writes its goroutines")
     if system == "jvm" and may_dump:
         return Capture(system, ["--heap", *targets], HEAP)
     if system == "mpi":
