@@ -13,6 +13,7 @@ from __future__ import annotations
 import contextlib
 import os
 import re
+import signal
 import struct
 import sys
 import time
@@ -26,6 +27,8 @@ from cmh_go_code import ANYTHING, Code, Steps  # noqa: E402
 from cmh_go_layout import Changed, Unreadable  # noqa: E402
 from cmh_go_memory import AT_CHANNEL, FINALIZERS, GLOBALS, PAGE, TIMERS, Goroutine, Program, Snapshot  # noqa: E402
 
+END = "end"  # who sends to what `signal.Notify` has, where that is for signals that end a program alone
+ENDS = {signal.SIGINT, signal.SIGQUIT, signal.SIGTERM}
 Who = Union[int, str]  # a goroutine by its number, or another root
 
 NOBODY: Set[Who] = set()
@@ -267,9 +270,17 @@ def waits_of(program: Program, readings: Sequence[Reading]) -> Iterator[Tuple[st
     for number, wait, at in ((number, wait, at) for number, wait in steady.items() for at in wait.objects or (0,)):
         kind = f" of {program.type_of(at):#x}" if wait.reason in AT_CHANNEL and at else ""
         who: Set[Who] = set().union(*(it.who.get(at, ()) for it in readings))
+        who |= {END} if kind and is_for_end(program, at) else set()
         text = text_of({it for it in who if isinstance(it, str) or it in later.rows})
         place = f"at {at:#x}{kind}" if at else "nowhere"
         yield f"{place} [{wait.reason}] wait {{}} reached by {text}", number
+
+
+def is_for_end(program: Program, channel: int) -> bool:
+    """Whether signals are sent to a channel, and the program asks for none but those that would end it."""
+    with contextlib.suppress(Unreadable):
+        return program.type_name(program.type_of(channel)) == "os.Signal" and program.signals() <= ENDS
+    return False
 
 
 def ahead_of(program: Program, rows: Iterable[Goroutine]) -> Iterator[Tuple[str, int]]:

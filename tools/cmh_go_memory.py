@@ -22,6 +22,8 @@ ROOTS, STRIDE = 251, 64  # roots of the table of semaphores, and bytes from one 
 HEAD = 16  # where a condition has the first who waits, and behind it the last
 REMOVED = (3, 5)  # states of a timer that won't go off
 FINALIZER = 1  # the kind of a special
+# Where `signal.handlers` has how many channels ask for each signal, behind a lock and a map, and how many signals.
+ASKED, SIGNALS = 16, 65
 AT_CHANNEL = ("chan receive", "chan send", "select")
 AT_LOCK = ("semacquire", "sync.Mutex.Lock", "sync.RWMutex.Lock", "sync.RWMutex.RLock", "sync.WaitGroup.Wait")
 AT_CONDITION = "sync.Cond.Wait"
@@ -138,6 +140,20 @@ class Program:
     def type_of(self, channel: int) -> int:
         """Returns the type of what is sent through a channel."""
         return self.memory.word(channel + self.types.fields("runtime.hchan")["elemtype"])
+
+    def type_name(self, address: int) -> str:
+        """Returns the name of a type, which stands where the runtime has all names of types."""
+        offset = self.memory.read(address + self.types.fields("runtime._type")["str"], 4)
+        at = self.variable("types") + int.from_bytes(offset, "little")
+        head = self.memory.read(at, 3)
+        if head[1] & 0x80:  # (a length of two bytes, longer than any that is asked for)
+            return ""
+        return self.memory.read(at + 2, head[1]).decode(errors="replace").lstrip("*")
+
+    def signals(self) -> Set[int]:
+        """Returns the signals that channels have asked for."""
+        counts = self.memory.words(self.elf.symbol("os/signal.handlers") + ASKED, 8 * SIGNALS)
+        return {number for number, count in enumerate(counts) if count}
 
     def creator(self, goroutine: Goroutine) -> str:
         return self.function_of(goroutine.creator - 1) or "nobody"

@@ -24,7 +24,7 @@ from . import State
 from .base import Moment, Premise, Recorder
 from .go_frames import NEEDS_ALL, Place, entry_of, is_at_another, is_jobs, is_of_runtime, takes_state
 from .go_likely import Likely, may_rest
-from .go_reach import TICKS, Record, Wait, read_record, split_record
+from .go_reach import CODE, ENDED, TICKS, Record, Wait, read_record, split_record
 from .go_starters import MAIN, UNSEEN, Starters, unseen_starter
 from .go_text import ADDRESS, TAKER, Dump, Goroutine, read_dumps
 
@@ -45,7 +45,7 @@ ENDERS = {
             "which",
     WRITER: "who holds the lock now ends this wait, and nobody who waits for it; the state doesn't show who that is"}
 ANOTHER = "another wait"  # beside the objects of one that has left its place between two states
-INTENT, REACH, MOVED, CODE = "empty-select", "reach", "moved", "code"
+INTENT, REACH, MOVED = "empty-select", "reach", "moved"
 
 
 class Goroutines(Moment):
@@ -75,7 +75,8 @@ class GoRecorder(Recorder):
                        "in a global variable: none is hidden in C, in a number or in memory that the program maps"),
         MOVED: Premise("what goroutines handed on while the memory was read was seen in one of the readings"),
         CODE: Premise("whose code ahead sends, closes or unlocks nothing ends no such wait, and what it calls of fmt, "
-                      "log and time calls nothing of the program's own that does")}
+                      "log and time calls nothing of the program's own that does"),
+        ENDED: Premise("no signal comes that ends the program, for which one waits")}
 
     def __init__(self) -> None:
         self.dumps: List[Dump] = []
@@ -226,12 +227,12 @@ class GoRecorder(Recorder):
             return {}
         number = int(goroutine.number)
         new = {int(it) for it in moment.places if int(it) not in record.created}
-        numbers, roots, is_spared = record.enders(goroutine, wait, new)
+        numbers, roots, why = record.enders(goroutine, wait, new)
         is_lone = goroutine.number == MAIN and not numbers and not record.is_waited_for(number)
         if is_lone or not all(str(it) in moment.places for it in numbers):
             return {}
         whom = [self.names[str(it)] for it in sorted(numbers)] + ([UNSEEN] if roots else [])
-        because = [REACH, *([] if record.is_exact else [MOVED]), *([CODE] if is_spared else [])]
+        because = [REACH, *([] if record.is_exact else [MOVED]), *sorted(why)]
         return {"bound": whom, "bound_by": list(map(premise, because))}
 
     def guess(self, goroutine: Goroutine, place: Place, moment: Goroutines) -> List[str]:

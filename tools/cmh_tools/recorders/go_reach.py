@@ -12,7 +12,7 @@ from .go_text import Dump, Goroutine
 
 HEADING = "channels and locks by cmh_go"
 FORMAT = "1"
-GLOBALS, TICKS = "globals", "ticks"
+GLOBALS, TICKS, ENDED = "globals", "ticks", "end"
 NUMBERS = r"(?P<{}>\d[\d,-]*)"
 HEAD = re.compile(rf"{HEADING} (?P<format>\d+)(?: of process \d+, \S+, read \d+ times while "
                   r"(?P<who>nothing|it) ran| failed: (?P<why>.*))")
@@ -22,7 +22,7 @@ WAIT = re.compile(r"(?:at (?P<at>0x[0-9a-f]+)(?: of (?P<type>0x[0-9a-f]+))?|nowh
 KIND = "[a-z]+(?::0x[0-9a-f]+)?"  # what code may do, and of receiving the type of what comes
 AHEAD = re.compile(rf"ahead of {NUMBERS.format('some')}: (?P<kinds>{KIND}(?: {KIND})*)")
 CALLS_BACK = re.compile(r"calls back: (?P<roots>[a-z]+(?: [a-z]+)*)")
-END = f"{HEADING} end"
+END, CODE = f"{HEADING} end", "code"
 FIRST, RUNTIME = 1, "runtime."  # the goroutine of main, and who creates it and the runtime's own
 MOST = 1_000_000  # goroutines of a record
 NOTHING = "nothing"
@@ -116,17 +116,26 @@ class Record:
         places = [int(it, 16) for it in addresses]
         return not places or any(0 <= at - place < 64 for place in places for at in wait.objects)
 
-    def enders(self, goroutine: Goroutine, wait: Wait, new: Set[int]) -> Tuple[Set[int], Set[str], bool]:
-        """Returns the goroutines that may end a wait, the roots that may, and whether some are left out since their
-        code doesn't. Those who aren't stuck may have handed it on to `new` ones, that the record doesn't have."""
+    def waits_for_end(self, number: int) -> bool:
+        """Whether a goroutine waits until a signal comes that ends the program, and nobody else reaches that."""
+        wait = self.waits.get(number)
+        return wait is not None and ENDED in wait.roots and len(wait.objects) == 1 and wait.who <= {number}
+
+    def enders(self, goroutine: Goroutine, wait: Wait, new: Set[int]) -> Tuple[Set[int], Set[str], Set[str]]:
+        """Returns the goroutines that may end a wait, the roots that may, and why some are left out: by their CODE, or
+        as they wait for the end of the program. Those who aren't stuck may have handed it on to `new` ones, that the record
+        doesn't have."""
         needed = needed_by(goroutine)
         needed |= {f"receive:{it}" for it in wait.types if "receive" in needed}
         spared = {it for it, kinds in self.ahead.items() if needed and not kinds & needed}
         is_global = GLOBALS in wait.roots
         found = (wait.who | (self.jobs if is_global else set())) - {int(goroutine.number)}
+        waiting = set(filter(self.waits_for_end, found - spared))
         left = found - spared - {number for number, it in self.waits.items() if not it.objects}  # (who waits for ever)
+        left -= waiting
         left |= set() if self.waits.keys() >= left else new
-        return left, wait.roots - {GLOBALS} | (self.callbacks if is_global else set()), bool(found & spared)
+        why = {name for name, some in ((CODE, found & spared), (ENDED, waiting)) if some}
+        return left, wait.roots - {GLOBALS} | (self.callbacks if is_global else set()), why
 
 
 def needed_by(goroutine: Goroutine) -> Set[str]:

@@ -6,8 +6,10 @@ package main
 import (
 	"log"
 	"os"
+	"os/signal"
 	"sync"
 	"sync/atomic"
+	"syscall"
 	"time"
 )
 
@@ -135,6 +137,28 @@ func relays(isTimed bool) {
 	r.send()
 }
 
+// The program waits for its end, and would close the channels then. With another signal it would take a result.
+func serves(isAsked bool) {
+	r := &relay{make(chan int), make(chan int)}
+	go r.work()
+	go r.work()
+	go r.send()
+	go beat()
+	if isAsked {
+		asked := make(chan os.Signal, 1)
+		signal.Notify(asked, syscall.SIGHUP)
+		go func() {
+			for range asked {
+				log.Println(<-r.results)
+			}
+		}()
+	}
+	stop := make(chan os.Signal, 1)
+	signal.Notify(stop, os.Interrupt, syscall.SIGTERM)
+	<-stop
+	close(r.jobs)
+}
+
 func beat() {
 	for {
 		time.Sleep(time.Minute)
@@ -149,6 +173,8 @@ func main() {
 		transfers(name == "ledger_alive")
 	case "crawl", "crawl_alive":
 		crawls(name == "crawl_alive")
+	case "served", "served_alive":
+		serves(name == "served_alive")
 	case "relay", "relay_alive":
 		relays(name == "relay_alive")
 	}
