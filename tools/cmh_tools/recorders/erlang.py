@@ -16,7 +16,7 @@ from ..sketch import COMPLETE, LIMIT, REST, RUNS, SYSTEM, Process, Sketch, premi
 from . import State
 from .base import Premise, Recorder
 from .erlang_acting import (ALONE, BEGINS, GIVES_BACK, HARMLESS, PERMITS, besides_of, doubt_moving, has_port,
-                            look_at_acting)
+                            is_script_asleep, look_at_acting)
 from .erlang_calls import ANSWERS, LETS_GO, NO_MAIL, place_elsewhere, wait_of_call
 from .erlang_enders import add_enders, stoppers_of, two_of_each
 from .erlang_keepers import is_awake
@@ -72,9 +72,10 @@ class ErlangRecorder(Recorder):
         RESTARTS: Premise("a supervisor that restarts one child alone doesn't give up, as it does where children fail "
                           "again and again"),
         OWN_CHILD: Premise("a supervisor that starts or stops a child waits for that child alone"),
-        OUTSIDE: Premise("no timer answers a call, and a process is ended only by who has a link to it (a registry of "
-                         "Elixir's doesn't fail), by what fails below its supervisor, and by code that ends others or "
-                         "has a supervisor do so, of the modules that somebody runs or that these call"),
+        OUTSIDE: Premise("no timer answers a call, no script that sleeps goes on, and a process is ended only by who has "
+                         "a link to it (a registry of Elixir's doesn't fail), by what fails below its supervisor, and "
+                         "by code that ends others or has a supervisor do so, of the modules that somebody runs or that "
+                         "these call"),
     }
 
     def __init__(self) -> None:
@@ -119,7 +120,7 @@ class ErlangRecorder(Recorder):
 
     def look_at_nodes(self, moment: Nodes) -> None:
         """Finds what holds for all calls of the nodes: what isn't seen of them, and the limits of receives."""
-        moment.closures = two_of_each(filter(may_have_any, moment.rows()))
+        moment.closures = two_of_each(it for it in moment.rows() if may_have_any(it) and not is_script_asleep(it))
         nodes = [reading for reading in moment.readings if isinstance(reading, NodeReading)]
         moment.receives = {(reading.source, *function): receives for reading in nodes
                            for function, receives in reading.receives.items()}

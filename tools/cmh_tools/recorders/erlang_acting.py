@@ -14,6 +14,8 @@ from .erlang_text import Block, NodeReading
 ALONE, HARMLESS, GIVES_BACK, PERMITS, BEGINS = "alone", "harmless", "gives back", "permits", "begins"
 MOST = 500  # of those who may do something, or else a list is too long
 SLEEPS = ("timer:sleep", "Process.sleep")
+# What Elixir runs a script by, which is no function of the program's.
+OF_SCRIPTS = re.compile(r"(?:erl_eval|elixir|elixir_\w+|Kernel\.CLI|Code|Module\.ParallelChecker|Enum)[:.]\S+")
 PORT = re.compile(r"#Port<|{port,")
 # Servers of Erlang's and Elixir's own that do nothing by themselves.
 OF_LIBRARY = ("supervisor", "'Elixir.Agent.Server'", "'Elixir.DynamicSupervisor'", "'Elixir.Registry.Partition'",
@@ -31,7 +33,7 @@ def look_at_acting(moment: Nodes) -> None:
     is_known = all(reading.places and not reading.outside and not reading.missing for reading in nodes)
     watched = {id(it) for block in moment.rows() for it in moment.watched(block)}
     moment.quiet_ones = {id(it) for it in moment.rows() if is_known and id(it) not in watched and (
-        is_harmless(it, moment) or ends_quietly(it, moment))}
+        is_harmless(it, moment) or ends_quietly(it, moment)) or is_known and is_script_asleep(it)}
     moment.ticking = {id(it) for it in moment.rows() if is_known and id(it) not in watched and is_ticking(it, moment)}
     moment.firm = {id(it) for it in moment.rows() if id(it) in moment.quiet_ones | moment.ticking
                    and "firm" in (words_of_place(it, moment) or [])}
@@ -71,6 +73,13 @@ def ends_quietly(block: Block, moment: Nodes) -> bool:
     found = [moment.find((block.node, pid)) for pid in links]
     return "stays" in words or all(it is not None and not it.is_supervisor() and it.extra("trap_exit") == "false"
                                    for it in found)
+
+
+def is_script_asleep(block: Block) -> bool:
+    """Whether a script of Elixir's sleeps, by which the node lives on, in no function of the program's."""
+    top, *below = [it.split(" (")[0] for it in block.stack]
+    return top.partition("/")[0] in SLEEPS and any(it.startswith("Kernel.CLI.") for it in below) and all(
+        map(OF_SCRIPTS.fullmatch, below)) and block.messages == "[]" and not has_port(block)
 
 
 def is_reacting(block: Block, moment: Nodes) -> bool:
