@@ -106,6 +106,10 @@ WAITS = re.compile(r"java/lang/Thread\.join|java/util/concurrent/(?:locks/LockSu
 STAMPED = re.compile(r"java/util/concurrent/locks/StampedLock\.as\w+")
 ENDS_POOL = re.compile(r"java/util/concurrent/\w+\.awaitTermination")
 HELPS = re.compile(r"java/util/concurrent/(?:ForkJoinPool\..*|Executors\.newWorkStealingPool)")
+# Calls by which a pool gets a task, and pools whose threads may then go on with others that wait in its queue.
+GIVES_TASK = re.compile(r"java/util/concurrent/(?:Executor|(?:Scheduled)?ExecutorService)\.(?:execute|submit)")
+OWN_POOLS = re.compile(r"java/util/concurrent/(?:ThreadPoolExecutor|ScheduledThreadPoolExecutor"
+                       r"|ExecutorCompletionService)\.<init>|.*\.set(?:MaximumPoolSize|RejectedExecutionHandler)")
 # By what others than its threads come to the tasks of a pool.
 TAKES = re.compile(r".*\.(?:getQueue|shutdownNow)|java/util/concurrent/ThreadPoolExecutor\.<init>")
 # Methods that end waits of one kind alone, if what they are given is plain. Such a collection may be a queue. Who
@@ -213,6 +217,7 @@ SUPPLIES, LOCALS = re.compile(r"java/util/function/\w*Supplier\.get\w*"), re.com
 PARALLEL = re.compile(r".*\.parallel\w*|java/util/stream/StreamSupport\..*")
 NEW_CONDITION = "newCondition", "()Ljava/util/concurrent/locks/Condition;"
 REFERENCES, GROUP, RUNNABLE = "Ljava/lang/ref/ReferenceQueue;", "Ljava/lang/ThreadGroup;", "Ljava/lang/Runnable;"
+CALLABLE = "Ljava/util/concurrent/Callable;"
 FACTORY = "Ljava/util/function/Supplier;"  # (which may give what others have, into which it is put then)
 OF_FUNCTIONS = re.compile(r"java/util/function/\w+\.(?:get|apply|accept|test)\w*")
 FUNCTIONS = re.compile(r"L(?:java/util/function/\w+|java/lang/Runnable|java/util/concurrent/Callable"
@@ -686,6 +691,8 @@ class Walk:
                 self.add(self.own_of(kin) if meant.fullmatch(what) else ())
         elif what == MAKES_THREAD:
             self.make_thread(its)
+        elif GIVES_TASK.fullmatch(what) and its.said in ([RUNNABLE], [CALLABLE]):
+            self.give_task(its)
         elif not (self.passes_wait(what) or self.passes_change(what, call, its) or its.is_new_thread(what)):
             self.call_open(what, its)
 
@@ -701,6 +708,18 @@ class Walk:
         name = bare(its.object)[1:-1]
         if name in self.program.classes:
             self.call(Call(VIRTUAL, name, "run", "()V"))
+
+    def give_task(self, its: Given) -> None:
+        """Adds what a pool does with a task: it counts as done by who gives it that, with what makes a new thread. In
+        a pool that has a thread for each task until it has all, a new one finds no other task that waits."""
+        if any(map(self.program.names, (OWN_POOLS, POOLS, HELPS))):
+            raise Fault("a pool may go on with other tasks once it gets one")
+        self.add(self.program.meant_by(MAKE_WORKER), MAKE_WORKER)
+        self.add_made(self.program.lambdas_for(MAKE_WORKER), MAKE_WORKER)
+        (value,), (said,) = its.values, its.said
+        if RETURNS not in value:  # (what a lambda does is known where it is made)
+            name, types = ("run", "()V") if said == RUNNABLE else ("call", "()Ljava/lang/Object;")
+            self.call(Call(INTERFACE, bare(value)[1:-1] or said[1:-1], name, types), (value,))
 
     def passes_wait(self, what: str) -> bool:
         """Whether a call only waits, or takes a lock or gives one back that it has."""
