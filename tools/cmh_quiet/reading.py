@@ -8,8 +8,8 @@ import types
 from .calls import Calls
 from .library import CLOSINGS, KEEPERS, MAKING_BLOCKS, OF_FILES, OF_NETS, PLAIN_BLOCKS, WAITED_AT
 from .names import MOST
-from .steps import (BLOCKS, CALLS, CHECKS, STORING, call_of, end_of_path, given_to, is_in_for, method_of_call,
-                    start_of, steps_of, way_ahead)
+from .steps import (BLOCKS, CALLS, CHECKS, STORING, call_of, end_of_path, given_to, is_in_for, is_marked,
+                    method_of_call, start_of, steps_of, way_ahead)
 from .values import (ACTING, DYNAMIC, OF_BLOCKS, SUSPENDED, SUSPENDING, Fresh, NotKnown, Own, full_name,
                      full_name_of, is_in_table, kept_by, may_keep, require, step_into)
 
@@ -21,6 +21,13 @@ TOUCHES = {"FOR_ITER", "UNPACK_SEQUENCE", "UNPACK_EX", "LIST_EXTEND", "SET_UPDAT
            "CONTAINS_OP", "GET_YIELD_FROM_ITER", "CALL_FUNCTION_EX", "DELETE_SUBSCR", "DELETE_ATTR",
            "STORE_SUBSCR", "STORE_ATTR", "STORE_GLOBAL", "DELETE_GLOBAL", "STORE_NAME", "DELETE_NAME", "STORE_DEREF",
            "DELETE_DEREF", "DELETE_FAST", "GET_AITER", "GET_ANEXT", "MATCH_CLASS", "MATCH_KEYS"}
+
+
+def called_ends(steps, start, call):
+    """The places of the last steps that load what a call calls, and no argument of it, from a place on."""
+    rows = [(at, end_of_path(steps, at)) for at in range(start, call)
+            if steps[at].opname in ("LOAD_GLOBAL", "LOAD_METHOD", "LOAD_ATTR")]
+    return [end for at, end in rows if (is_marked(steps, at) or is_marked(steps, end)) and call_of(steps, end) == call]
 
 
 class Reading(Calls):
@@ -96,8 +103,9 @@ class Reading(Calls):
     def blocks_of(self, steps, at, names, places):
         """The functions of the program that begin or end the block that begins at a step: those of the object, if that
         or its class is known, or those of any."""
+        require(OF_BLOCKS.isdisjoint(self.program.stored))
         kind = self.kind_of_block(steps, at, names, places)
-        if kind is None or "__class__" in self.program.late or self.program.stored & OF_BLOCKS:
+        if kind is None or "__class__" in self.program.late:
             return [value for _, name, value in self.program.alive if name in OF_BLOCKS]
         return [next((each.__dict__[name] for each in kind.__mro__ if name in each.__dict__), None)
                 for name in OF_BLOCKS] if not self.state.is_library(kind) else []
@@ -117,9 +125,7 @@ class Reading(Calls):
             value = self.loaded_before(steps, at, names, places)
             return None if value is NotKnown or value is Fresh else type(value)
         start = start_of(steps, at - 1)
-        ends = [] if start is None else [end_of_path(steps, place) for place in range(start, at - 1) if steps[
-            place].opname in ("LOAD_GLOBAL", "LOAD_METHOD")]
-        ends = [end for end in ends if call_of(steps, end) == at - 1]
+        ends = [] if start is None else called_ends(steps, start, at - 1)
         return self.kind_of_call(steps, ends[0], names, places) if ends else None
 
     def kind_of_call(self, steps, end, names, places):
@@ -262,8 +268,7 @@ class Reading(Calls):
     def leave_called(self, frame, steps):
         """Takes the end of a block that a generator is, which the program's own function makes. Returns whether that
         is."""
-        loads = [at for at, step in enumerate(steps[:-1]) if step.opname in ("LOAD_GLOBAL", "LOAD_METHOD", "LOAD_ATTR")
-                 and call_of(steps, at) == len(steps) - 1]
+        loads = called_ends(steps, 0, len(steps) - 1)
         name, owner = steps[loads[0]].argval if loads else None, None
         if not loads or name in self.program.late:
             return False
