@@ -1,5 +1,6 @@
 """What the names in a code stand for."""
 import collections
+import contextlib
 import functools
 import os
 import sys
@@ -8,8 +9,10 @@ import types
 from .library import (COROUTINES, ENDING, FILES, HARMLESS, MAKES, MOST_GIVEN, OF_CLASSES, OF_TUPLES, ORDERS, OWNERS,
                       OWN_AWAITED, WAITED_AT)
 from .steps import CALLS, STORING, call_of, end_of_path, is_marked, start_of
-from .values import BEGINNING, Fresh, NotKnown, Own, full_name, require, step_into
+from .values import BEGINNING, OF_BLOCKS, Fresh, NotKnown, Own, full_name, require, step_into
 
+# How functions begin, by their own names, that contextlib makes to run another one in a block.
+DECORATING = ("ContextDecorator.__call__.", "AsyncContextDecorator.__call__.")
 MOST = 400  # functions that are looked at for one thread or task
 LOADS = ("LOAD_FAST", "LOAD_GLOBAL", "LOAD_NAME", "LOAD_DEREF")
 
@@ -48,6 +51,21 @@ class Names:
         require(is_made and type(inner) in (types.FunctionType, type(None)))
         if inner is not None:
             self.follow(inner)
+        if code.co_qualname.startswith(DECORATING):
+            self.follow_decorator(self.state.cells_in(function).get("self", NotKnown))
+
+    def follow_decorator(self, owner):
+        """Looks at the block in which a function runs that has been decorated with an object, or with what a generator
+        makes."""
+        made = self.exact("_recreate_cm", owner)
+        kinds = () if owner is NotKnown else type(owner).__mro__
+        ends = [next((each.__dict__[name] for each in kinds if name in each.__dict__), None) for name in OF_BLOCKS]
+        is_generator = isinstance(owner, contextlib._GeneratorContextManagerBase)
+        own = [owner.func] if is_generator else [each for each in (made, *ends) if each is not None]
+        require(own and OF_BLOCKS.isdisjoint(self.program.stored))
+        for each in own:
+            require(type(each) is types.FunctionType)
+            self.follow(each, NotKnown if is_generator else owner)
 
     def write_to(self, is_writing, is_reading=False):
         """Something of the library writes to what it is given, or uses it as any file."""
