@@ -11,8 +11,8 @@ from .library import COMPLETES, HARMLESS, INNER, KEEPING, NOTIFIES, SERVERS
 from .look import Look, is_idle, is_idle_loop
 from .premises import Premises
 from .steps import CHANGES, cells_stored, changes_in, sets_any, steps_of, watches, way_ahead
-from .values import (ADDING, FINDERS, MADE_BY, OF_BLOCKS, PLAIN, SETTING, SUSPENDED, TRACKED, NotKnown, is_harmless,
-                     is_set_method, is_special, names_of_special, require)
+from .values import (ADDING, BEGINNING, FINDERS, MADE_BY, OF_BLOCKS, PLAIN, SETTING, SUSPENDED, TRACKED, NotKnown,
+                     is_harmless, is_set_method, is_special, names_of_special, require)
 
 TAKING = {"acquire", "__enter__", "__aenter__", "enter_context", "enter_async_context"}
 PLAIN_LOCKS = {type(threading.Lock()), getattr(sys.modules.get("asyncio.locks"), "Lock", None)}
@@ -75,13 +75,26 @@ class Program(Premises):
         codes = self.own_codes({*codes, *(step.argval for step in later if type(step.argval) is types.CodeType)})
         self.is_watched = any(map(watches, [*codes, *(row[0] for row in ahead)]))
         self.late = {step.argval for step in later if step.opname in CHANGES} | {
-            steps_of(code)[at].argval for code in codes for at in changes_in(code)}
+            steps_of(code)[at].argval for code in codes for at in changes_in(code)} | self.given_late()
         some = [names for code in codes for names in cells_stored(code)]
         self.cells = {name for code in codes for name in (*code.co_cellvars, *code.co_freevars) if some.count(name) < 2}
         bases = [each for kind in self.kinds.values() for each in kind.__mro__ if self.state.is_library(each)]
         self.inherited = {name for each in bases if each is not object for name in each.__dict__} - HARMLESS
         is_odd = any(name in FINDERS for _, name, _ in self.alive)
         self.sets_any = self.sets_any or is_odd or "unittest.mock" in sys.modules
+
+    def given_late(self):
+        """The names of the attributes that objects are still to be given whose own begin runs: by its steps ahead, or by
+        the begin of another of their classes."""
+        frames = [frame for frames, _ in self.stacks.values() for frame, _ in frames
+                  if frame.f_code.co_name in BEGINNING and frame.f_code.co_argcount]
+        own = [type(frame.f_locals.get(frame.f_code.co_varnames[0])) for frame in frames]
+        begun = [each.__dict__.get(name) for kind in own for each in kind.__mro__ for name in BEGINNING]
+        later = [(frame.f_code, way_ahead(frame.f_code, frame.f_lasti, True, True)[0]) for frame in frames]
+        ahead = [steps_of(code)[at] for code, places in later for at in places]
+        if any(step.argval in BEGINNING for step in ahead):
+            ahead += [step for each in begun if type(each) is types.FunctionType for step in steps_of(each.__code__)]
+        return {step.argval for step in ahead if step.opname in CHANGES}
 
     def has_acting(self, value):
         """Whether an object has such a value in an attribute, which may stand in a table of its own."""
