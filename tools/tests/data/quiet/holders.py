@@ -102,8 +102,66 @@ def opening():
         yield
 
 
-def lease():
-    return Opening()
+def lease(kind=Lease):
+    return lazy.get(kind, lazy["block"])
+
+
+class Lender:
+    def lend(self, kind):
+        return lazy.get(kind, lazy["block"])
+
+
+class Calm(contextlib.ContextDecorator, Lease):
+    pass
+
+
+@Calm()
+def step():
+    counts["steps"] += 1
+
+
+@Whole()
+def step_with_an_object():
+    counts["steps"] += 1
+
+
+class Given:
+    """Has a thread that goes on with what it is given once its begin has waited."""
+    given = threading.Event()
+
+    def __init__(self):
+        threading.Thread(target=self.run, name="frees_gate_by_an_attribute_at_last", daemon=True).start()
+        pause()
+        self.given = gate
+        pause()
+
+    def run(self):
+        while True:
+            pause()
+            self.given.set()
+
+
+class Above:
+    given_above = threading.Event()
+
+    def __init__(self):
+        self.given_above = gate
+
+
+class GivenAbove(Above):
+    def __init__(self):
+        threading.Thread(target=self.run, name="frees_gate_by_an_attribute_above_at_last", daemon=True).start()
+        pause()
+        super().__init__()
+        pause()
+
+    def run(self):
+        while True:
+            pause()
+            self.given_above.set()
+
+
+lender = Lender()
 
 
 def spares_in_a_block():
@@ -203,6 +261,31 @@ def frees_gate_in_a_block_of_a_function():
     while True:
         with lease():
             pause()
+
+
+def frees_gate_before_a_block_for_a_class():
+    while True:
+        pause()
+        with lender.lend(Lease):
+            counts["a"] += 1
+
+
+def frees_gate_in_a_block_of_a_variable_for_a_class(lend=lease):
+    while True:
+        with lend(Lease):
+            pause()
+
+
+def frees_gate_by_a_step_in_a_block():
+    while True:
+        pause()
+        step_with_an_object()
+
+
+def spares_by_a_step_in_a_block():
+    while True:
+        pause()
+        step()
 
 
 def frees_gate_in_a_block_of_a_condition():
@@ -722,6 +805,19 @@ class OpeningSpan(Span):
         gate.set()
 
 
+class WholeSpan(contextlib.AsyncContextDecorator):
+    async def __aenter__(self):
+        return self
+
+    async def __aexit__(self, *error):
+        gate.set()
+
+
+@WholeSpan()
+async def step_in_a_span():
+    counts["steps"] += 1
+
+
 async def value():
     return 1
 
@@ -745,6 +841,12 @@ async def frees_gate_in_a_span():
     while True:
         async with OpeningSpan():
             await asyncio.sleep(1000)
+
+
+async def frees_gate_by_a_step_in_a_span():
+    while True:
+        await asyncio.sleep(1000)
+        await step_in_a_span()
 
 
 async def frees_gate_before_a_span():
@@ -877,6 +979,8 @@ def main():
     for name, each in list(globals().items()):
         if name.startswith(("spares_", "frees_")) and not getattr(each, "__code__", opens.__code__).co_flags & 0x80:
             threading.Thread(target=each, name=name, daemon=True).start()
+    for kind in (Given, GivenAbove):
+        threading.Thread(target=kind, name=kind.__name__, daemon=True).start()
     threading.Thread(target=lambda: asyncio.run(tasks()), name="loop", daemon=True).start()
     threading.Thread(target=look, name="look", daemon=True).start()
     while True:
