@@ -84,7 +84,7 @@ class Program(Premises):
         self.sets_any = self.sets_any or is_odd or "unittest.mock" in sys.modules
 
     def given_late(self):
-        """The names of the attributes that objects are still to be given whose own begin runs: by its steps ahead, or by
+        """The names of attributes that objects are still to be given whose own begin runs: by its steps ahead, or by
         the begin of another of their classes."""
         frames = [frame for frames, _ in self.stacks.values() for frame, _ in frames
                   if frame.f_code.co_name in BEGINNING and frame.f_code.co_argcount]
