@@ -196,7 +196,7 @@ ways(Places, Code) ->
     Grants = [{Module, list_to_atom(Tag)} || {Module, handle_call, 3} <- maps:keys(Code), Tag <- granted(Module, Code)],
     [{"places", [{Number, Words ++ maps:get(Number, More, [])} || {Number, Words} <- Rows]},
      {"ticks", Plain}, {"outside", Outside}, {"grants", Grants}, {"tells", Tells}
-     | [{atom_to_list(Word), [Row || {Of, Row} <- Permits, Of =:= Word]} || Word <- [begins, permits]]].
+     | [{atom_to_list(Word), [Row || {Of, Row} <- Permits, Of =:= Word]} || Word <- [begins, holds, permits]]].
 
 %% Who goes on as long as no message comes, and who of them doesn't fail by itself, by the numbers of their places.
 firm_ones(Places, Rows, {Code, Names, Ticks} = Known) ->
@@ -351,15 +351,19 @@ is_heeded({posts, Kind, Message}, {frames, Frames}, Does, {Code, _, _}) ->
 
 %% The requests of servers, as TAG/SIZE, for which these give away what each who has it gives back, as a pool does: who
 %% has asked gives it back, by all code of the program and on each of its ways, and nobody else does. Or for which these
-%% begin others who do the work. And the places at which one may have it that waits for a message.
+%% begin others who do the work. And the places at which one may have it that waits for a message, and the lines of the
+%% calls during which one has it.
 permits(Places, {Code, Names, _} = Known) ->
     Servers = lists:usort([Module || {place, _, {loop, Module, _}} <- Places,
                                      is_map_key({Module, handle_call, 3}, Code)]),
     Callers = callers_in(Code),
-    [{Word, {Module, list_to_atom(lists:concat([Tag, "/", Size])), having(Given, Places, Code)}}
-     || Module <- Servers, All <- [given_back(Module, Known)], {Tag, Size, Value} <- kept_by(Module, Code),
-        Given <- [All -- [{call, Value} || not replies({Module, handle_call, 3}, Value, Code)]], Given =/= [],
-        Word <- kinds_of({names_of(Module, Names), Module, {Tag, Size, Value}, Given}, Code, Callers)].
+    Found = [{Word, {Module, list_to_atom(lists:concat([Tag, "/", Size])), having(Given, Places, Code)}, Lines}
+             || Module <- Servers, All <- [given_back(Module, Known)], {Tag, Size, Value} <- kept_by(Module, Code),
+                Given <- [All -- [{call, Value} || not replies({Module, handle_call, 3}, Value, Code)]], Given =/= [],
+                {Word, Lines} <- kinds_of({names_of(Module, Names), Module, {Tag, Size, Value}, Given}, Code, Callers)],
+    [{Word, Row} || {Word, Row, _} <- Found]
+        ++ [{holds, {Word, Module, Request, Of, Name, Arity, Line}}
+            || {Word, {Module, Request, _}, Lines} <- Found, {Of, Name, Arity, Line} <- Lines].
 
 names_of(Module, Names) -> [Name || {Name, {Of, loop}} <- maps:to_list(Names), Of =:= Module].
 
@@ -375,9 +379,11 @@ kept_by(Module, Code) ->
 given_back(Module, {Code, _, _} = Known) ->
     Ways = [{Kind, {Module, Name, Arity}} || {Kind, Name, Arity} <- [{call, handle_call, 3}, {cast, handle_cast, 2},
                                                                     {info, handle_info, 2}]],
-    Told = [{none, 0, {atom, '$other'}}, {none, 0, {tuple, [{constant, reference}, any]}}],
+    Tuples = [{tuple, [{constant, reference} | lists:duplicate(Size, any)]} || Size <- lists:seq(0, 5)],
+    Told = [{none, 0, Value} || Value <- [{atom, '$other'}, {integer, -1}, {constant, <<"other">>}, {constant, [other]},
+                                          map | Tuples]],
     All = [{Kind, Tag, Value} || {Kind, Function} <- Ways, is_map_key(Function, Code),
-                                 {Tag, _, Value} <- Told ++ requests(Function, Code),
+                                 {Tag, _, Value} <- Told ++ numbers(Function, Code) ++ requests(Function, Code),
                                  not lists:member(Tag, ['DOWN', 'EXIT']),
                                  answers(Kind, closure([{Function, #{{x, 0} => Value}}], Code), Known)],
     Continues = closure([{{Module, handle_continue, 2}, #{}} || is_map_key({Module, handle_continue, 2}, Code)], Code),
@@ -385,6 +391,11 @@ given_back(Module, {Code, _, _} = Known) ->
         true -> [];
         false -> [{Kind, Value} || {Kind, _, Value} <- All]
     end.
+
+%% The numbers that a function may be asked as such.
+numbers(Function, Code) ->
+    [{none, 0, {integer, Number}} || Each <- maps:get(Function, Code), is_tuple(Each),
+                                     {integer, Number} <- parts_among(tuple_to_list(Each))].
 
 replies(Function, Value, Code) ->
     lists:any(fun({calls, {_, reply, _}}) -> true; (_) -> false end, closure([{Function, #{{x, 0} => Value}}], Code)).
@@ -429,21 +440,58 @@ kinds_of({Names, Module, {Tag, _, Value}, Given} = Server, Code, Callers) ->
     IsAll = lists:all(fun(One) -> lists:any(fun({_, What}) -> is_given_back(What, Names, [One]) end, Giving) end,
                       Given),
     IsPlain = not lists:any(fun({_, {sends, _, Name, any}}) -> lists:member(Name, Names); (_) -> false end, Sent),
-    Kinds = [{permits, fun() -> is_even(Server, functions_of(Asking ++ Giving), Code, Callers) end},
-             {begins, fun() -> is_begun(Server, functions_of(Giving), Code, Callers) end}],
-    [Word || Others =:= [], IsOwn, IsAll, IsPlain, {Word, IsSo} <- Kinds, IsSo()].
+    Kinds = [{permits, Server, functions_of(Asking ++ Giving), fun is_even/4},
+             {begins, {Names, Module, {Tag, 0, none}, Given}, functions_of(Giving), fun is_begun/4}],
+    [{Word, held(Of, Dealing, Code, Callers)}
+     || Others =:= [], IsOwn, IsAll, IsPlain, {Word, Of, Dealing, IsSo} <- Kinds, IsSo(Of, Dealing, Code, Callers)].
+
+%% Whether some code calls a function by its name as a term, by the names of some: as of a module that it is told, or in
+%% a process that it begins.
+is_named_elsewhere(Some, Code) ->
+    Names = [Name || {_, Name, _} <- Some],
+    lists:any(fun(Instructions) ->
+                  lists:any(fun calls_by_name/1, Instructions)
+                      andalso lists:any(fun(Atom) -> lists:member(Atom, Names) end, atoms_among(Instructions, []))
+              end, maps:values(Code)).
+
+calls_by_name({Word, _}) -> Word =:= apply;
+calls_by_name({apply_last, _, _}) -> true;
+calls_by_name(Each) when is_tuple(Each) ->
+    lists:any(fun({extfunc, erlang, apply, 3}) -> true;
+                 ({extfunc, Module, Name, Arity}) ->
+                     Arity > 2 andalso (lists:prefix("spawn", atom_to_list(Name)) orelse Module =:= 'Elixir.Task'
+                                            orelse Module =:= 'Elixir.Task.Supervisor');
+                 (_) -> false
+              end, tuple_to_list(Each));
+calls_by_name(_) -> false.
 
 functions_of(Sent) -> lists:usort([Function || {Function, _} <- Sent]).
 
 %% Whether those alone give back whom a server begins for this request, and for no other one.
 is_begun({_, Module, {Tag, _, _}, _}, Giving, Code, Callers) ->
+    [Request | _] = [Of || {Same, _, Of} <- requests({Module, handle_call, 3}, Code), Same =:= Tag],
     Handles = {Module, handle_call, 3},
     Above = grown(Giving, Handles, Callers),
     Others = [{none, 0, {atom, '$other'}} | [Each || {Of, _, _} = Each <- requests(Handles, Code), Of =/= Tag]],
     Further = [Other || {_, _, Value} <- Others, {Word, Other} <- effects(Handles, #{{x, 0} => Value}, Code),
                         Word =:= calls orelse Word =:= tail, lists:member(Other, Above)],
-    lists:member(Handles, Above) andalso Further =:= []
+    lists:member(Handles, Above) andalso Further =:= [] andalso not is_counting(Handles, Request, Code)
         andalso lists:all(fun(Each) -> Each =:= Handles orelse maps:get(Each, Callers, []) -- [Each] =/= [] end, Above).
+
+%% Whether it may depend on a number what a function does for a request, as where a batch is begun once enough ask.
+is_counting(Function, Value, Code) ->
+    Instructions = maps:get(Function, Code),
+    Step = fun(Each, Known) -> {Next, Jumps, _} = step(Each, Known), {Next, Jumps, [counts || is_count(Each)]} end,
+    [_ | Body] = lists:dropwhile(fun(Each) -> not is_entry(Each) end, Instructions),
+    Called = [Other || {Word, {Of, Name, _} = Other} <- closure([{Function, #{{x, 0} => Value}}], Code),
+                       Word =:= calls orelse Word =:= tail, Of =:= element(1, Function), is_map_key(Other, Code),
+                       not is_fun(Other), not lists:member(Name, [handle_call])],
+    lists:member(counts, walked([{Body, #{{x, 0} => Value}}], {parts_by_label(Instructions), Step}, #{}, []))
+        orelse lists:any(fun(Other) -> lists:any(fun is_count/1, maps:get(Other, Code)) end, Called).
+
+is_count({test, Test, _, _}) -> lists:member(Test, [is_ge, is_lt]);
+is_count({gc_bif, Name, _, _, _, _}) -> lists:member(Name, [length, map_size, tuple_size]);
+is_count(_) -> false.
 
 %% Some functions with all that call them, as far as to one.
 grown(Some, Last, Callers) ->
@@ -459,7 +507,7 @@ is_even(Server, Dealing, Code, Callers) ->
     Near = near(Asking ++ Giving, Dealing, Callers),
     Free = [Each || Each <- Near, lists:member(gives, dealings(Each, 0, {Server, Asking, Giving}, Code))],
     lists:any(fun(Each) -> lists:member(asks, dealings(Each, 0, {Server, Asking, Giving}, Code)) end, Near)
-        andalso Free -- Giving =:= []
+        andalso Free -- Giving =:= [] andalso not is_named_elsewhere(Giving, Code)
         andalso lists:all(fun(Each) -> maps:get(Each, Callers, []) -- [Each] =/= [] andalso not is_fun(Each) end,
                           Asking ++ Giving).
 
@@ -474,6 +522,36 @@ dealers({Asking, Giving}, Server, Dealing, Code, Callers, Times) ->
         {Asking, Giving} -> More;
         _ -> dealers(More, Server, Dealing, Code, Callers, Times - 1)
     end.
+
+%% The lines of the calls during which one has what a server gives away, or is to tell the server of its work: one that
+%% waits elsewhere and isn't seen so may wait for what only comes from outside.
+held({_, Module, _, _} = Server, Dealing, Code, Callers) ->
+    {Asking, Giving} = dealers({[], []}, Server, Dealing, Code, Callers, 8),
+    Rules = {Server, Asking, Giving},
+    Near = lists:usort(near(Asking ++ Giving, Dealing, Callers) ++ Asking ++ Giving),
+    [{Of, Name, Arity, Line} || {Of, Name, Arity} = Function <- Near, {Of, Name} =/= {Module, handle_call},
+                                Number <- [case lists:member(Function, Giving) of true -> 1; false -> 0 end],
+                                Line <- held_in(Function, Number, Rules, Code)].
+
+held_in(Function, Number, Rules, Code) ->
+    Instructions = with_lines(maps:get(Function, Code), 0),
+    [_ | Body] = lists:dropwhile(fun(Each) -> not is_entry(Each) end, Instructions),
+    Step = fun(Each, Known) -> deal_at(Each, Known, Rules) end,
+    Found = walked([{Body, #{{has, 0} => Number}}], {parts_by_label(Instructions), Step}, #{}, []),
+    lists:usort([Line || {at, Line, true} <- Found]) -- [Line || {at, Line, false} <- Found].
+
+deal_at({line, Line}, Known, _) -> {Known#{{has, line} => Line}, [], []};
+deal_at(Each, Known, Rules) ->
+    {Next, Jumps, _} = deal(Each, Known, Rules),
+    {Next, Jumps, [{at, maps:get({has, line}, Known, 0), maps:get({has, 0}, Known, 0) > 0} || is_calling(Each)]}.
+
+%% A line holds for all instructions behind it in the code, by whichever way one comes there.
+with_lines([], _) -> [];
+with_lines([{line, Line} | Rest], _) -> [{line, Line} | with_lines(Rest, Line)];
+with_lines([Each | Rest], Line) -> [{line, Line} || is_calling(Each)] ++ [Each | with_lines(Rest, Line)].
+
+is_calling(Each) ->
+    is_tuple(Each) andalso lists:member(element(1, Each), [apply, call, call_ext, call_fun, call_fun2]).
 
 near(Some, Dealing, Callers) -> lists:usort(Dealing ++ lists:append([maps:get(Each, Callers, []) || Each <- Some])).
 
@@ -986,6 +1064,7 @@ constant(Term) -> case funs_among([Term]) -- ?REPORTS of [] -> {constant, Term};
 holds(_, any, _) -> unknown;
 holds(_, Value, _) when Value =:= asked; Value =:= new; Value =:= no_map; Value =:= text -> unknown;
 holds(Test, map, _) when Test =:= is_atom; Test =:= is_tuple; Test =:= is_tagged_tuple; Test =:= is_list -> false;
+holds(is_eq_exact, map, [{Other, _}]) when Other =:= atom; Other =:= integer -> false;
 holds(_, map, _) -> unknown;
 holds(is_tagged_tuple, {tuple, [Tag | _] = Parts}, [Size, Wanted]) ->
     case {length(Parts) =:= Size, Tag} of
@@ -1005,8 +1084,7 @@ holds(is_eq_exact, {tuple, _}, [{Other, _}]) when Other =:= atom; Other =:= inte
 holds(_, _, _) -> unknown.
 
 chosen(any, Other, Cases, Known) -> {stop, [{Label, Known} || {f, Label} <- [{f, Other} | Cases]], []};
-chosen(Value, Other, Cases, Known) when Value =:= asked; Value =:= new; Value =:= map; Value =:= no_map;
-                                        Value =:= text ->
+chosen(Value, Other, Cases, Known) when Value =:= asked; Value =:= new; Value =:= no_map; Value =:= text ->
     chosen(any, Other, Cases, Known);
 chosen(Value, Other, Cases, Known) -> {stop, [{case_of(Value, Other, Cases), Known}], []}.
 
@@ -1209,9 +1287,35 @@ parts(Module, Code) ->
 disassembled(Module, Code) ->
     case catch beam_disasm:file(Code) of
         {beam_file, Module, _, _, _, Parts} ->
-            [{{Name, Arity}, Instructions} || {function, Name, Arity, _, Instructions} <- Parts];
+            Lines = lines_in(Code),
+            [{{Name, Arity}, [numbered(Each, Lines) || Each <- Instructions]}
+             || {function, Name, Arity, _, Instructions} <- Parts];
         _ -> []
     end.
+
+numbered({line, Number}, Lines) -> {line, maps:get(Number, Lines, 0)};
+numbered(Each, _) -> Each.
+
+%% The lines of the source, by the numbers that the code has for them.
+lines_in(Code) ->
+    case beam_lib:chunks(Code, ["Line"]) of
+        {ok, {_, [{_, <<0:32, _:64, Count:32, _:32, Rest/binary>>}]}} -> lines_of(Rest, 1, Count, #{});
+        _ -> #{}
+    end.
+
+%% A number has its kind in its first three bits: one of a line, or that of the file of those that follow.
+lines_of(Rest, Number, Count, Lines) when Number > Count; Rest =:= <<>> -> Lines;
+lines_of(<<Value:4, 0:1, Kind:3, Rest/binary>>, Number, Count, Lines) ->
+    line_of({Kind, Value, Rest}, Number, Count, Lines);
+lines_of(<<High:3, 1:2, Kind:3, Low, Rest/binary>>, Number, Count, Lines) ->
+    line_of({Kind, High * 256 + Low, Rest}, Number, Count, Lines);
+lines_of(<<Size:3, 3:2, Kind:3, Rest/binary>>, Number, Count, Lines) when Size < 7, byte_size(Rest) > Size + 1 ->
+    <<Value:(Size + 2)/unit:8, More/binary>> = Rest,
+    line_of({Kind, Value, More}, Number, Count, Lines);
+lines_of(_, _, _, Lines) -> Lines.
+
+line_of({1, Value, Rest}, Number, Count, Lines) -> lines_of(Rest, Number + 1, Count, Lines#{Number => Value});
+line_of({_, _, Rest}, Number, Count, Lines) -> lines_of(Rest, Number, Count, Lines).
 
 %% Whether a function comes back to itself, and neither sends nor calls what may: as one that writes to a log now and
 %% then does.

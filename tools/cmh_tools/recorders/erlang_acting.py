@@ -16,6 +16,7 @@ MOST = 500  # of those who may do something, or else a list is too long
 SLEEPS = ("timer:sleep", "Process.sleep")
 # What Elixir runs a script by, which is no function of the program's.
 OF_SCRIPTS = re.compile(r"(?:erl_eval|elixir|elixir_\w+|Kernel\.CLI|Code|Module\.ParallelChecker|Enum)[:.]\S+")
+LINE = re.compile(r"(\S+) \(.*:(\d+)\)")  # (of a frame)
 PORT = re.compile(r"#Port<|{port,")
 # Servers of Erlang's and Elixir's own that do nothing by themselves.
 OF_LIBRARY = ("supervisor", "'Elixir.Agent.Server'", "'Elixir.DynamicSupervisor'", "'Elixir.Registry.Partition'",
@@ -29,6 +30,7 @@ def look_at_acting(moment: Nodes) -> None:
     moment.words = {(reading.source, number): words for reading in nodes for number, words in reading.places.items()}
     moment.grants = {(reading.source, module): tags for reading in nodes for module, tags in reading.grants.items()}
     moment.permits = {(reading.source, *key): places for reading in nodes for key, places in reading.permits.items()}
+    moment.holds = {(reading.source, *key): lines for reading in nodes for key, lines in reading.holds.items()}
     moment.tells = {(reading.source, place): others for reading in nodes for place, others in reading.tells.items()}
     is_known = all(reading.places and not reading.outside and not reading.missing for reading in nodes)
     watched = {id(it) for block in moment.rows() for it in moment.watched(block)}
@@ -177,7 +179,15 @@ def owed_by(block: Block, server: Block, moment: Nodes) -> str:
 
 def is_coming(word: str, block: Block, server: Block, moment: Nodes) -> bool:
     """Whether by its code a server gives away for a call what each who has it gives back, as a pool does, or begins
-    another one that does the work; and nobody has it who waits for a message, and may keep it for ever."""
-    places = moment.permits.get((server.node, word, server.start[0], request_of(block)))
-    return places is not None and not any(it.node == server.node and it.extra("place") in places for it in moment.rows()
-                                          if id(it) in moment.reacting | moment.quiet_ones)
+    another one that does the work; and somebody has it, as by a call that it is in, and nobody who waits for a message,
+    and may keep it for ever. A queue that nobody has anything of may be filled from outside."""
+    key = (server.node, word, server.start[0], request_of(block))
+    places, lines = moment.permits.get(key), set(moment.holds.get(key, []))
+    here = [it for it in moment.rows() if it.node == server.node]
+    return places is not None and any(lines.intersection(lines_of(it)) for it in here) and not any(
+        it.extra("place") in places for it in here if id(it) in moment.reacting | moment.quiet_ones)
+
+
+def lines_of(block: Block) -> List[str]:
+    """The frames of a process as FUNCTION:LINE."""
+    return [LINE.sub(r"\1:\2", it) for it in block.stack]

@@ -42,6 +42,7 @@ class Nodes(Moment):
     words: Dict[Tuple[str, str], List[str]]
     grants: Dict[Tuple[str, str], List[str]]
     permits: Dict[Tuple[str, str, str, str], List[str]]
+    holds: Dict[Tuple[str, ...], List[str]]
     tells: Dict[Tuple[str, str], List[str]]
     quiet_ones: Set[int]
     reacting: Set[int]

@@ -39,8 +39,8 @@ OF_SYSTEM = re.compile(r"gen(_server|_statem|_event|_tcp|_udp)?|global|erpc|inet
                        r"Agent|DynamicSupervisor|Enum|GenServer|Process|Registry|Stream|Supervisor|Task)(\.\w+)*'")
 LOOPS = re.compile(r"(gen_server:loop|gen_statem:loop_(receive|hibernate)|gen_event:fetch_msg|proc_lib:hibernate"
                    r"|proc_lib:wake_up|erlang:hibernate)/")
-FIRST = re.compile("=(process|asks|begins|grants|keepers|keeps|left out|locks|mnesia|nodes|numbers|outside|permits|"
-                   "places|quiet|receives|tables|tells|ticks|timers|end) ")
+FIRST = re.compile("=(process|asks|begins|grants|holds|keepers|keeps|left out|locks|mnesia|nodes|numbers|outside|"
+                   "permits|places|quiet|receives|tables|tells|ticks|timers|end) ")
 MARK = re.compile(rf"\n{FIRST.pattern}")
 # The rows below lines of some words: the receives of a function, and whom it has sent to before; the number of another
 # node; who has a lock, or wants one of Mnesia; and what code may do: at the places of processes, and of each module.
@@ -51,7 +51,9 @@ MODULE, WORDS = r"{(\w+|'[^']*')", r",\[([\w,]*)\]}"
 ROWS = {"receives": RECEIVES, "asks": ASKS, "quiet": QUIET, "ticks": re.compile(f"{MODULE}}}"),
         "outside": re.compile(f"{MODULE}}}"), "keepers": re.compile(MODULE + WORDS),
         "grants": re.compile(MODULE + r",'?([\w/+]+)'?}"), "permits": re.compile(MODULE + r",'?([\w/+]+)'?" + WORDS),
-        "begins": re.compile(MODULE + r",'?([\w/+]+)'?" + WORDS), "tells": re.compile(r"{(\d+)" + WORDS),
+        "begins": re.compile(MODULE + r",'?([\w/+]+)'?" + WORDS),
+        "holds": re.compile(r"{(\w+),(\w+|'[^']*'),'?([\w/+]+)'?,(\w+|'[^']*'),(\w+|'[^']*'),(\d+),(\d+)}"),
+        "tells": re.compile(r"{(\d+)" + WORDS),
         "places": re.compile(r"{(\d+)" + WORDS),
         "numbers": re.compile(r"(\d+) (\S+)"),
         "locks": re.compile(r"{(.*),\[((?:{<[\d.]+>,#Ref<[\d.]+>},?)+)\]}"),
@@ -369,6 +371,7 @@ class NodeReading(Reading):
         self.ticks: List[str] = []
         self.grants: Dict[str, List[str]] = {}
         self.permits: Dict[Tuple[str, str, str], List[str]] = {}
+        self.holds: Dict[Tuple[str, ...], List[str]] = {}
         self.tells: Dict[str, List[str]] = {}
         self.keepers: Dict[str, List[str]] = {}
 
@@ -410,6 +413,9 @@ class NodeReading(Reading):
             self.grants.update({row[1]: row[2].split("+") for row in rows})
         elif word == "tells":
             self.tells.update({row[1]: words_of(row[2]) for row in rows})
+        elif word == "holds":
+            for row in rows:
+                self.holds.setdefault(row.group(1, 2, 3), []).append(f"{function_name(*row.group(4, 5, 6))}:{row[7]}")
         elif word in ("begins", "permits"):
             self.permits.update({(word, row[1], row[2]): words_of(row[3]) for row in rows})
         elif word in ("outside", "ticks"):

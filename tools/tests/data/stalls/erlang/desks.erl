@@ -1,5 +1,6 @@
 %% A server gives desks away, and keeps those who wait for one. Two have a desk each and want another one beside it, or
-%% one that has the only desk waits for what a shell tells it. A watch counts each second, and so does the server.
+%% one that has the only desk waits for what a shell tells it, or there is no desk before a shell gives one. A watch
+%% counts each second, and so does the server.
 -module(desks).
 -behaviour(gen_server).
 -export([open/1, take/0, give/1, work/1, watch/1]).
@@ -11,7 +12,7 @@ open(Case) ->
     register(watch, spawn(desks, watch, [0])),
     register(first, spawn(desks, work, [Case])),
     timer:sleep(50),
-    register(second, spawn(desks, work, [crossed])).
+    register(second, spawn(desks, work, [case Case of session -> crossed; _ -> Case end])).
 
 take() -> gen_server:call(desks, take, infinity).
 
@@ -28,7 +29,10 @@ work(session) ->
     Desk = take(),
     receive {write, _} -> ok end,
     give(Desk),
-    work(session).
+    work(session);
+work(empty) ->
+    give(take()),
+    work(empty).
 
 watch(Number) ->
     receive
@@ -40,7 +44,7 @@ watch(Number) ->
 
 init(Case) ->
     erlang:send_after(1000, self(), tick),
-    {ok, {case Case of crossed -> [1, 2]; session -> [1] end, [], 0}}.
+    {ok, {case Case of crossed -> [1, 2]; session -> [1]; empty -> [] end, [], 0}}.
 
 handle_call(take, _, {[Desk | Free], Waiting, Ticks}) -> {reply, Desk, {Free, Waiting, Ticks}};
 handle_call(take, From, {[], Waiting, Ticks}) -> {noreply, {[], Waiting ++ [From], Ticks}};
