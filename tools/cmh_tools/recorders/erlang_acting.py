@@ -180,11 +180,13 @@ def owed_by(block: Block, server: Block, moment: Nodes) -> str:
 def is_coming(word: str, block: Block, server: Block, moment: Nodes) -> bool:
     """Whether by its code a server gives away for a call what each who has it gives back, as a pool does, or begins
     another one that does the work; and somebody has it, as by a call that it is in, and nobody who waits for a message,
-    and may keep it for ever. A queue that nobody has anything of may be filled from outside."""
+    and may keep it for ever. A queue that nobody has anything of may be filled from outside. Where two servers have the
+    same code, one may have it of the other one, or give it to that."""
     key = (server.node, word, server.start[0], request_of(block))
     places, lines = moment.permits.get(key), set(moment.holds.get(key, []))
     here = [it for it in moment.rows() if it.node == server.node]
-    return places is not None and any(lines.intersection(lines_of(it)) for it in here) and not any(
+    is_one = word == BEGINS or [it.start for it in moment.rows()].count(server.start) == 1
+    return places is not None and is_one and any(lines.intersection(lines_of(it)) for it in here) and not any(
         it.extra("place") in places for it in here if id(it) in moment.reacting | moment.quiet_ones)
 
 
