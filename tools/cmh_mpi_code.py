@@ -16,7 +16,7 @@ import threading
 import time
 from typing import Any, Dict, List, Optional, Sequence, Set, Tuple
 
-from cmh_linux import (COLD, LIBRARY, OF_FILES, OF_FUTEXES, PATIENCE, PLAIN, TARGET, Program, Standing, Unclear,
+from cmh_linux import (COLD, LIBRARY, OF_FILES, OF_FUTEXES, PATIENCE, PLAIN, STEP, TARGET, Program, Standing, Unclear,
                        is_start, output_of)
 
 Row = Dict[str, Any]
@@ -30,10 +30,11 @@ POLLS = {"Iprobe": {"cx": 4, "r8": 24}, "Improbe": {"cx": 4, "r8": 8, "r9": 24},
          "Test": {"si": 4, "di": 8, "dx": 24},
          "Request_get_status": {"si": 4, "dx": 24}, "Testall": {"dx": 4, "si": 8, "cx": 24},
          "Testany": {"cx": 4, "si": 8, "dx": 4, "r8": 24}, "Testsome": {"dx": 4, "si": 8, "cx": 4, "r8": 24}}
-# The arguments that say what it looks for. (A loop that looks in several communicators isn't expected.)
-ASKED = {"Iprobe": ("di", "si"), "Improbe": ("di", "si"), "Test": ("di",), "Request_get_status": ("di",),
+# The arguments that say what it looks for: a source, a tag and a communicator, or how many requests and where they are.
+ASKED = {"Iprobe": ("di", "si", "dx"), "Improbe": ("di", "si", "dx"), "Test": ("di",), "Request_get_status": ("di",),
          "Testall": ("di", "si"), "Testany": ("di", "si"), "Testsome": ("di", "si")}
 SEVERAL = ("Testall", "Testany", "Testsome")  # which look at several requests
+PROBES = ("Iprobe", "Improbe")  # which look at none
 SCRATCH = ("ax", "di", "si", "dx", "cx", "r8", "r9", "r10", "r11")  # registers that a call may change
 ENDS = re.compile(r"_?_?exit|_Exit|quick_exit|abort|__assert_fail|_ZSt9terminatev")
 # Calls of libraries besides those of cmh_linux.py that end nobody's wait.
@@ -50,16 +51,22 @@ NO_WAY_BACK = re.compile(
     r"|__ctype_\w+|toupper|tolower|alarm|memmem|strdup|strtok(_r)?|__cxa_(atexit|begin_catch|end_catch|rethrow)"
     r"|__cxa_(guard_|throw|free|alloc)\w*"
     r"|__gxx_personality_v0|_Unwind_Resume|stdout|stderr|stdin|ompi_\w+|optarg|optind|environ")
+ADDRESS = re.compile(r"\(%rip\).*# ([0-9a-f]+) <|\$0x([0-9a-f]+)|\*ABS\*\+0x([0-9a-f]+)")  # in code, or of a table
+OF_CODE = re.compile(r"^([0-9a-f]+) .{6}F \.text\b", re.M)
+NO_HANDLERS = re.compile(r"main|_start|_init|_fini|frame_dummy|__do_global_dtors_aux|_GLOBAL__sub_I_\w+")
+OF_HANDLERS = re.compile(r"<((__sysv_|bsd_|s)?signal|_*sig(action|set|vec)|sigignore|_*rt_sigaction)@")
+HANDLERS, FEW_STEPS = 40, 12  # functions that may be such, at most, and steps before a call that are looked at
 STARTS_THREADS = re.compile(r"pthread_create|thrd_create|_ZNSt6thread15_M_start_thread\w+|GOMP_\w+|__kmpc_\w+")
-# By which MPI may call the program at any time, or sends something later that no request is known of.
+# By which MPI, or a timer, may call the program at any time, or MPI sends something later that no request is known of.
 UNSEEN = re.compile(r" P?MPI_(\w*create_(errhandler|keyval)|(Errhandler|Keyval)_create|Grequest_start|\w*datarep"
-                    r"|Buffer_attach|Request_free)\b")
+                    r"|Buffer_attach|Request_free)\b"
+                    r"| (timer_create|mq_notify|aio_\w+|lio_listio\w*|getaddrinfo_a|dispatch_\w+)\b")
 POLL = 11  # a kind of call, as cmh_mpi.c has it
 TRIES, FEW, BETWEEN = 40, 3, 0.003  # looks at one that sleeps now and then, and at any other one
 FINALIZE, THREADS, EXIT = "Finalize", "threads", "exit"
 # What is known of a number: it is zero, something else, or more, or an address that isn't on the stack.
 FLAGS, ZERO, SOME, MORE_THAN_ZERO, FAR = "flags", "zero", "some", "more", "far"
-SAME, ANYWHERE = "same", "anywhere"
+SAME, ANYWHERE, REQUESTS = "same", "anywhere", "requests"
 KINDS = (ZERO, SOME, MORE_THAN_ZERO)
 IMPLIED = ("ax", "bx", "cx", "dx", "si", "di")  # registers that a step may write without naming them
 KEPT = ("bx", "bp", "r12", "r13", "r14", "r15")  # registers that no call changes
@@ -115,8 +122,9 @@ class Values:
     """What is known at a step, and what that changes. By (SAME, it) stands what a register or a place of the stack has:
     a number, what it had at first, or what a variable elsewhere has, and all of these that are written are `stored`."""
 
-    def __init__(self, known: Known, taken: Addresses, has_threads: bool, stored: Set[str]) -> None:
+    def __init__(self, known: Known, taken: Addresses, has_threads: bool, stored: Set[Any], begin: int = 0) -> None:
         self.known, self.taken, self.has_threads, self.stored = dict(known), taken, has_threads, stored
+        self.begin = begin  # of the function, in whose name places of its stack are stored
 
     def keep(self, place: int, value: Tuple[Any, int]) -> None:
         """Keeps what a place of the stack has, if nobody else may write there."""
@@ -181,10 +189,12 @@ class Values:
         place = self.place(operand)
         if place is None or place == FAR:
             self.taken.passed.update({value[1]} if isinstance(value, tuple) and value[0] == "at" else ())
-        if place is None:
+        if place is None or place == FAR and "(%rip)" not in operand:
             self.stored.add(ANYWHERE)
+        if place is None:
             self.forget_taken()
         elif place != FAR:
+            self.stored.add((self.begin, place))
             self.forget(place, size)
             self.taken.passed.update({value[1]} if isinstance(value, tuple) and value[0] == "at" else ())
             if value in KINDS:
@@ -280,7 +290,7 @@ class Values:
         if place is None and re.search(r"%[re]?[sb]p", operands[0]):
             base = self.place(re.sub(r"\((%\w+),.*\)", r"(\1)", operands[0]))
             self.taken.used.add(base if isinstance(base, int) else LOWEST)
-        same = operands[0] if "(%rip)" in operands[0] else None
+        same = f"&{operands[0]}" if "(%rip)" in operands[0] else None
         self.move(operands[1], ("at", place) if isinstance(place, int) else place, WORD, same)
 
     def move_stack(self, number: int, sign: int = 1) -> None:
@@ -311,9 +321,12 @@ class Values:
         """Does what a poll does, which finds nothing if it `fails`. Returns what it looks for, as far as that stays the
         same."""
         asked = tuple(self.same(f"%r{it}" if len(it) == 2 and it[0] != "r" else f"%{it}") for it in ASKED[name])
+        asked = self.requests_of(name, *asked) if name not in PROBES else asked
         arguments = [(self.known.get(it), size) for it, size in POLLS[name].items()]
         flag = arguments[0][0]
-        self.call(name not in SEVERAL)
+        self.call(True)
+        if name in SEVERAL:
+            self.forget_taken()
         for it, size in arguments:
             if isinstance(it, tuple) and it[0] == "at":
                 self.forget(it[1], size)
@@ -323,6 +336,16 @@ class Values:
             self.keep(flag[1], (ZERO, 4))
         self.known.update({"ax": ZERO} if fails else {})
         return asked
+
+    def requests_of(self, name: str, *asked: Any) -> Tuple[Any, ...]:
+        """Returns the requests at which a poll looks: places of the stack, a variable, or what a pointer leads to."""
+        count, at = asked if name in SEVERAL else ("$0x1", *asked)
+        number = int(count[1:], 16) if isinstance(count, str) and count.startswith("$") else 0
+        if isinstance(at, tuple) and at[0] == "at":
+            return ((REQUESTS, self.begin, at[1], at[1] + WORD * number) if 0 < number < WIDE else None,)
+        if isinstance(at, str) and at.startswith("&"):
+            return (at[1:] if name not in SEVERAL else None,)
+        return (REQUESTS, 0, 0, 0), count, at
 
 
 def is_within(key: Any, value: Any, place: int, size: int) -> bool:
@@ -373,7 +396,7 @@ class Walk:
         self.program, self.fail, self.shallow = program, fail, shallow
         self.calls: Set[str] = set()
         self.polls: Set[Tuple[int, Tuple[Any, ...]]] = set()
-        self.stored: Set[str] = set()
+        self.stored: Set[Any] = set()  # names of variables, functions with places of their stacks, or ANYWHERE
         self.ends: Dict[Any, Optional[Known]] = {}  # what is known where a function returns, if it does
 
     def explore(self, begin: int, known: Known, taken: Addresses) -> Dict[int, Known]:
@@ -416,7 +439,7 @@ class Walk:
         if not name.startswith(("call", "j")):  # (so that a variable has one name wherever it is used)
             words = re.sub(r"-?0x[0-9a-f]+\(%rip\)(.*?)\s+# ([0-9a-f]+)\b.*", r"0x\2(%rip)\1", words)
         start, size, _ = self.program.function_at(at)
-        values = Values(known, taken, self.program.has_threads, self.stored)
+        values = Values(known, taken, self.program.has_threads, self.stored, start)
         if name.startswith("call"):
             is_back = self.call(words, following, values)
             return [(following, values.known)] if is_back and following < start + size else []
@@ -511,6 +534,47 @@ class MpiProgram(Program):
         self.call_back = not all(any(some.fullmatch(it) for some in known) for it in imports)
         self.has_threads = any(map(STARTS_THREADS.fullmatch, imports))
         self.is_clear = self.is_clear and not UNSEEN.search(dynamic)
+        self.handlers: List[int] = []
+        if self.is_clear and any(OF_HANDLERS.match(f"<{it}@") for it in imports):
+            self.find_handlers()
+
+    def find_handlers(self) -> None:
+        """Finds the functions that may be handlers of signals: those that are handed to `signal`, or else all whose
+        address is used somewhere."""
+        code = output_of(self.last, "objdump", "-d", "-w", "--no-show-raw-insn", self.path)
+        rows = [(int(it[1], 16), it[3], it[4] or "") for it in map(STEP.match, code.split("\n")) if it]
+        jumps = {words.split()[0] for _, name, words in rows if name.startswith("j") and words}
+        found = {handler_of(rows, at, jumps) for at, (_, name, words) in enumerate(rows)
+                 if OF_HANDLERS.search(words) and not (name == "jmp" and words.startswith("*"))}
+        if found and None not in found:
+            self.handlers = sorted(it for it in found if it)
+            return
+        tables = output_of(self.last, "objdump", "-R", self.path)
+        used = {int(next(filter(None, it)), 16) for it in ADDRESS.findall(code + tables)}
+        used &= {int(it, 16) for it in OF_CODE.findall(output_of(self.last, "objdump", "-t", self.path))}
+        self.handlers = [at for at, _, name in self.functions if at in used and not NO_HANDLERS.fullmatch(name)]
+        # (Tables of a program that always lies at one place can't be seen.)
+        self.is_clear = "R_X86_64_RELATIVE" in tables and bool(code) and len(self.handlers) <= HANDLERS
+
+
+def handler_of(rows: List[Tuple[int, str, str]], at: int, jumps: Set[str]) -> Optional[int]:
+    """Returns the function that a call of `signal` is given by its second argument, 0 if it is none, and None if that
+    isn't known."""
+    wanted = "si" if rows[at][1] == "call" and "<signal@" in rows[at][2] else ""
+    for back in range(at - 1, max(at - FEW_STEPS, -1), -1):
+        _, name, words = rows[back]
+        operands = operands_of(words)
+        if not wanted or f"{rows[back + 1][0]:x}" in jumps or name.startswith(("call", "j", "ret")):
+            return None
+        if not operands or register(operands[-1]) != wanted:
+            continue
+        address = re.search(r"\(%rip\),.*# ([0-9a-f]+) <", words) if name == "lea" else None
+        if address or name != "mov":
+            return int(address[1], 16) if address else None
+        if operands[0] in ("$0x0", "$0x1"):
+            return 0
+        wanted = register(operands[0])
+    return None
 
 
 def frames_of(stack: Stack, program: MpiProgram) -> List[Tuple[int, int]]:
@@ -590,6 +654,8 @@ def ahead_of(row: Row, thread: Row, program: MpiProgram, stack: Stack) -> Row:
     frames, found, polled_at = frames_of(stack, program), [], thread.get("caller", 0) - stack.base()
     for fail in (False, True):
         walk = Walk(program, fail)
+        for handler in program.handlers:
+            walk.returns(handler, Values({}, Addresses(LOWEST), True, set()))
         if follow_all(walk, frames, stack.is_asleep, polled_at):
             walk.calls.add(EXIT if stack.is_main else THREADS)
         found.append(walk)
@@ -600,8 +666,12 @@ def ahead_of(row: Row, thread: Row, program: MpiProgram, stack: Stack) -> Row:
 def looks_for_one(walk: Walk, polled_at: int) -> bool:
     """Whether a thread looks for nothing but what it has looked for when a poll returned at an address."""
     asked = {it for _, words in walk.polls for it in words}
-    is_elsewhere = any("(%rip)" in it for it in asked if isinstance(it, str))
-    if is_elsewhere and (ANYWHERE in walk.stored or walk.program.has_threads):
+    is_elsewhere = any("(%rip)" in it for it in asked if isinstance(it, str) and not it.startswith("&"))
+    requests = [it for it in asked if isinstance(it, tuple) and it[0] == REQUESTS]
+    if (is_elsewhere or requests) and ANYWHERE in walk.stored or is_elsewhere and walk.program.has_threads:
+        return False
+    if any(begin == it[0] and first - WORD < it[1] < last for it in walk.stored if isinstance(it, tuple)
+           for _, begin, first, last in requests):
         return False
     return len(walk.polls) == 1 and {at for at, _ in walk.polls} == {polled_at} and not asked & {None, *walk.stored}
 

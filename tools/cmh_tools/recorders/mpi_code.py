@@ -18,6 +18,9 @@ NOTHING = re.compile(
     r"|Group_\w+|Get_(count|elements|version|library_version|processor_name|address)|Status_set_\w+"
     r"|Error_(string|class)|Type_(size|extent|contiguous|vector|commit|get_\w+|create_(struct|resized))"
     r"|Info_\w+|Pack(_size)?|Unpack|Cart_(rank|coords|shift|get)|Dims_create|Pcontrol", re.I)
+LOCAL = re.compile(r"Wtime|Wtick|Initialized|Finalized|Is_thread_main|Query_thread|Comm_(rank|size|compare|group)"
+                   r"|Group_\w+|Get_\w+|Error_\w+|Type_\w+|threads", re.I)  # calls that look at no message
+LOOKS_BETWEEN = 2
 SOME = {
     SENDS: re.compile(r"I?[bsr]?send(_init)?|Sendrecv(_replace)?|Start(all)?", re.I),
     RECEIVES: re.compile(r"I?m?recv(_init)?|Sendrecv(_replace)?|Start(all)?", re.I),
@@ -39,8 +42,10 @@ def freed_by(names: Iterable[str]) -> Set[str]:
 
 
 def spares(row: Row, kind: str) -> bool:
-    """Whether a thread comes to no call that ends a wait of a kind."""
-    return "ahead" in row and kind not in freed_by(row["ahead"])
+    """Whether a thread comes to no call that ends a wait of a kind. A short message may wait for room alone: any call
+    that looks at what has come makes some, so that a receiver is needed only where such calls haven't helped."""
+    makes_room = kind == RECEIVES and not row.get("looked") and not all(map(LOCAL.fullmatch, row.get("ahead", ())))
+    return "ahead" in row and kind not in freed_by(row["ahead"]) and not makes_room
 
 
 def spares_all(row: Row) -> bool:
@@ -48,8 +53,9 @@ def spares_all(row: Row) -> bool:
 
 
 def waits_for_its_poll(row: Row) -> bool:
-    """Whether a thread that polls for one thing frees nobody before it is there."""
-    return bool(row.get("looks")) and not freed_by(row["meanwhile"])
+    """Whether a thread that polls for one thing frees nobody before it is there. It has looked more than once since
+    somebody else began to wait, so that it wasn't there yet."""
+    return bool(row.get("looks") and row.get("looked")) and not freed_by(row["meanwhile"])
 
 
 def unsparing(threads: Iterable[Any], kind: str) -> List[Any]:
@@ -58,5 +64,7 @@ def unsparing(threads: Iterable[Any], kind: str) -> List[Any]:
 
 
 def keep_ahead(was: Row, now: Row) -> None:
-    """Has what a thread can't come to count in a later reading too: it can't from then on."""
+    """Has what a thread can't come to count in a later reading too: it can't from then on. Notes who has looked again
+    between them, and once more, as the first look may be from before another rank was read."""
+    was["looked"] = now["looked"] = now.get("polls", 0) - was.get("polls", 0) >= LOOKS_BETWEEN
     now.update({key: was[key] for key in ("ahead", "meanwhile", "looks") if key in was})

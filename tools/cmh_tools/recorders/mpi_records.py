@@ -29,6 +29,7 @@ FUNNELS, SERIALIZED = 1, 2  # levels of MPI_Init_thread: the last by which one t
 EVERY, SEVERAL = -9, -10  # targets of locks: all of a window, and more than the record has
 NEW_CALLS = 4  # the standard from which on there are calls that cmh_mpi.c doesn't know
 ANY_SOURCE = "any"
+ASKED = "requests", "comm", "partner", "tag"  # what one looks for who polls
 # Calls on a window that take a lock, and those that wait for a group.
 NEIGHBORS = "Neighbor_", "Ineighbor_"  # how calls begin that wait for some of a communicator
 TAKES, GROUPED = ("Win_lock", "Win_lock_all"), ("Win_start", "Win_complete", "Win_wait")
@@ -96,8 +97,14 @@ class Rank:
 
     def enders(self, kind: str) -> List[str]:
         """Those of it that may end a wait of a kind: all, if its calls so far aren't all known."""
-        is_known = self.threads and not self.is_hidden()
+        is_known = self.threads and not self.is_hidden() and all(spares(it, kind) for it in self.silent())
         return [it.name for it in unsparing(self.threads, kind)] if is_known else self.names()
+
+    def silent(self) -> List[Dict[str, Any]]:
+        """Its threads that don't count as ones that call MPI, though the job hasn't said that they don't: one that
+        hasn't asked for a level has said nothing of them."""
+        has_said = self.row.get("asked") == FUNNELS == self.level
+        return [] if has_said or self.is_threaded else self.others
 
     def is_away(self) -> bool:
         """Whether it is in no call of MPI, or only looks into one now and then."""
@@ -234,11 +241,8 @@ def joined_by(row: Dict[str, Any], rows: List[Dict[str, Any]]) -> str:
 
 
 def going_on(rank: Rank) -> List[Dict[str, Any]]:
-    """Returns the other threads of a rank that go on by themselves, and may send for it. A job that hasn't asked for a
-    level has said nothing of its threads."""
-    has_said = rank.row.get("asked") == FUNNELS == rank.level
-    return [it for it in rank.others if not spares_all(it) and (it["state"] == "R" or it.get("call") in BY_ITSELF)
-            ] if not has_said else []
+    """Returns the other threads of a rank that go on by themselves, and may send for it."""
+    return [it for it in rank.silent() if not spares_all(it) and (it["state"] == "R" or it.get("call") in BY_ITSELF)]
 
 
 def doubted(thread: Thread, process: Process, going: List[Dict[str, Any]]) -> Process:
@@ -398,7 +402,9 @@ def align(one: Thread, later: Thread) -> None:
     if is_same and looks and "entered" in was and all(was.get(it) == now.get(it) for it in ("polls", "entered")):
         one.kind = later.kind = was["kind"] = now["kind"] = 0
     elif is_same and looks:
-        now.update({key: was[key] for key in ("name", "place", "requests", "comm", "partner", "tag") if key in was})
+        if any(was.get(key) != now.get(key) for key in ASKED):
+            was["looks"] = False
+        now.update({key: was[key] for key in ("name", "place", *ASKED) if key in was})
     elif is_same and was.get("entered") != now.get("entered"):
         one.returns = later.returns = True
 

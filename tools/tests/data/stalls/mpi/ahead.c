@@ -95,6 +95,34 @@ static void leaves(void) {
         nap();
     exit(0);
 }
+static void overwrites(void) {
+    MPI_Request now, later;
+    MPI_Irecv(&word, 1, MPI_INT, 0, TAG, MPI_COMM_WORLD, &now);
+    MPI_Irecv(&word, 1, MPI_INT, 0, LATER, MPI_COMM_WORLD, &later);
+    for (int looks = 0;; looks++) {
+        int flag;
+        MPI_Test(&now, &flag, MPI_STATUS_IGNORE);
+        if (flag)
+            break;
+        if (looks == LONG)
+            now = later;
+        nap();
+    }
+    send();
+}
+static void swaps(void) {
+    MPI_Comm place = MPI_COMM_WORLD;
+    for (int looks = 0;; looks++) {
+        int flag;
+        MPI_Iprobe(MPI_ANY_SOURCE, TAG, place, &flag, MPI_STATUS_IGNORE);
+        if (flag)
+            break;
+        if (looks == LONG)
+            place = MPI_COMM_SELF;
+        nap();
+    }
+    send();
+}
 static void meets(void) {
     for (int looks = 0; looks < LONG; looks++)
         nap();
@@ -103,7 +131,8 @@ static void meets(void) {
 
 static const struct { const char *name; void (*go)(void); } WAYS[] = {
     {"receives", receives}, {"answers", answers}, {"tests", tests}, {"counts", counts}, {"turns", turns},
-    {"is_told", is_told}, {"hands_on", hands_on}, {"points", points}, {"leaves", leaves}, {"meets", meets}};
+    {"is_told", is_told}, {"hands_on", hands_on}, {"points", points}, {"leaves", leaves}, {"meets", meets},
+    {"overwrites", overwrites}, {"swaps", swaps}};
 
 int main(int argc, char **argv) {
     int at = 0;

@@ -106,6 +106,46 @@ static void tick_and_send(void) {
     send(0, LATER);
 }
 static void ticking(void) { rank < 3 ? wait_for_results() : is_slow ? tick_and_send() : tick(); }
+/* Rank 3 looks in the same way beside a thread that sleeps, and in the healthy job then sends. The job hasn't said
+   whether such a thread calls MPI. */
+static void *beat(void *unused) {
+    for (;;)
+        usleep(200000);
+    return unused;
+}
+static void *beat_and_send(void *unused) {
+    for (;;) {
+        sleep(600);
+        send(0, LATER);
+    }
+    return unused;
+}
+static void beating(void) {
+    pthread_t heartbeat;
+    if (rank < 3)
+        wait_for_results();
+    pthread_create(&heartbeat, NULL, is_slow ? beat_and_send : beat, NULL);
+    guard();
+}
+/* Healthy: rank 0 sends so many short messages to rank 3 that it waits for room, which that one's next look makes. */
+static void look_seldom(void) {
+    for (int flag, looks = 0; looks < 100; looks++) {
+        MPI_Iprobe(0, TAG, world, &flag, MPI_STATUS_IGNORE);
+        if (flag)
+            return;
+        sleep(60);
+    }
+}
+static void filled(void) {
+    for (int sent = 0; rank == 0 && sent < MANY; sent++)
+        send(3, LATER);
+    for (int other = 1; rank == 0 && other < size; other++)
+        send(other, TAG);
+    if (rank == 3)
+        look_seldom();
+    else if (rank > 0)
+        receive(0, TAG);
+}
 /* Rank 0 looks for requests and answers them, and the others wait for an answer. In the healthy job it comes to look
    for another tag, and a message with that is there. */
 static void answer(void) {
@@ -434,11 +474,6 @@ static void parked(void) {
 }
 /* Ranks 1 and 2 wait for each other, or rank 1 computes. The others exchange with all. Each has a heartbeat, of which
    it has said to MPI_Init that it doesn't call MPI. */
-static void *beat(void *unused) {
-    for (;;)
-        usleep(200000);
-    return unused;
-}
 static void asked(void) {
     pthread_t heartbeat;
     int numbers[4] = {1, 1, 1, 1}, at[4] = {0, 1, 2, 3}, out[4] = {0}, in[4];
@@ -453,6 +488,7 @@ static void asked(void) {
 static const struct { const char *name; int ranks, level; void (*work)(void); } JOBS[] = {
     {"send_ring", 4, 0, send_ring}, {"wrong_source", 4, 0, wrong_source}, {"watched", 4, 0, watched},
     {"guarded", 4, 0, guarded}, {"ticking", 4, 0, ticking}, {"desk", 3, 0, desk},
+    {"beating", 4, 0, beating}, {"filled", 4, 0, filled},
     {"mismatch", 3, 0, mismatch},
     {"waitall", 3, 0, waitall}, {"waitany", 3, 0, waitany}, {"any_source", 3, 0, any_source}, {"grid", 4, 0, grid},
     {"sendrecv", 4, 0, sendrecv}, {"ibarrier", 3, 0, ibarrier}, {"token", 4, 0, token}, {"polls", 2, 0, polls},
