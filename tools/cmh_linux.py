@@ -68,8 +68,9 @@ IPC = {"semop": "sem", "semtimedop": "sem", "msgsnd": "msg", "msgrcv": "msg"}  #
 GETPID, NO_KEY = 11, 0
 SHELLS = ("ash", "bash", "dash", "sh")
 AT_START = re.compile(r"(^|\0)(BASH_ENV|BASH_FUNC_[^=]*)=")  # what brings a shell more text
-# What may set a trap in a script: the word, a text that is brought in, or a command that stands in a variable.
-TRAPPING = re.compile(r"\b(trap|source|eval|builtin|command|enable)\b|(^|[\s;&|({!`])\.[ \t]|"
+# What may set a trap in a script, or have its shell forget a job: the word, a text that is brought in, or a command
+# that stands in a variable.
+TRAPPING = re.compile(r"\b(trap|disown|source|eval|builtin|command|enable)\b|(^|[\s;&|({!`])\.[ \t]|"
                       r"(^|[;&|({!`]|\b(then|do|else|elif|if|while|until|time)\b)\s*(\w+=\S*\s+)*[$`]", re.M)
 # What a script awaits: its names of variables and its words, without what isn't of its jobs.
 OF_VARIABLE = re.compile(r"\"\$\{?(\w+)(?:\[[@*]\])?\}?\"|\$\{(\w+)(?:\[[@*]\])?\}")
@@ -82,6 +83,9 @@ UNCLEAR = re.compile(r"\b(disown|coproc|fg|bg|set\s+-\w*m\w*|monitor|(SIG)?CHLD|
                      r"|[`'\"]|<<|[<>$]\(|\bcase\b", re.M)
 # What takes no time between the start of jobs, or is seen as a child.
 QUICK = re.compile(r"\s*((\w+\+?=\S*\s*)+|(echo|printf|sleep|:|true|mkfifo|mkdir|touch|rm|chmod)\b[^<>|$()]*)?\s*")
+# What gives a variable something else than the number of a job.
+GIVES = (r"(?<![\w./$-]){0}(\+?=(?!\$!(\s|;|$)|\(\$!\)|\(\))|\[)|\b(read|readarray|mapfile|unset|declare|local|typeset"
+         r"|for|let|printf|getopts|export|readonly)\b[^\n;&|]*(?<![\w./$-]){0}\b")
 OPENING, CLOSING = {"(": ")", "{": "}", "if": "fi", "do": "done"}, (")", "}", "fi", "done")
 TOKENS = re.compile(r"(?P<name>\w+)(?:=\$!(?=\s|;|$)|(?P<more>\+=\(\$!\)))|\$\w+|\$[!#?@*]|&&|\|\||[&|;\n(){}]"
                     r"|[^\s&|;(){}$]+|\$")
@@ -612,6 +616,8 @@ def awaited_in(text: str) -> Row:
     number = jobs[""][0] if jobs and is_prompt(plain[:waits[0].start()]) else 0
     if not any(it["whom"].split() for it in waits):
         return {"awaits": {"which": [], "number": 0, "prompt": number}}
+    if any(re.search(GIVES.format(name), plain[:waits[0].start()]) for name in names):
+        return {}
     if jobs is None or not names or len(names) != len(waits[0]["whom"].split()) or not {*names} <= jobs.keys() - {""}:
         return {}
     which = sorted({it for name in names for it in jobs[name]})
@@ -1085,6 +1091,9 @@ BY_A_WAY = re.compile(r" (fopencookie|funopen|register_printf_\w+|_*pthread_key_
                       r"|_*(sig)?(set|long)jmp\w*|__morestack\w*|__\w+_hook"
                       r"|_ZTISt(15basic_streambuf|13basic_filebuf|5ctype|\w*(punct|_put|_get)I)\w*"
                       r"|_ZTINSt7__cxx1115basic_stringbuf\w*|_ZTINSt6locale5facetE)\b")
+SETS_THROWS = re.compile(r"<_ZNSt9basic_iosIcSt11char_traitsIcEE(10exceptions|5clear)ESt12_Ios_Iostate@")
+THROWS_AT_STREAMS = re.compile(rf"{STREAMS_OF_CPP}|_ZNK?St9basic_iosIc\w+|_ZNK?St7__cxx111[5-9]basic_\w+")
+STATE_OF_STREAM = re.compile(r".*,%[er]si")  # what a stream's state is set to, in a register
 RAW = re.compile(r" syscall\b")  # a call of the kernel by its number
 AT_ENDS = re.compile(r" \w+_Make_ready\w+")  # what runs at the end of a thread, and completes futures
 OPENS_BY_NUMBER = re.compile(r" (fdopen|popen|freopen(64)?|\w+stdio_(sync_)?filebuf\w+)\b")
@@ -1102,10 +1111,12 @@ BASH = "bash"
 BUILTINS = {"wait_for_background_pids": "all", "wait_for_any_job": "any", "wait_for_single_pid": "one",
             "wait_for_job": "one", "wait_for": "front"}
 FUNCTION = re.compile(r"^([0-9a-f]+) .{6}F \.text\S*\t", re.M)
+ARGUMENTS = re.compile(r"%r(di|si|dx|cx|8|9)\b")
 IN_PLACE = re.compile(r"\(%rip\).* # ([0-9a-f]+)(?: <|$)")
 POINTER = re.compile(r"^([0-9a-f]+) R_X86_64_RELATIVE +\*ABS\*\+0x([0-9a-f]+)$", re.M)
 KEPT = re.compile(r"%r(bx|bp|1[2-5])")  # registers that a call keeps
 SETS_HANDLER = re.compile(r"<(__sysv_signal|b?s?signal|_*sigaction|sigset|sigvec|__libc_sigaction)@")
+OF_FULL_FILES = 1 << 13 - 1 | 1 << 25 - 1  # SIGPIPE and SIGXFSZ, which a call at a file may bring to who calls it
 OF_ITSELF = (4, 5, 6, 7, 8, 11, 13, 16, 17, 24, 25, 31, 32, 33)  # signals of a process itself, its children and glibc
 COLD = ".cold"  # how the name ends of what a compiler has moved away from a function
 ODD = re.compile(r"sys(call|enter)|u?iret\w?|int\d?|l(ret|jmp|call)\w?|\(bad\)|xbegin|wrpkru|enter\w?|loop\w*|ud\w*"
@@ -1159,6 +1170,7 @@ class Program:
         self.pointers = sorted((int(at, 16), int(to, 16)) for at, to in POINTER.findall(
             output_of(last, "objdump", "-R", path) if found else ""))
         self.all: Optional[Dict[int, List[Tuple[int, str, str]]]] = None
+        self.sets_throws = re.search(SETS_THROWS.pattern[1:-1], dynamic) is not None
 
     def function_at(self, address: int) -> Tuple[int, int, str]:
         at = bisect.bisect_right(self.starts, address) - 1
@@ -1441,6 +1453,7 @@ class Standing:
         libraries = [it[3] for it in self.code if it[3] != self.exe]
         self.has_others = not all(map(OF_THE_SYSTEM.fullmatch, libraries))
         self.is_main = thread["tid"] == row["pid"]
+        self.is_called_at_files = bool(int(row.get("SigCgt") or "0", 16) & OF_FULL_FILES)
         self.memory = Memory(self.folder)
         self.words: List[Tuple[str, int]] = []
         self.unwound: List[int] = []  # the addresses to which it returns, the innermost first
@@ -1652,7 +1665,18 @@ def spared_by(standing: Standing, program: Program) -> List[str]:
         raise Unclear
     if ends:
         reach.follow(ends_of_states(program, names, any("libstdc++" in path for path, _ in standing.words)))
+    if standing.is_called_at_files and any(map(OF_FILES.fullmatch, reach.calls)):
+        reach.follow(handlers_at_files(standing, program))
     return kinds_of(reach.calls, bool(ends), program, standing.has_others)
+
+
+def handlers_at_files(standing: Standing, program: Program) -> Set[int]:
+    """Returns the handlers of a process to which a call at a file may come, as that of SIGPIPE. Raises Unclear where
+    these aren't found."""
+    found = set() if standing.has_others or program.is_raw else handlers_of(program)
+    if not found:
+        raise Unclear
+    return found
 
 
 def kinds_of(calls: Set[str], ends: bool, program: Program, has_others: bool) -> List[str]:
@@ -1662,6 +1686,7 @@ def kinds_of(calls: Set[str], ends: bool, program: Program, has_others: bool) ->
     files, futexes = ({it for it in rest if names.fullmatch(it)} for names in (OF_FILES, OF_FUTEXES))
     is_known = rest == files | futexes
     is_known = is_known and not (ends and completes_at_ends(program))
+    is_known = is_known and not (any(map(THROWS_AT_STREAMS.fullmatch, calls)) and throws_at_streams(program))
     spares = ["futexes"] if is_known and not futexes else []
     spares += ["files"] if is_known and not files else []
     spares += ["streams"] if is_known and not (program.opens_by_number or has_others) and all(
@@ -1682,6 +1707,25 @@ def completes_at_ends(program: Program) -> bool:
     return True
 
 
+def throws_at_streams(program: Program) -> bool:
+    """Whether a program may have its streams of C++ throw where they fail, as at the end of a file: it gives one's
+    state back to it as it is."""
+    if not program.sets_throws:
+        return False
+    with contextlib.suppress(Unclear):
+        return any(sets_throws(steps, at) for steps in program.parts().values()
+                   for at, step in enumerate(steps) if SETS_THROWS.search(step[2]))
+    return True
+
+
+def sets_throws(steps: List[Tuple[int, str, str]], at: int) -> bool:
+    """Whether a call sets on what a stream throws, and not its state alone: to a number, or with a bit more."""
+    sets = next(((name, words) for _, name, words in reversed(steps[max(0, at - 8):at])
+                 if STATE_OF_STREAM.fullmatch(words) or name.startswith("call")), ("", ""))
+    is_state = sets[0].startswith("or") or sets[0] == "xor" or sets[0] == "mov" and sets[1].startswith("$")
+    return not is_state or "10exceptions" in steps[at][2]
+
+
 def handlers_of(program: Program) -> Set[int]:
     """Returns the functions of a program that may be handlers of signals. Raises Unclear where these aren't found."""
     parts, found = program.parts(), set()  # type: Dict[int, List[Tuple[int, str, str]]], Set[int]
@@ -1692,10 +1736,41 @@ def handlers_of(program: Program) -> Set[int]:
         start, calls = left.pop()
         some = handlers_in(program, parts[start], calls)
         found |= some
-        if not some and start not in seen and not are_constant(program, parts[start], calls):
+        if start not in seen and not are_plain(program, parts[start], calls):
             seen.add(start)
-            left += callers_of(program, parts, start)
+            left += storers_of(parts, parts[start])
+            left += [] if some and not is_given(program, start, parts[start]) else callers_of(program, parts, start)
     return found
+
+
+def is_given(program: Program, start: int, steps: List[Tuple[int, str, str]]) -> bool:
+    """Whether a function reads one of its arguments, other than main does."""
+    places: Set[str] = set()
+    for _, name, words in steps:
+        target = target_of(words)
+        used = {it[0] for it in ARGUMENTS.finditer(words)} - places
+        is_set = name.startswith(("mov", "lea", "xor")) and ARGUMENTS.fullmatch(target)
+        if used - ({target} if is_set and words.count(target) == 1 or name.startswith("xor") else set()):
+            return program.function_at(start)[2] != "main"
+        if name.startswith("call"):
+            return False
+        places |= {target, f"%r{target[2:]}"} if target.startswith("%") else set()
+    return False
+
+
+def storers_of(parts: Dict[int, List[Tuple[int, str, str]]],
+               steps: List[Tuple[int, str, str]]) -> List[Tuple[int, List[int]]]:
+    """Returns who writes to the variables that a function reads, and where."""
+    read = {place for _, name, words in steps if "mov" in name and target_of(words).startswith("%r")
+            for place in IN_PLACE.findall(words)}
+    found = [(start, [at for at, step in enumerate(some) if is_store(step, read)]) for start, some in parts.items()]
+    return [it for it in found if it[1]] if read else []
+
+
+def is_store(step: Tuple[int, str, str], places: Set[str]) -> bool:
+    """Whether a step writes to one of some places, or may hand on where one is."""
+    found = IN_PLACE.search(step[2])
+    return found is not None and found[1] in places and (step[1] == "lea" or "(%rip)" in target_of(step[2]))
 
 
 def callers_of(program: Program, parts: Dict[int, List[Tuple[int, str, str]]],
@@ -1731,8 +1806,8 @@ def handlers_in(program: Program, steps: List[Tuple[int, str, str]], calls: List
     return {it for at, them in some for it in them if not is_for_other(target_of(steps[at][2]), steps[at + 1:at + 12])}
 
 
-def are_constant(program: Program, steps: List[Tuple[int, str, str]], calls: List[int]) -> bool:
-    return all(argument_of(program, steps, at) == set() for at in calls)
+def are_plain(program: Program, steps: List[Tuple[int, str, str]], calls: List[int]) -> bool:
+    return all(argument_of(program, steps, at) is not None for at in calls)
 
 
 def argument_of(program: Program, steps: List[Tuple[int, str, str]], at: int) -> Optional[Set[int]]:

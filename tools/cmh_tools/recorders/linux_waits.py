@@ -465,6 +465,9 @@ def jobs_awaited(thread: Thread, children: List[Owner]) -> List[Owner]:
     is_sure = bool(builtin) or shell.row.get("traps") is False and (are_told or is_full)
     if builtin in ("front", "any") or not is_sure or len(jobs) < len(children) and builtin != "all":
         return []
+    most = max(awaits["number"], awaits["prompt"]) if awaits else 0
+    if most and len(jobs) > most:  # (some were there before its program)
+        return []
     which = [] if builtin == "all" else awaits["which"]
     if which and awaits["number"] != len(children) or builtin == "one" and not which:
         return []
