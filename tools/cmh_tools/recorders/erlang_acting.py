@@ -80,8 +80,9 @@ def ends_quietly(block: Block, moment: Nodes) -> bool:
 def is_script_asleep(block: Block) -> bool:
     """Whether a script of Elixir's sleeps, by which the node lives on, in no function of the program's."""
     top, *below = [it.split(" (")[0] for it in block.stack] or [""]
-    return not block.fault and top.partition("/")[0] in SLEEPS and any(it.startswith("Kernel.CLI.") for it in below) and all(
-        map(OF_SCRIPTS.fullmatch, below)) and block.messages == "[]" and not has_port(block)
+    is_script = any(it.startswith("Kernel.CLI.") for it in below) and all(map(OF_SCRIPTS.fullmatch, below))
+    is_asleep = not block.fault and top.partition("/")[0] in SLEEPS
+    return is_script and is_asleep and block.messages == "[]" and not has_port(block)
 
 
 def is_reacting(block: Block, moment: Nodes) -> bool:

@@ -118,7 +118,7 @@ class LinuxRecorder(Recorder):
         REMOTE: Premise("who is outside of this machine, or may still connect, goes on by itself"),
         CODE: Premise("a thread that sleeps comes to no code but what its stack leads to, and no call of the C library "
                       "there does more than its name says, or fails"),
-        STACK: Premise("what a stack shows right after both readings was so in them"),
+        STACK: Premise("what a stack shows right after both readings was so in them, and who locks a mutex unlocks it"),
     }
 
     def __init__(self) -> None:
