@@ -25,7 +25,8 @@ sys.dont_write_bytecode = True
 
 from cmh_go_code import ANYTHING, Code, Steps  # noqa: E402
 from cmh_go_layout import Changed, Unreadable  # noqa: E402
-from cmh_go_memory import AT_CHANNEL, FINALIZERS, GLOBALS, PAGE, TIMERS, Goroutine, Program, Snapshot  # noqa: E402
+from cmh_go_memory import (AT_CHANNEL, FINALIZERS, GLOBALS, PAGE, RUNNING, THREADS, TIMERS,  # noqa: E402
+                           Goroutine, Program, Snapshot)
 
 END = "end"  # who sends to what `signal.Notify` has, where that is for signals that end a program alone
 ENDS = {signal.SIGINT, signal.SIGQUIT, signal.SIGTERM}
@@ -34,6 +35,7 @@ Who = Union[int, str]  # a goroutine by its number, or another root
 NOBODY: Set[Who] = set()
 HEADING, FORMAT = "channels and locks by cmh_go", 1
 AHEAD = ("sleep", "chan receive", "select")  # waits of those whose code ahead is read
+GENERIC = "["  # in the name of a function
 BASE, LAST = 6, "runtime.goexit"  # the word of where a goroutine stands that points to its frames, and the outermost
 LIBRARY = re.compile(r"(?:bufio|bytes|context|encoding|errors|fmt|internal|io|log|math|net|os|reflect|runtime|sort"
                      r"|strconv|strings|sync|syscall|time|unicode)[./]")
@@ -206,8 +208,10 @@ class Reading:
                       for number, it in self.rows.items()
                       if number in resting and it.is_blocked() and all(map(heap.is_followed, it.objects))}
         finalizers = map(program.name_at, heap.special[1::2])
+        self.running = {(number, it.place[2]) for number, it in self.rows.items() if it.status == RUNNING}
         self.callbacks = {TIMERS} if snapshot.roots[TIMERS] else set()
         self.callbacks |= {FINALIZERS} if not all(map(HARMLESS.fullmatch, finalizers)) else set()
+        self.callbacks |= {THREADS} if program.is_called_from_c else set()
         found = reached_in(Reach(snapshot, last))
         self.who = {at: {GLOBALS} if heap.is_global(at) else found.get(heap.object_of(at), NOBODY)
                     for wait in self.waits.values() for at in wait.objects}
@@ -235,16 +239,24 @@ def readings_of(program: Program) -> List[Reading]:
     read is seen in one of them."""
     last = time.process_time() + SECONDS
     found: List[Reading] = []
+    why = "its memory changes all the time"
     for number in range(TRIES):
         time.sleep(PAUSE * (1 + number % 3) if number else 0)
-        with contextlib.suppress(Changed):
+        try:
             found.append(Reading(program, last))
+        except Changed as error:
+            why = str(error)
         exact = [it for it in found if it.is_exact]
         if len(exact) == 2 or exact and time.process_time() > last - SECONDS * 3 / 4:  # (one alone is as right)
             return exact
         if len(found) == READINGS:
-            return found
-    raise Unreadable("its memory changes all the time")
+            break
+    restless = set.intersection(*(it.running for it in found)) if len(found) == READINGS else set()
+    if restless:
+        raise Unreadable(f"goroutine {min(restless)[0]} never rests, so what it has in registers isn't known")
+    if len(found) == READINGS:
+        return found
+    raise Unreadable(why)
 
 
 def record_of(program: Program) -> Iterator[str]:
@@ -271,7 +283,8 @@ def waits_of(program: Program, readings: Sequence[Reading]) -> Iterator[Tuple[st
         kind = f" of {program.type_of(at):#x}" if wait.reason in AT_CHANNEL and at else ""
         who: Set[Who] = set().union(*(it.who.get(at, ()) for it in readings))
         who |= {END} if kind and is_for_end(program, at) else set()
-        text = text_of({it for it in who if isinstance(it, str) or it in later.rows})
+        # Who has ended since may have handed it on, unless nothing ran while it was read.
+        text = text_of({it for it in who if isinstance(it, str) or it in later.rows or not later.is_exact})
         place = f"at {at:#x}{kind}" if at else "nowhere"
         yield f"{place} [{wait.reason}] wait {{}} reached by {text}", number
 
@@ -322,7 +335,8 @@ def kinds_of(program: Program, goroutine: Goroutine, steps: Steps) -> Set[str]:
     """Returns what a goroutine may do. One that receives nowhere but where it stands does so from channels of the same
     types as now."""
     (site, number), *more = steps.sites.items() or [(0, 0)]
-    if more or site not in goroutine.stack or number != len(goroutine.objects) or "receive" not in steps.kinds:
+    is_there = site in goroutine.stack and 0 < number == len(goroutine.objects)
+    if more or not is_there or GENERIC in program.function_of(site):  # (whose code may be for channels of many types)
         return steps.kinds
     return steps.kinds - {"receive"} | {f"receive:{program.type_of(at):#x}" for at in goroutine.objects}
 

@@ -23,8 +23,7 @@ ROWS: List[Tuple[str, Iterable[str]]] = [
     (r"sync\.\(\*Cond\)\.(?:Signal|Broadcast)", {"wake"}),
     (r"sync\.\(\*(?:Mutex|RWMutex)\)\.(?:Lock|lockSlow|RLock)|sync\.\(\*WaitGroup\)\.Wait", NONE),
     (r"time\.(?:Sleep|Now|Since|Until|After|Tick|NewTicker|NewTimer|now|runtimeNano)(?:\.abi0)?", NONE),
-    (r"time\.(?:Time|Duration|Month|Weekday|\(\*(?:Time|Ticker|Location)\)|\(\*Timer\)(?=\.Stop))\.\w+", NONE),
-    (r"fmt\.(?:Sprint|Sprintf|Sprintln|Print|Printf|Println|Errorf)", NONE),
+    (r"time\.(?:Time|Duration|Month|Weekday|\(\*(?:Time|Location)\))\.\w+|time\.\(\*(?:Timer|Ticker)\)\.Stop", NONE),
     (r"runtime\.(?:morestack\w*|newobject|makeslice\w*|makemap\w*|growslice|conv\w+|concatstrings?\w*|mapaccess\w+"
      r"|mapiter\w+|slicebytetostring\w*|stringtoslice\w+|intstring|rawstring\w*|decoderune|countrunes|panic\w+"
      r"|goPanic\w+|memequal\w*|memmove|memclrNoHeapPointers|memhash\w*|strhash\w*|assert\w+|ifaceeq|efaceeq|cmpstring"
@@ -35,7 +34,12 @@ ROWS: List[Tuple[str, Iterable[str]]] = [
     (r"sync/atomic\..*|.*plugin.*", {ANYTHING}),
 ]
 MEANINGS = [(re.compile(pattern), frozenset(kinds)) for pattern, kinds in ROWS]
-PRINTS = re.compile(r"log\.(?:Print|Printf|Println)")  # of the standard logger
+PRINTS = re.compile(r"fmt\.(?:Sprint|Sprintf|Sprintln|Print|Printf|Println|Errorf)")
+LOGS = re.compile(r"log\.(?:Print|Printf|Println)")  # of the standard logger
+METHODS = re.compile(r".*\.(?:String|GoString|Format)")  # by which values are printed
+STANDARD = re.compile(r"(?:archive|bufio|bytes|compress|container|context|crypto|database|debug|encoding|errors|expvar"
+                      r"|flag|fmt|hash|html|image|index|internal|io|log|math|mime|net|os|path|reflect|regexp|runtime"
+                      r"|sort|strconv|strings|sync|syscall|testing|text|time|unicode|vendor)[./].*")
 WRITES = re.compile(r"fmt\.(?:Fprint|Fprintf|Fprintln)")
 FILES = re.compile(r"go[.:]itab\.\*os\.File,io\.Writer")
 FILLS = re.compile(r"runtime\.duff(?:zero|copy)")  # which are called at any place in them
@@ -147,6 +151,8 @@ class Code:
         self.elf, self.prints_to_file = elf, prints_to_file
         self.files = {at for name, at in elf.symbols.items() if FILES.fullmatch(name)}
         self.done: Dict[int, Steps] = {}
+        self.methods = {number for number, name in enumerate(elf.functions)
+                        if METHODS.fullmatch(name) and not STANDARD.fullmatch(name)}
 
     def ahead(self, functions: Iterable[int]) -> Steps:
         """Returns what some functions, which are on a stack, and all that they call may do."""
@@ -166,12 +172,17 @@ class Code:
         if number not in self.done:
             kinds = self.meaning(self.elf.functions[number])
             self.done[number] = Steps(kinds) if kinds is not None else self.read(number)
+            self.done[number].called |= self.methods if self.prints(self.elf.functions[number]) else set()
         return self.done[number]
+
+    def prints(self, name: str) -> bool:
+        """Whether a function prints values, some of them by methods of their own."""
+        return (PRINTS.fullmatch(name) or LOGS.fullmatch(name)) is not None
 
     def meaning(self, name: str) -> Optional[FrozenSet[str]]:
         """Returns what a function does whose name says it, or None."""
-        if PRINTS.fullmatch(name):
-            return NONE if self.prints_to_file else frozenset((ANYTHING,))
+        if self.prints(name):
+            return NONE if self.prints_to_file or PRINTS.fullmatch(name) else frozenset((ANYTHING,))
         return next((kinds for pattern, kinds in MEANINGS if pattern.fullmatch(name)), None)
 
     def read(self, number: int) -> Steps:
@@ -204,6 +215,7 @@ class Code:
             made.sites[after] = block.number(TAKES) or 0 if name == SELECT else int(name != POLL)
         elif WRITES.fullmatch(name):
             made.kinds |= set() if block.address(WRITER) in self.files else {ANYTHING}
+            made.called |= self.methods
         else:
             made.called.add(number)
 

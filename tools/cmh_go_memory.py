@@ -16,7 +16,7 @@ from cmh_go_layout import Changed, Elf, Types, Unreadable
 KNOWN = re.compile(r"go1\.19(?:\.\d+)?")
 PAGE = 13  # bits of an address within a page of the heap
 IN_USE = 1  # the state of a span of the heap
-RUNNABLE, SYSCALL, WAITING, DEAD = 1, 3, 4, 6  # states of goroutines
+RUNNABLE, RUNNING, SYSCALL, WAITING, DEAD = 1, 2, 3, 4, 6  # states of goroutines
 SCAN = 0x1000  # of such a state: the collector just reads the stack
 ROOTS, STRIDE = 251, 64  # roots of the table of semaphores, and bytes from one to the next
 HEAD = 16  # where a condition has the first who waits, and behind it the last
@@ -28,7 +28,9 @@ AT_CHANNEL = ("chan receive", "chan send", "select")
 AT_LOCK = ("semacquire", "sync.Mutex.Lock", "sync.RWMutex.Lock", "sync.RWMutex.RLock", "sync.WaitGroup.Wait")
 AT_CONDITION = "sync.Cond.Wait"
 FOREVER = ("chan receive (nil chan)", "chan send (nil chan)", "select (no cases)")
-GLOBALS, TIMERS, TICKS, FINALIZERS = "globals", "timers", "ticks", "finalizers"
+GLOBALS, TIMERS, TICKS, FINALIZERS, THREADS = "globals", "timers", "ticks", "finalizers", "threads"
+EXPORTED = re.compile(r"_cgoexp_[0-9a-f]+_.*")  # a function that threads of C may call
+FINALIZING, AT_REST = "runtime.createfing", "finalizer wait"  # who creates the goroutine of finalizers, and its rest
 INNER = re.compile(r"runtime\.(?:init\.\d+|gcenable|gcBgMarkStartWorkers)")  # who creates the runtime's own
 SENDS, RUNTIME = "time.sendTime", "runtime."  # a timer that sends, and functions that call nothing of the job
 FILES = ("go.itab.*os.File,io.Writer", "go:itab.*os.File,io.Writer")
@@ -106,6 +108,7 @@ class Program:
         if self.memory.word(self.at("firstmoduledata") + self.module["next"]):
             raise Unreadable("it has plugins")
         self.bounds = self.variable("noptrdata"), self.variable("enoptrbss")
+        self.is_called_from_c = any(map(EXPORTED.fullmatch, self.elf.functions))
 
     def variable(self, name: str) -> int:
         """Returns a bound of the program's parts."""
@@ -260,8 +263,10 @@ class Snapshot:
         self.numbers = {at: it.number for at, it in before.items()}
         for it in (*before.values(), *after.values()):
             self.rows.setdefault(it.number, []).append(it)
-        if self.memory.word(program.at("finq")):
-            raise Unreadable("finalizers are about to run")
+        is_finalizing = any(program.creator(it) == FINALIZING and it.reason != AT_REST
+                            for rows in self.rows.values() for it in rows)
+        if is_finalizing or self.memory.word(program.at("finq")):  # (of those that are to run nothing is known)
+            raise Changed("finalizers run all the time")
 
     def parts(self) -> Iterator[Tuple[Union[int, str], List[Sequence[int]]]]:
         """Yields each goroutine by its number, and what else reaches the heap, with the words of it."""
