@@ -22,7 +22,7 @@ ROWS: List[Tuple[str, Iterable[str]]] = [
     (r"sync\.\(\*WaitGroup\)\.(?:Add|Done)", {"done"}),
     (r"sync\.\(\*Cond\)\.(?:Signal|Broadcast)", {"wake"}),
     (r"sync\.\(\*(?:Mutex|RWMutex)\)\.(?:Lock|lockSlow|RLock)|sync\.\(\*WaitGroup\)\.Wait", NONE),
-    (r"time\.(?:Sleep|Now|Since|Until|After|Tick|NewTicker|NewTimer|now|runtimeNano)(?:\.abi0)?", NONE),
+    (r"time\.(?:Sleep|Now|Since|Until|After|Tick|NewTicker|NewTimer|now|runtimeNano|stopTimer)(?:\.abi0)?", NONE),
     (r"time\.(?:Time|Duration|Month|Weekday|\(\*(?:Time|Location)\))\.\w+|time\.\(\*(?:Timer|Ticker)\)\.Stop", NONE),
     (r"runtime\.(?:morestack\w*|newobject|makeslice\w*|makemap\w*|growslice|conv\w+|concatstrings?\w*|mapaccess\w+"
      r"|mapiter\w+|slicebytetostring\w*|stringtoslice\w+|intstring|rawstring\w*|decoderune|countrunes|panic\w+"
@@ -36,7 +36,7 @@ ROWS: List[Tuple[str, Iterable[str]]] = [
 MEANINGS = [(re.compile(pattern), frozenset(kinds)) for pattern, kinds in ROWS]
 PRINTS = re.compile(r"fmt\.(?:Sprint|Sprintf|Sprintln|Print|Printf|Println|Errorf)")
 LOGS = re.compile(r"log\.(?:Print|Printf|Println)")  # of the standard logger
-METHODS = re.compile(r".*\.(?:String|GoString|Format)")  # by which values are printed
+METHODS = re.compile(r".*\.(?:String|GoString|Format|Error)")  # by which values are printed
 STANDARD = re.compile(r"(?:archive|bufio|bytes|compress|container|context|crypto|database|debug|encoding|errors|expvar"
                       r"|flag|fmt|hash|html|image|index|internal|io|log|math|mime|net|os|path|reflect|regexp|runtime"
                       r"|sort|strconv|strings|sync|syscall|testing|text|time|unicode|vendor)[./].*")
