@@ -1,4 +1,4 @@
-// A sweeper whose ticker is stopped, and a reader that goes on: one may set the ticker again, or take what another sends.
+// A sweeper whose ticker is stopped, and one who looks: they may set the ticker again, or take what is sent.
 //
 // GO111MODULE=off go build -trimpath paused.go && GOTRACEBACK=all ./paused CASE 2> text & take-go --kill PID
 package main
