@@ -52,10 +52,11 @@ def spares_all(row: Row) -> bool:
     return "ahead" in row and not freed_by(row["ahead"])
 
 
-def waits_for_its_poll(row: Row) -> bool:
+def waits_for_its_poll(row: Row, is_alone: bool) -> bool:
     """Whether a thread that polls for one thing frees nobody before it is there. It has looked more than once since
-    somebody else began to wait, so that it wasn't there yet."""
-    return bool(row.get("looks") and row.get("looked")) and not freed_by(row["meanwhile"])
+    somebody else began to wait, so that it wasn't there yet. One that is alone in its process wakes no other thread."""
+    is_looking = bool(row.get("looks") and row.get("looked"))
+    return is_looking and not freed_by(row["meanwhile"]) - ({THREADS} if is_alone else set())
 
 
 def unsparing(threads: Iterable[Any], kind: str) -> List[Any]:

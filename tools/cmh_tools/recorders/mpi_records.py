@@ -359,7 +359,7 @@ class RecordsRecorder(Recorder):
             return runs(thread.name, "it only looks and sleeps", [premise(LIMIT), premise(CODE)], **more)
         if thread.kind == 0:
             return outside(thread, more)
-        if thread.kind == POLL and waits_for_its_poll(thread.row) and "entered" in thread.row:
+        if thread.kind == POLL and waits_for_its_poll(thread.row, not thread.rank.others) and "entered" in thread.row:
             return waits_for_poll(thread, moment, more)
         if thread.kind == POLL:
             return polls(thread, moment, more)

@@ -70,9 +70,9 @@ static void watched(void) {
 }
 /* Rank 3 looks until rank 0 tells it something, or in the healthy job sends what rank 0 waits for after some time. */
 static void nap(void) { nanosleep(&(struct timespec){0, 100000000}, NULL); }
-static void guard(void) {
+static void guard(MPI_Comm of) {
     for (int flag;;) {
-        MPI_Iprobe(0, TAG, world, &flag, MPI_STATUS_IGNORE);
+        MPI_Iprobe(0, TAG, of, &flag, MPI_STATUS_IGNORE);
         if (flag)
             break;
         nap();
@@ -95,7 +95,7 @@ static void wait_for_results(void) {
         send(0, LATER);
     receive(0, TAG);
 }
-static void guarded(void) { rank < 3 ? wait_for_results() : is_slow ? guard_for_a_time() : guard(); }
+static void guarded(void) { rank < 3 ? wait_for_results() : is_slow ? guard_for_a_time() : guard(world); }
 /* The same beside a rank that only sleeps, which in the healthy job sends in the end. */
 static void tick(void) {
     for (int ticks = 0; ticks < 6000; ticks++)
@@ -125,7 +125,7 @@ static void beating(void) {
     if (rank < 3)
         wait_for_results();
     pthread_create(&heartbeat, NULL, is_slow ? beat_and_send : beat, NULL);
-    guard();
+    guard(world);
 }
 /* Healthy: rank 0 sends so many short messages to rank 3 that it waits for room, which that one's next look makes. */
 static void look_seldom(void) {
