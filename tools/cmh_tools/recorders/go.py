@@ -22,7 +22,7 @@ from ..sketch import (COMPLETE, LIMIT, RUNS, SYSTEM, UNKNOWN, Process, Sketch, p
                       waits_for_any)
 from . import State
 from .base import Moment, Premise, Recorder
-from .go_frames import NEEDS_ALL, Place, entry_of, is_at_another, is_jobs, is_of_runtime, takes_state
+from .go_frames import NEEDS_ALL, Place, entry_of, is_at_another, is_jobs, is_of_runtime, is_own, takes_state
 from .go_likely import Likely, may_rest
 from .go_reach import CODE, ENDED, TICKS, Record, Wait, read_record, split_record
 from .go_starters import MAIN, UNSEEN, Starters, unseen_starter
@@ -176,8 +176,12 @@ class GoRecorder(Recorder):
             process.may_rest = may_rest(goroutine, place)
         elif is_lone:
             process.proposal = "frees"
-        elif process.kind == RUNS and moment.likely.is_timed(goroutine):
+        elif process.kind == RUNS and (moment.likely.is_timed(goroutine) or self.is_ticker(goroutine, place)):
             process.proposal, process.may_rest = "frees", True
+
+    def is_ticker(self, goroutine: Goroutine, place: Place) -> bool:
+        """Whether a goroutine waits for its next tick in the function that it was started with."""
+        return len([it for it in goroutine.frames if is_own(it)]) == 1 and self.is_timed(goroutine, place)
 
     def values(self, goroutine: Goroutine) -> List[str]:
         """What facts may name of a goroutine, the same in all states."""
