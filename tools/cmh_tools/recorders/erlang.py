@@ -72,10 +72,10 @@ class ErlangRecorder(Recorder):
         RESTARTS: Premise("a supervisor that restarts one child alone doesn't give up, as it does where children fail "
                           "again and again"),
         OWN_CHILD: Premise("a supervisor that starts or stops a child waits for that child alone"),
-        OUTSIDE: Premise("no timer answers a call, no script that sleeps goes on, and a process is ended only by who has "
-                         "a link to it (a registry of Elixir's doesn't fail), by what fails below its supervisor, and "
-                         "by code that ends others or has a supervisor do so, of the modules that somebody runs or that "
-                         "these call"),
+        OUTSIDE: Premise("no timer answers a call, no script that sleeps goes on, and a process is ended only by who "
+                         "has a link to it (a registry of Elixir's doesn't fail), by what fails below its supervisor, "
+                         "and by code that ends others or has a supervisor do so, of the modules that somebody runs or "
+                         "that these call"),
     }
 
     def __init__(self) -> None:

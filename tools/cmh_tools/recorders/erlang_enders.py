@@ -111,8 +111,8 @@ def is_spared(block: Block, above: Dict[Block, Block], below: Dict[Block, List[B
 
 
 def linked_to(block: Block, moment: Nodes) -> List[Block]:
-    """Those that take a process along if they fail: linked to it, no supervisors but one that it has begun itself, and no
-    registry."""
+    """Those that take a process along if they fail: linked to it, no supervisors but one that it has begun itself, and
+    no registry."""
     found = [moment.find((block.node, pid)) for pid in block.linked()]
     return [it for it in found if it is not None and it.start[0] != REGISTRY
             and not (it.is_supervisor() and not {block.pid, block.role}.intersection(it.ancestors()[:1]))]

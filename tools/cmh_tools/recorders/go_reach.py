@@ -123,8 +123,8 @@ class Record:
 
     def enders(self, goroutine: Goroutine, wait: Wait, new: Set[int]) -> Tuple[Set[int], Set[str], Set[str]]:
         """Returns the goroutines that may end a wait, the roots that may, and why some are left out: by their CODE, or
-        as they wait for the end of the program. Those who aren't stuck may have handed it on to `new` ones, that the record
-        doesn't have."""
+        as they wait for the end of the program. Those who aren't stuck may have handed it on to `new` ones, that the
+        record doesn't have."""
         needed = needed_by(goroutine)
         needed |= {f"receive:{it}" for it in wait.types if "receive" in needed}
         spared = {it for it, kinds in self.ahead.items() if needed and not kinds & needed}
