@@ -1,0 +1,75 @@
+"""What an event loop will call that the program has put there, by name, and whether that may cancel a task."""
+from __future__ import annotations
+
+import types
+
+from .ends import CANCELLING, CANCELS, from_step, reached
+from .handles import factory_of, foreign_name, handles_by_kind, protocol_of, readers_of
+from .objects import CALLED, LIBRARIES, functions_of, is_library_module, plain_name, unwrapped
+from .reach import inside_function, spread
+
+TYPE_CHECKING = False
+if TYPE_CHECKING:
+    from typing import Dict, List, Optional
+    from .objects import Thing
+
+
+
+def called_for(handle: Thing) -> List[Thing]:
+    """What a loop calls for a handle, with the class of a protocol, and what the library's own functions have around
+    them."""
+    values = [handle._callback, *(handle._args or ())]
+    kinds = [type(getattr(getattr(each, "__self__", None), "_protocol", None)) for each in values]
+    inner = [part for each in values if type(each) is types.FunctionType for part in inside_function(each)]
+    return spread([*values, *kinds, *inner])
+
+
+def callers_of(loop: Thing) -> Dict[str, bool]:
+    """What a loop will call that the program has put there, by its name, with whether that may cancel a task."""
+    found: Dict[str, bool] = {}
+    for kind, handle in handles_by_kind(loop):
+        name = caller_name(kind, handle)
+        if name is not None:
+            found[name] = found.get(name, False) or may_call_cancel(name, handle)
+    return found
+
+
+def caller_name(kind: str, handle: Thing) -> Optional[str]:
+    """The name of what a loop calls for a timer, a socket or a signal, as 'server Desk.answer', or None for what
+    asyncio has put there."""
+    callback, factory, protocol = handle._callback, factory_of(handle), protocol_of(handle)
+    if factory is not None:
+        return f"server {name_of_factory(factory)}"
+    if kind and (foreign_name(callback, kind == "timer") or kind == "signal"):
+        return f"{kind} {plain_name(callback)}"
+    is_own = protocol is not None and not LIBRARIES.match(type(protocol).__module__)
+    return f"connection {plain_name(type(protocol))}" if kind == "reader" and is_own else None
+
+
+def may_call_cancel(name: str, handle: Thing) -> bool:
+    """Whether the code of what a loop calls may cancel a task. What is no plain function is taken to."""
+    by_kind = {"server": accepted_by(handle), "connection": functions_of([type(protocol_of(handle))])}
+    called = by_kind.get(name.partition(" ")[0], called_for(handle))
+    return type(unwrapped(handle._callback)) not in CALLED or any(reached(CANCELS, [], from_step, called, CANCELLING))
+
+
+def name_of_factory(factory: Thing) -> str:
+    """The name of what a server calls for each new connection: of the function that a stream is for, or of the class of
+    its protocol."""
+    is_nameless = plain_name(factory).endswith("<lambda>") or is_library_module(str(factory.__module__))
+    inner = inside_function(factory) if is_nameless and type(factory) is types.FunctionType else []
+    inner = [each for each in inner if type(each) in CALLED or isinstance(each, type)]
+    return plain_name(inner[0] if inner else factory)
+
+
+def accepted_by(handle: Thing) -> List[Thing]:
+    """What a loop may call for a new connection, if a handle accepts some: functions of what makes its protocol."""
+    factory = factory_of(handle)
+    inner = inside_function(factory) if type(factory) is types.FunctionType else []
+    values = spread([factory, *inner])
+    return functions_of([*values, *map(type, values)]) if factory is not None else []
+
+
+def accepted_in(loop: Thing) -> List[Thing]:
+    """The same of all handles of a loop."""
+    return [each for handle in readers_of(loop) for each in accepted_by(handle)] if hasattr(loop, "_selector") else []

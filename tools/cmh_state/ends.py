@@ -1,0 +1,144 @@
+"""Whether what some frames may still come to names what cancels a task, sets a future, gives back a lock or ends a
+process, and which functions the program has by a name.
+"""
+from __future__ import annotations
+
+import collections
+import sys
+import types
+import weakref
+
+from .bytecode import ATTRIBUTES, all_names, is_in_loop, names_ahead, shared_names
+from .frames import is_own
+from .locks import inside, kept_in, taken_in
+from .objects import (CALLED, PACKAGES, attributes_of, cells_in, coroutines_of, is_foreign, is_library,
+                      is_library_module, wrapped_in)
+from .reach import NEAR, add_owners, called_later, named_by, spread
+
+TYPE_CHECKING = False
+if TYPE_CHECKING:
+    from typing import AbstractSet, Callable, Dict, FrozenSet, Iterable, Iterator, List, Set, Tuple
+    from .objects import Attributes, Frame, Row, Stack, Thing
+    from .reach import Owners
+    Ways = List[Tuple[FrozenSet[str], Tuple[Attributes, ...]]]  # names in code, and where they are looked up
+
+# Names by which a task or a future ends, or by which somebody else may begin the work that a pool keeps.
+CANCELS = {"cancel", "all_tasks", "set_result", "set_exception", "shutdown", "_work_queue", "_threads_queues",
+           "_max_workers"}
+RELEASES = {"release", "_release_save"}
+CANCELLING: Set[str] = set()  # as `find_cancelling` has found them for this state
+FATAL = {"_exit", "abort", "kill", "killpg", "interrupt_main", "pthread_kill", "raise_signal",
+         "execl", "execle", "execlp", "execlpe", "execv", "execve", "execvp", "execvpe"}
+CODES = 50000  # functions that are looked at for names in one state; more count as having them
+LEFT = {"codes": CODES}
+
+
+def inside_thread(frames: Stack) -> Row:
+    return {"taken": inside([(frame, taken_in(frame)) for frame, _ in frames]), "releases": may_release(frames)}
+
+
+def inside_task(coroutine: Thing) -> Row:
+    chain = coroutines_of(coroutine)
+    frames = [getattr(each, "cr_frame", None) for each in chain]
+    rows = [(frame, kept_in(each)) for each, frame in zip(chain, frames) if frame is not None]
+    return {"taken": inside(rows), "releases": may_release([(frame, frame.f_lineno) for frame, _ in rows])}
+
+
+def reached(words: Set[str], frames: Stack, start_of: Callable[[Frame], int], called: Iterable[Thing] = (),
+            methods: AbstractSet[str] = frozenset()) -> Iterator[str]:
+    """Yields those of some names that the code of frames of the program from a step on has, or functions that this
+    names, some steps far, or that will be called. Yields too those of some methods that this code names."""
+    ways: Ways = [(names_ahead(frame.f_code, start_of(frame)), (dict(frame.f_locals), frame.f_globals))
+                  for frame, _ in frames if is_own(frame)]
+    own = [names_ahead(frame.f_code, start_of(frame), ATTRIBUTES) for frame, _ in frames if is_own(frame)]
+    values = [*called, *called_later(frames)]
+    seen: Set[types.FunctionType] = set()
+    owners: Owners = {}
+    for _ in range(NEAR + 1):
+        values += [value for names, places in ways for value in named_by(names, places)]
+        add_owners(owners, values)
+        names = {value.__name__ for value in values if type(value) in CALLED}
+        yield from words.intersection(names.union(*(names for names, _ in ways)))
+        yield from methods & frozenset().union(*own)
+        new = {value for value in values if type(value) is types.FunctionType and is_foreign(value)} - seen
+        seen |= new
+        LEFT["codes"] -= len(new)
+        if LEFT["codes"] < 0:
+            yield from words
+            return
+        ways = [(names_ahead(each.__code__, 0), (cells_in(each), each.__globals__, *objects_of(each, owners)))
+                for each in new]
+        own = [shared_names(each.__code__) for each in new]
+        values = []
+
+
+def objects_of(function: types.FunctionType, owners: Owners) -> Iterable[Attributes]:
+    """The attributes of the objects of which a function is a method."""
+    return owners.get(function.__qualname__.rpartition(".")[0], {}).values()
+
+
+def from_step(frame: Frame) -> int:
+    return frame.f_lasti
+
+
+def from_start(frame: Frame) -> int:
+    """The first step that counts of what a frame may have done or may do: a module's code runs once alone."""
+    return frame.f_lasti if frame.f_code.co_name == "<module>" else 0
+
+
+def may_cancel(frames: Stack, called: Iterable[Thing] = ()) -> bool:
+    """Whether these frames may still come to what ends the wait for a task or a future of others."""
+    return any(reached(CANCELS, frames, from_step, [*called, *spread(finalized())], CANCELLING))
+
+
+def find_cancelling() -> None:
+    """Keeps the names of the functions of the program that may come to what ends a task or a future, by the names in
+    their code: whoever names one as an attribute may have an object of any class."""
+    CANCELLING.clear()
+    codes = {name: [each.__code__ for each in some if type(each) is types.FunctionType]
+             for name, some in functions_by_name().items() if not name.startswith("__")}
+    codes = {name: [code for code in some if not PACKAGES.search(code.co_filename)] for name, some in codes.items()}
+    shared = {name: frozenset().union(*map(shared_names, some)) for name, some in codes.items()}
+    new = {name for name, some in codes.items() if any(not CANCELS.isdisjoint(all_names(code)) for code in some)}
+    while new:
+        CANCELLING.update(new)
+        new = {name for name, some in shared.items() if name not in CANCELLING and not some.isdisjoint(CANCELLING)}
+
+
+def finalized() -> List[Thing]:
+    """What is called once an object goes, which any code may bring about."""
+    found = list(getattr(weakref.finalize, "_registry", {}).values())
+    return [part for each in found for part in (each.func, each.args)]
+
+
+def may_release(frames: Stack) -> bool:
+    """Whether these frames may give back a lock, or have done so."""
+    return any(reached(RELEASES, frames, from_start))
+
+
+def may_end(frames: Stack) -> List[str]:
+    """The calls that end a process, or a wait by a signal, to which these frames may come."""
+    return sorted(set(reached(FATAL, frames, from_start)))
+
+
+def comes_back(frames: Stack) -> bool:
+    """Whether the program's code comes back to where some frames stand."""
+    return any(is_in_loop(frame.f_code, frame.f_lasti) for frame, _ in frames if is_own(frame))
+
+
+def functions_by_name() -> Dict[str, List[Thing]]:
+    """The functions of all modules but the library's and this one, by the names that these and their classes have."""
+    found = collections.defaultdict(list)
+    left = [row for name, module in list(sys.modules.items()) for row in list(attributes_of(module).items())
+            if not is_library_module(name)]
+    kinds = set()
+    while left:
+        name, value = left.pop()
+        for each in (value, *wrapped_in(value)):
+            if type(each) is types.FunctionType:
+                found[name].append(each)
+        if issubclass(type(value), type) and id(value) not in kinds and not is_library(value):
+            kinds.add(id(value))
+            found[value.__name__].append(value)
+            left += list(value.__dict__.items())
+    return found

@@ -1,0 +1,135 @@
+"""The lines of a state of this program, of one moment."""
+from __future__ import annotations
+
+import contextlib
+import json
+import os
+import signal
+import sys
+import threading
+import time
+
+from . import say
+from .ends import CODES, LEFT, find_cancelling
+from .objects import callback_name, guarded, is_a, plain_name
+from .reach import Holders
+from .tasks import forget_numbers, task_places, task_rows
+from .threads import counts_of, foreign_threads, has_foreign_timer, native_of, places, thread_rows
+from .values import maps_of_semaphores, semaphore_of
+
+TYPE_CHECKING = False
+if TYPE_CHECKING:
+    from typing import Dict, List, Optional
+    from .objects import Row
+
+MARK = "cmh-state "
+VERSION = 1
+OTHER_TASKS = ("gevent", "eventlet", "trio", "curio", "twisted.internet")
+LONGEST = 3600  # seconds that a variable may ask for
+
+
+def space() -> str:
+    """The machine and the container in which the numbers of processes and threads are these."""
+    return f"{os.uname().nodename} {os.readlink('/proc/self/ns/pid')}"
+
+
+def children_rows() -> List[Row]:
+    """The processes that multiprocessing has started here, and that it has not seen end."""
+    module = sys.modules.get("multiprocessing.process")
+    children = list(getattr(module, "_children", ()))
+    return [{"child": getattr(child._popen, "pid", None), "name": child.name,
+             "ended": has_ended(getattr(child._popen, "pid", None))} for child in children]
+
+
+def taken_rows() -> List[Row]:
+    """The locks and semaphores of multiprocessing that this process has taken and not given back itself."""
+    module = sys.modules.get("multiprocessing.util")
+    found = [each for each in list(getattr(module, "_afterfork_registry", {}).values())
+             if is_a(each, "multiprocessing.synchronize", "SemLock") and each._semlock._count() > 0]
+    maps = maps_of_semaphores() if found else []
+    return [{"semaphore": semaphore_of(each, maps), "count": each._semlock._count()} for each in found]
+
+
+def queue_rows() -> List[Row]:
+    """The queues of multiprocessing that this process has."""
+    module = sys.modules.get("multiprocessing.util")
+    found = [each for each in list(getattr(module, "_afterfork_registry", {}).values())
+             if is_a(each, "multiprocessing.queues", "Queue")]
+    maps = maps_of_semaphores() if found else []
+    return [{"queue": semaphore_of(each._sem, maps)} for each in found]
+
+
+def has_ended(pid: Optional[int]) -> Optional[bool]:
+    """Whether a child is there only until somebody asks for its status."""
+    try:
+        with open(f"/proc/{pid}/stat") as file:
+            return file.read().rpartition(")")[2].split()[0] in ("Z", "X")
+    except (OSError, IndexError):
+        return None
+
+
+def alarm_row() -> Row:
+    """The seconds to the next alarm of this process with who gets it, the handlers of signals that the program has, and
+    threads that aren't Python's."""
+    others = foreign_threads()
+    return {"alarm": signal.getitimer(signal.ITIMER_REAL)[0], "on_alarm": handler_name(signal.SIGALRM),
+            "handlers": handlers_by_signal(), "foreign_timer": has_foreign_timer(),
+            "others": None if others is None else len(others)}
+
+
+def handlers_by_signal() -> Dict[str, str]:
+    """The names of the program's own functions that signals call, by the names of these. An event loop says by itself
+    what it calls for signals."""
+    found = {number: signal.getsignal(number) for number in signal.valid_signals()}
+    return {getattr(number, "name", f"SIG{int(number)}"): plain_name(handler) for number, handler in found.items()
+            if callable(handler) and handler is not signal.default_int_handler and callback_name(handler)}
+
+
+def handler_name(number: int) -> Optional[str]:
+    """The name of the function that a signal calls, 'default', or None if nothing comes of it."""
+    handler = signal.getsignal(number)
+    if handler in (signal.SIG_IGN, None):
+        return None
+    return getattr(handler, "__qualname__", "function") if handler is not signal.SIG_DFL else "default"
+
+
+def process_name() -> str:
+    module = sys.modules.get("multiprocessing.process")
+    return str(module.current_process().name) if module else "MainProcess"
+
+
+def state(number: int = 0) -> str:
+    """The lines of a state, of this moment, which the signal of this number asked for. It takes two looks, between
+    which it sleeps."""
+    seconds = seconds_of("CMH_STATE_SECONDS", 0.25)
+    began = time.time()
+    forget_numbers()
+    LEFT["codes"] = CODES if guarded(find_cancelling) is None else -1
+    before, tasks_before = places(), guarded(task_places)
+    natives = {each.ident: native_of(each) for each in threading.enumerate()}
+    spent = {ident: counts_of(native) for ident, native in natives.items()}
+    time.sleep(seconds)
+    holders = Holders()
+    threads, loops = thread_rows(before, spent, holders)
+    tasks = guarded(task_rows, loops, {} if "error" in tasks_before else tasks_before, holders)
+    more = [guarded(look) for look in (children_rows, taken_rows, queue_rows)]
+    rows = [*threads, *(tasks if isinstance(tasks, list) else [tasks]),
+            *(row for some in more for row in (some if isinstance(some, list) else [some]))]
+    queues = len(more[-1]) if isinstance(more[-1], list) else None
+    head = {"version": VERSION, "queues": queues, "process": process_name(), "pid": os.getpid(), "parent": os.getppid(),
+            "host": os.uname().nodename, "space": guarded(space), "reader": threading.get_native_id() if number else 0,
+            "python": sys.version.split()[0], "time": time.strftime("%Y-%m-%dT%H:%M:%S"), "seconds": seconds,
+            "began": began, "ended": time.time(), "signal": number, **guarded(alarm_row),
+            "unseen": [name for name in OTHER_TASKS if name in sys.modules]}
+    rows = [{"of": os.getpid(), **row} for row in rows]
+    return "".join(f"{MARK}{json.dumps(row)}\n" for row in [head, *rows, {"end": os.getpid(), "rows": len(rows)}])
+
+
+def seconds_of(name: str, default: float) -> float:
+    """The seconds that a variable of the environment has."""
+    text = os.environ.get(name, "")
+    with contextlib.suppress(ValueError):
+        if not text or 0 <= float(text) <= LONGEST:
+            return float(text or default)
+    say(f"{name} is no number of seconds: {text}")
+    return default
