@@ -1,0 +1,115 @@
+"""Both readings, and the command that prints them."""
+from __future__ import annotations
+
+import argparse
+import json
+import os
+import platform
+import re
+import signal
+import sys
+import time
+import traceback
+from typing import Iterable, List, Sequence, Set
+
+from .debugger import debugger, stacks_of
+from .frames import add_frames
+from .limits import add_ages
+from .proc import Row, try_lines
+from .reading import Reading
+
+
+def collect(pids: Sequence[int], seconds: float = 5.0, stacks: bool = False) -> str:
+    """Returns the state of some processes as a text. Raises LookupError if one isn't there, OSError if /proc isn't."""
+    if platform.machine() not in ("x86_64", "aarch64"):
+        raise OSError(f"the numbers of calls aren't known on {platform.machine()}")
+    if stacks and not debugger():
+        raise LookupError("for --stacks eu-stack or gdb is needed, and neither is there (Debian: apt-get install "
+                          "elfutils)")
+    readings = [Reading()]
+    for pid in pids:
+        if pid not in readings[0].rows:
+            raise LookupError(f"there is no process {pid}")
+    # (Before the others are read, which show who was woken till then.)
+    near = readings[0].rows_of(kept_of(readings, pids, True))
+    add_frames(near)
+    add_ages(near)
+    time.sleep(seconds)
+    readings.append(Reading())
+    kept = kept_of(readings, pids)
+    rows: List[Row] = [{"version": 1, "machine": platform.machine(), "release": platform.release(),
+                        "asked": list(pids), "seconds": seconds, "outside": outside(), "space": space(),
+                        "with_stacks": stacks}]
+    for number, reading in enumerate(readings, 1):
+        rows += reading.text(number, kept)
+    rows += stacks_of(sorted(kept_of(readings, pids, True)), readings[1]) if stacks else []
+    rows.append({"end": "state"})
+    return "".join(f"cmh-linux {json.dumps(row)}\n" for row in rows)
+
+
+def kept_of(readings: List[Reading], pids: Iterable[int], is_near: bool = False) -> Set[int]:
+    """Returns the processes of a state: some, with those below, and whoever may end the waits of these. The near ones
+    are without those that may be strangers to them, which have nothing in common but where they descend from."""
+    kept: Set[int] = set()
+    left = [pid for reading in readings for pid in reading.tree(pids) | (set() if is_near else reading.carriers())]
+    while left:
+        pid = left.pop()
+        if pid > 0 and pid not in kept:
+            kept.add(pid)
+            left += [it for reading in readings for it in reading.around(pid, is_near)]
+    return kept
+
+
+def outside() -> str:
+    """Returns why processes may be there that /proc doesn't show, or nothing."""
+    mounts = [line.split() for line in try_lines("/proc/self/mounts")]
+    hidden = any(words[1:3] == ["/proc", "proc"] and re.search(r"hidepid=(?!0|off)", words[3]) for words in mounts)
+    if hidden and os.geteuid():
+        return "hidepid"
+    return "container" if os.readlink("/proc/self/ns/pid") != "pid:[4026531836]" else ""
+
+
+def space() -> str:
+    """Returns the machine and the container in which the numbers of processes are these."""
+    return f"{platform.node()} {os.readlink('/proc/self/ns/pid')}"
+
+
+def seconds(text: str) -> float:
+    """Returns a time in seconds. Raises ValueError if a text is none, or of more than an hour."""
+    found = float(text)
+    if not 0 <= found <= 3600:
+        raise ValueError
+    return found
+
+
+def add_options(it: argparse.ArgumentParser, is_needed: bool) -> None:
+    """Adds the options of a reading to a command."""
+    it.add_argument("--pid", metavar="PID", nargs="+", type=int, required=is_needed, action="extend",
+                    help="the processes to read, with all their children and theirs")
+    it.add_argument("--seconds", type=seconds, default=5.0, help="the time from the first reading to the second (5)")
+    it.add_argument("--stacks", action="store_true",
+                    help="add lines of source and inlined functions of those at a futex, by eu-stack or gdb, which "
+                         "holds them for a moment")
+
+
+def main() -> int:
+    it = argparse.ArgumentParser(description="Prints what the kernel keeps of the waits of some processes.")
+    add_options(it, True)
+    asked = it.parse_args()
+    signal.signal(signal.SIGTERM, lambda *_: sys.exit(128 + signal.SIGTERM))  # (so that whom it holds goes on)
+    try:
+        sys.stdout.write(collect(asked.pid, asked.seconds, asked.stacks))
+        sys.stdout.flush()
+    except Exception as error:
+        is_ours = type(error) is not LookupError and not isinstance(error, OSError)
+        print(f"cmh_linux: {fault_text(error) if is_ours else error}", file=sys.stderr)
+        sys.stdout = open(os.devnull, "w", encoding="utf-8")  # so that nothing is written again at the end
+        return 4 if is_ours else 1
+    return 0
+
+
+def fault_text(error: Exception) -> str:
+    """Returns what is said of a fault of this program, with its place."""
+    place = traceback.extract_tb(error.__traceback__)[-1]
+    where = f"{os.path.basename(place.filename)}:{place.lineno}"
+    return f"this is a fault of cmh_linux: {type(error).__name__}: {error}, at {where}"

@@ -1,0 +1,71 @@
+"""The limits of calls: how long each is, or when it ends; and for how long a thread has waited."""
+from __future__ import annotations
+
+import contextlib
+import re
+import struct
+import time
+from typing import Iterable, List, Optional, Tuple
+
+from .proc import Memory, Row, int32, try_slurp
+
+IN_MILLISECONDS = {"poll": 2, "epoll_wait": 3, "epoll_pwait": 3}  # calls with their limit's argument, as a number
+AS_TIMES = {"ppoll": 2, "pselect6": 4, "select": 4, "epoll_pwait2": 3, "rt_sigtimedwait": 2, "semtimedop": 3,
+            "io_getevents": 4, "nanosleep": 0, "clock_nanosleep": 2, "futex": 3, "mq_timedsend": 4,
+            "mq_timedreceive": 4}  # and those where a time stands in memory
+QUEUES = ("mq_timedsend", "mq_timedreceive")
+OPERATION, BY_CLOCK = 127, 256  # of a futex: what it does, and that its limit is by the clock
+WAITS, LOCKS = 0, (6, 7)  # of these a limit is how long, or a time of the clock; of others when it ends
+IS_A_TIME = 1  # TIMER_ABSTIME
+RAN_AT = re.compile(r"^se\.exec_start *: *([0-9.]+)", re.M)
+OWN = "/proc/thread-self/sched"
+
+
+def limit_of(call: str, args: List[int], memory: Memory) -> Row:
+    """Returns how long the limit of a call is, in seconds, and in how many it ends; one of the two."""
+    length, ends = limits_of(call, args, memory)
+    return {} if length is None and ends is None else {"limit": [length, ends]}
+
+
+def limits_of(call: str, args: List[int], memory: Memory) -> Tuple[Optional[float], Optional[float]]:
+    if call in IN_MILLISECONDS:
+        number = int32(args[IN_MILLISECONDS[call]])
+        return (number / 1000, None) if number >= 0 else (None, None)
+    place = args[AS_TIMES[call]] if call in AS_TIMES else 0
+    data = memory.read(place, 16) if place else b""
+    if len(data) < 16:
+        return None, None
+    seconds, parts = struct.unpack("=qq", data)
+    value = round(seconds + parts / (1e6 if call == "select" else 1e9), 3)
+    clock = clock_of(call, args)
+    with contextlib.suppress(OSError, OverflowError):
+        return (value, None) if clock is None else (None, round(value - time.clock_gettime(clock), 3))
+    return None, None
+
+
+def clock_of(call: str, args: List[int]) -> Optional[int]:
+    """Returns the clock by which the limit of a call is a time, or None if it is how long it waits."""
+    if call == "clock_nanosleep":
+        return int32(args[0]) if args[1] & IS_A_TIME else None
+    if call in QUEUES:
+        return time.CLOCK_REALTIME
+    if call != "futex" or args[1] & OPERATION == WAITS:
+        return None
+    is_real = args[1] & BY_CLOCK or args[1] & OPERATION in LOCKS
+    return time.CLOCK_REALTIME if is_real else time.CLOCK_MONOTONIC
+
+
+def add_ages(rows: Iterable[Row]) -> None:
+    """Adds to each thread that sleeps for how long it has done so, in seconds, if the kernel says that. Its clock for
+    that lags by what was taken from its processors."""
+    for row in rows:
+        for thread in row.get("threads", ()):
+            ran, now = time_of(f"/proc/{row['pid']}/task/{thread['tid']}/sched"), time_of(OWN)
+            if "counts" in thread and ran is not None and now is not None:
+                thread["waited"] = round(max(0.0, now - ran), 1)
+
+
+def time_of(path: str) -> Optional[float]:
+    """Returns when a thread has last run."""
+    ran = RAN_AT.search(try_slurp(path))
+    return float(ran[1]) / 1000 if ran else None

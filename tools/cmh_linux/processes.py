@@ -1,0 +1,271 @@
+"""The processes of a machine, their threads and what they have open, as its kernel shows them at one time."""
+from __future__ import annotations
+
+import contextlib
+import functools
+import os
+import platform
+import pwd
+import re
+import stat
+from typing import Dict, Iterator, List, Optional, Tuple
+
+from .calls import QUEUES, besides, calls_of, set_of
+from .limits import limit_of
+from .memory import names_of_memory, shared_memory
+from .proc import (KCMP_FILE, KCMP_FILES, Memory, Row, field, kcmp, lines_of, pid_of, slurp, try_lines, try_link,
+                   try_slurp, whole)
+
+KERNEL_THREAD = 0x00200000
+CARRIES, RING = "scm_fds:", "UserFiles:"  # how many files are on their way through a socket, or kept by an io_uring
+SIGNALS = "sigmask:"  # which signals a descriptor of them takes
+NO_KEYS = ("lock:", CARRIES, RING, SIGNALS)  # what of a descriptor doesn't tell its file from others
+
+
+class Machine:
+    """Reads the processes of a machine, as its kernel shows them at one time."""
+
+    def __init__(self) -> None:
+        self.calls = calls_of(platform.machine())
+        self.files: Dict[Tuple[int, int], List[Descriptor]] = {}  # who has which file open
+        self.epolls: List[Descriptor] = []
+        self.steps = 0  # how much was read, by which one that is read shows that it goes on
+
+    def process(self, pid: int) -> Optional[Row]:
+        """Returns a process, or None if it has ended or is a thread of the kernel."""
+        row = self.base(pid)
+        if row is None:
+            return row
+        if row["state"] in "ZX" and len(os.listdir(f"/proc/{pid}/task")) == 1:
+            return {**row, "fds": {}, "threads": [{"tid": pid, "state": row["state"]}]}
+        row["living"] = pid if row["state"] not in "ZX" else living_thread(pid)
+        living = f"/proc/{pid}" if row["living"] == pid else f"/proc/{pid}/task/{row['living']}"
+        memory = Memory(living)
+        try:
+            row["net"], row["exe"] = try_link(f"{living}/ns/net")[5:-1], try_link(f"{living}/exe")
+            row["fds"] = dict(self.descriptors(living))
+            row["timers"] = bool(try_slurp(f"/proc/{pid}/timers"))
+            row["threads"] = list(self.threads(pid, memory))
+            row.update(runtime_of(living, row))
+            row.update(aio_of(living, row))
+            if any(has_own_files(living, it["tid"]) for it in row["threads"] if it["state"] not in "ZX"):
+                row["unreadable"] = "a thread of it has descriptors of its own"
+        except PermissionError:
+            row["unreadable"] = why_unreadable(pid)
+        finally:
+            memory.close()
+        return row
+
+    def base(self, pid: int) -> Optional[Row]:
+        """Returns what everybody may know of a process."""
+        head, _, rest = slurp(f"/proc/{pid}/stat").rpartition(")")
+        words = rest.split()
+        if int(words[6]) & KERNEL_THREAD:
+            return None
+        command = try_slurp(f"/proc/{pid}/cmdline").rstrip("\0").replace("\0", " ")
+        row: Row = {"pid": pid, "ppid": int(words[1]), "group": int(words[2]), "session": int(words[3]),
+                    "start": int(words[19]), "state": words[0], "comm": head.partition("(")[2],
+                    "command": command[:500]}
+        status = slurp(f"/proc/{pid}/status")
+        row.update({name: field(status, name) for name in ("TracerPid", "SigCgt", "SigIgn")})
+        row.update({name: field(status, name) for name in ("NSpid", "NSpgid") if "\t" in field(status, name)})
+        return row
+
+    def itself(self) -> Row:
+        """Returns the collector, which runs. Of its descriptors only those count that it uses: it may have inherited
+        others, which it closes unused."""
+        row = self.base(os.getpid())
+        assert row is not None
+        files = {fd: it for fd, it in self.descriptors("/proc/self") if fd in "012"}
+        return {**row, "fds": files, "threads": [{"tid": os.getpid(), "state": "R"}], "collects": True}
+
+    def descriptors(self, folder: str) -> Iterator[Tuple[str, List[str]]]:
+        """Yields each descriptor: what it is, how it is open, and what more tells its file from others."""
+        for fd in os.listdir(f"{folder}/fd"):
+            self.steps += 1
+            with contextlib.suppress(FileNotFoundError):
+                path = f"{folder}/fd/{fd}"
+                target, mode = os.readlink(path), os.lstat(path).st_mode
+                it = [target, "r" * bool(mode & 0o400) + "w" * bool(mode & 0o200)]
+                if target == "anon_inode:[eventpoll]":
+                    self.epolls.append(Descriptor(folder, int(fd), it))
+                elif target.startswith(("anon_inode:[", "pidfd:[")):
+                    more = lines_of(f"{folder}/fdinfo/{fd}", ("eventfd-id:", "Pid:", "it_value:", RING, SIGNALS))
+                    it += more
+                elif target.startswith("socket:["):
+                    it += [line for line in lines_of(f"{folder}/fdinfo/{fd}", (CARRIES,)) if line != f"{CARRIES} 0"]
+                elif target.startswith("/") and not target.startswith(("/proc/", "/sys/")):
+                    self.add_file(Descriptor(folder, int(fd), it), os.stat(path))
+                yield fd, it
+
+    def add_file(self, it: "Descriptor", status: os.stat_result) -> None:
+        """Notes who has a file open. A FIFO is told by its number."""
+        if stat.S_ISFIFO(status.st_mode):
+            it.words.append(f"fifo {status.st_dev:x}:{status.st_ino}")
+        elif stat.S_ISREG(status.st_mode) or stat.S_ISDIR(status.st_mode):
+            self.files.setdefault((status.st_dev, status.st_ino), []).append(it)
+
+    def add_locks(self, rows: List[Row]) -> None:
+        """Adds the locks of each file at whose lock a thread waits, or that is locked while another process has it open
+        and may poll for that, to all that have it open."""
+        for them in [*self.waited(rows, ("flock", "fcntl"), "file"), *self.locked()]:
+            for descriptor in them:
+                with contextlib.suppress(OSError):
+                    descriptor.words += lines_of(f"{descriptor.folder}/fdinfo/{descriptor.fd}", ("lock:",))
+            name_open_files(them)
+
+    def locked(self) -> Iterator[List["Descriptor"]]:
+        """Yields the descriptors of each file that is locked and that several processes have open, once these are told.
+        """
+        for device, number in locked_files():
+            them = self.files.get((device, number), [])
+            name = f"file {device:x}:{number}"
+            if len({descriptor.pid for descriptor in them}) > 1 and name not in them[0].words:
+                for descriptor in them:
+                    descriptor.words.append(name)
+                yield them
+
+    def add_queues(self, rows: List[Row]) -> None:
+        """Tells the queues of messages at which threads wait from others, for all that have them open."""
+        for _ in self.waited(rows, QUEUES, "queue"):
+            pass
+
+    def waited(self, rows: List[Row], calls: Tuple[str, ...], kind: str) -> Iterator[List["Descriptor"]]:
+        """Yields the descriptors of each file at which a thread waits in one of some calls, once these are told."""
+        waited = {id(row["fds"].get(str(fd))) for row in rows for thread in row.get("threads", ())
+                  if thread.get("call") in calls for fd, _ in thread["set"]}
+        for (device, number), them in self.files.items():
+            if any(id(it.words) in waited for it in them):
+                for it in them:
+                    it.words.append(f"{kind} {device:x}:{number}")
+                yield them
+
+    def add_memory(self, rows: List[Row]) -> None:
+        """Adds of each thread at a futex which memory that is of, and who has this too: it alone may wake the thread.
+        """
+        names = {row["pid"]: {*names_of_memory(row)} for row in rows if "threads" in row}
+        wanted = {name for some in names.values() for name in some}
+        for row in rows if wanted else ():
+            for name in wanted & shared_memory(row.get("living", row["pid"])):
+                row.get("fds", {})[name] = ["memory", "rw", name]
+        for (device, number), them in self.files.items():
+            name = f"memory {os.major(device):02x}:{os.minor(device):02x} {number}"
+            if name in wanted:  # (who has it open may map it)
+                for it in them:
+                    it.words.append(name)
+
+    def threads(self, pid: int, memory: Memory) -> Iterator[Row]:
+        for tid in os.listdir(f"/proc/{pid}/task"):
+            self.steps += 1
+            with contextlib.suppress(FileNotFoundError, ProcessLookupError):
+                yield self.thread(f"/proc/{pid}/task/{tid}", int(tid), memory)
+
+    def thread(self, folder: str, tid: int, memory: Memory) -> Row:
+        """Returns a thread. Its count is read before and after the call that it is to vouch for."""
+        status = slurp(f"{folder}/status")
+        row: Row = {"tid": tid, "state": field(status, "State")[:1]}
+        pending = int(field(status, "SigPnd"), 16) | int(field(status, "ShdPnd"), 16)
+        row["pending"] = bool(pending & ~int(field(status, "SigBlk"), 16)) or field(status, "CoreDumping") == "1"
+        numbers = field(status, "NSpid").split()
+        if numbers[1:]:
+            row["inner"] = int(numbers[-1])  # its number in its own container
+        if folder.split("/")[2] != str(tid):
+            row["comm"] = field(f"\n{status}", "Name")
+        if row["state"] in "ZXR":
+            return row
+        words = slurp(f"{folder}/syscall").split()
+        if words[0] in ("running", "-1"):
+            row["call"] = words[0]
+            return row
+        args = [int(it, 16) for it in words[1:]]
+        row["call"] = call = self.calls.get(int(words[0]), words[0]) if args[6] >> 32 else f"32-bit {words[0]}"
+        row["args"] = [f"{it:#x}" for it in args[:6]]
+        row.update(besides(call, args, memory))
+        row.update(limit_of(call, args, memory))
+        found_set = set_of(call, args, memory)
+        if found_set is not None:
+            row["set"] = found_set
+        row["wchan"] = try_slurp(f"{folder}/wchan")
+        row["counts"] = [int(field(it, "voluntary_ctxt_switches")) for it in (status, slurp(f"{folder}/status"))]
+        return row
+
+
+def locked_files() -> List[Tuple[int, int]]:
+    """Returns the device and the number of each file that is locked."""
+    lines = "\n".join(try_lines("/proc/locks"))
+    rows = re.findall(r"^\d+: (?!->).* ([0-9a-f]+):([0-9a-f]+):(\d+) \S+ \S+$", lines, re.M)
+    return list(dict.fromkeys((os.makedev(int(major, 16), int(minor, 16)), int(number))
+                              for major, minor, number in rows))
+
+
+def why_unreadable(pid: int) -> str:
+    """Returns why a process can't be read."""
+    try:
+        user = os.stat(f"/proc/{pid}").st_uid
+    except OSError:
+        return "it may not be traced"
+    if user == os.geteuid():
+        return "it may not be traced, though it is of the same user" if user else "not even root may trace it"
+    return f"it is of user {name_of_user(user)}" if os.geteuid() else "not even root may trace it"
+
+
+def name_of_user(number: int) -> str:
+    try:
+        return pwd.getpwuid(number).pw_name
+    except KeyError:
+        return str(number)
+
+
+def living_thread(pid: int) -> int:
+    """Returns a thread of a process whose first thread has ended."""
+    tids = [int(it) for it in os.listdir(f"/proc/{pid}/task")]
+    states = {tid: field(try_slurp(f"/proc/{pid}/task/{tid}/status"), "State")[:1] for tid in tids}
+    return next((tid for tid, it in states.items() if it and it not in "ZX"), pid)
+
+
+class Descriptor:
+    """A descriptor of a process. `words` say what it is."""
+
+    def __init__(self, folder: str, fd: int, words: List[str]) -> None:
+        self.folder, self.fd, self.words, self.pid = folder, fd, words, pid_of(folder)
+
+
+def has_own_files(folder: str, tid: int) -> bool:
+    """Whether a thread has other descriptors than its process, if the kernel says so."""
+    return kcmp(pid_of(folder), tid, KCMP_FILES, 0, 0) > 0
+
+
+def compare_open(one: Descriptor, other: Descriptor) -> int:
+    """Returns the order of two descriptors by their open files, 0 if that is the same one."""
+    return {0: 0, 1: -1}.get(kcmp(one.pid, other.pid, KCMP_FILE, one.fd, other.fd), 1)
+
+
+def name_open_files(them: List[Descriptor]) -> None:
+    """Gives all descriptors of one open file the same name: those that a child inherits, but not those of who opened
+    the same file again."""
+    there = [it for it in them if kcmp(it.pid, it.pid, KCMP_FILE, it.fd, it.fd) == 0]
+    first: Optional[Descriptor] = None
+    for it in sorted(there, key=functools.cmp_to_key(compare_open)):
+        first = it if first is None or compare_open(first, it) else first
+        it.words.append(f"open {first.pid}:{first.fd}")
+
+
+def aio_of(folder: str, row: Row) -> Row:
+    """Returns whether requests of a process (io_submit) may make the kernel write to an eventfd that it has."""
+    if not any(it[0] == "anon_inode:[eventfd]" for it in row["fds"].values()):
+        return {}
+    return {"aio": True} if "/[aio]" in whole(f"{folder}/maps") else {}
+
+
+def runtime_of(folder: str, row: Row) -> Row:
+    """Returns the runtime that a process shows by its program, as a Go program does, or a rank of MPI that doesn't
+    sleep by its libraries."""
+    if any(it["state"] == "R" or it.get("call") == "running" or "poll" in it.get("call", "") for it in row["threads"]):
+        if re.search(r"/libmpi\w*\.so", whole(f"{folder}/maps")):
+            return {"runtime": "mpi"}
+    if len(row["threads"]) == 1 or not any(it.get("call") == "futex" for it in row["threads"]):
+        return {}
+    with contextlib.suppress(OSError):
+        with open(f"{folder}/exe", "rb") as file:
+            return {"runtime": "go"} if b"\0Go\0\0" in file.read(8192) else {}
+    return {}

@@ -1,0 +1,123 @@
+"""The programs and libraries in the memory of processes: where each begins, its tables for stacks, and its names."""
+from __future__ import annotations
+
+import bisect
+import contextlib
+import re
+import struct
+from typing import Dict, List, NamedTuple, Optional, Tuple
+
+from .proc import Memory, Row, whole
+from .symbols import EH_FRAME, Head, Read, Symbols, symbols_of
+from .tables import Rule, Tables
+from .words import Unclear
+
+MAPPED_CODE = re.compile(r"^([0-9a-f]+)-([0-9a-f]+) ..(.). ([0-9a-f]+) (\S+ \d+) *(/.*)$", re.M)
+DELETED = " (deleted)"
+
+
+class Program:
+    """A program or a library, which several processes may have. All places count from where it begins in memory.
+    `files` has where its file may be."""
+
+    def __init__(self, path: str, files: List[str], read: Read) -> None:
+        self.path, self.files = path, files
+        self.head = Head(read)
+        self.build_id = self.head.build_id(read)
+        self.names: Dict[int, str] = {}
+        self.symbols: Optional[Symbols] = None
+        heads = self.head.places_of(EH_FRAME)
+        self.tables = Tables.at_head(read, heads[0][0]) if heads else \
+            Tables.in_section(read, *self.find_symbols().tables)
+
+    def rule(self, read: Read, place: int) -> Rule:
+        return self.tables.rule(read, place)
+
+    def name_at(self, place: int) -> str:
+        """Returns the name of the function at a place, or nothing."""
+        if place not in self.names:
+            self.names[place] = self.find_symbols().name_at(place + self.head.begin)
+        return self.names[place]
+
+    def find_symbols(self) -> Symbols:
+        """Returns what its file says, or nothing where that is gone, or replaced, or can't be read."""
+        for path in self.files if self.symbols is None else ():
+            with contextlib.suppress(OSError, Unclear, ValueError, struct.error, IndexError):
+                self.symbols = symbols_of(path, self.head.text)
+                break
+        self.symbols = self.symbols or Symbols(lambda place, size: b"", self.head)
+        return self.symbols
+
+
+class Region(NamedTuple):
+    """A piece of memory with code or data of a program that begins at `base`."""
+
+    first: int
+    last: int
+    base: int
+    key: str
+    path: str
+    has_code: bool
+
+
+class Image:
+    """The memory of a process, with the programs and libraries in it. `programs` has those of all processes."""
+
+    def __init__(self, row: Row, programs: Dict[str, Optional[Program]]) -> None:
+        self.row, self.programs = row, programs
+        self.memory = Memory(f"/proc/{row['living']}")
+        self.regions: List[Region] = []
+        bases: Dict[str, int] = {}
+        for first, last, code, offset, number, path in MAPPED_CODE.findall(whole(f"{self.memory.folder}/maps")):
+            key = f"{number} {path}"
+            begin = int(first, 16)
+            if not int(offset, 16):
+                bases[key] = begin
+            if key in bases:
+                self.regions.append(Region(begin, int(last, 16), bases[key], key, path, code == "x"))
+        self.starts = [region.first for region in self.regions]
+
+    def region_at(self, address: int) -> Optional[Region]:
+        """Returns the piece of memory of a program at an address, or None."""
+        number = bisect.bisect_right(self.starts, address) - 1
+        region = self.regions[number] if number >= 0 else None
+        return region if region is not None and address < region.last else None
+
+    def program_at(self, address: int) -> Tuple[Optional[Program], int]:
+        """Returns the program whose code is at an address, and where it begins."""
+        region = self.region_at(address)
+        if region is None or not region.has_code:
+            return None, 0
+        if region.key not in self.programs:
+            self.programs[region.key] = self.read_program(region)
+        return self.programs[region.key], region.base
+
+    def object_at(self, address: int) -> Row:
+        """Returns the name of the object of a program at an address, and how far behind its beginning that is. Memory
+        that a program has to begin with has none of its file."""
+        number = bisect.bisect_right(self.starts, address) - 1
+        region = self.regions[number] if number >= 0 else None
+        program = self.programs.get(region.key) if region is not None else None
+        if region is None or program is None or address >= region.base + program.head.length:
+            return {}
+        name, offset = program.find_symbols().object_at(address - region.base + program.head.begin)
+        return {"object": [name, offset]} if name else {}
+
+    def read_program(self, region: Region) -> Optional[Program]:
+        """Returns what memory shows of a program, or None if it isn't as others are."""
+        folder, path = self.memory.folder, region.path
+        is_main = path == self.row.get("exe")
+        files = [f"{folder}/exe"] if is_main else [] if path.endswith(DELETED) else [f"{folder}/root{path}"]
+        first = next(other for other in self.regions if other.base == region.base)
+        files.append(f"{folder}/map_files/{first.first:x}-{first.last:x}")
+        try:
+            return Program(path, files, self.reader(region.base))
+        except (Unclear, struct.error, IndexError):
+            return None
+
+    def reader(self, base: int) -> Read:
+        """Returns what reads memory by places behind the beginning of a program."""
+        return lambda place, size: self.memory.read(base + place, size)
+
+    def word(self, address: int) -> int:
+        return int.from_bytes(self.memory.read(address, 8), "little")

@@ -1,0 +1,187 @@
+"""A reading: all processes of the machine, as they were read one after the other, and who is around whom."""
+from __future__ import annotations
+
+import os
+import sys
+import time
+from typing import Dict, Iterable, Iterator, List, Sequence, Set
+
+from .calls import EPOLLS, SLEEPS
+from .memory import PRIVATE, add_kin
+from .proc import Row, int32
+from .processes import CARRIES, NO_KEYS, RING, Machine, name_open_files
+from .readers import read_all
+from .sockets import Sockets
+
+NO_KEY = 0  # what has no key in System V
+TID = 0x3FFFFFFF  # the bits of an owner in the word of a futex
+
+
+class Reading:
+    """All processes of the machine, as they were read one after the other."""
+
+    def __init__(self) -> None:
+        self.began, start = time.time(), time.monotonic()
+        pids = [int(it) for it in os.listdir("/proc") if it.isdigit() and int(it) != os.getpid()]
+        machine = Machine()
+        rows = [*read_all(machine, pids), machine.itself()]
+        machine.add_locks(rows)
+        machine.add_queues(rows)
+        machine.add_memory(rows)
+        add_kin(rows)
+        name_open_files(machine.epolls)
+        self.rows = {row["pid"]: row for row in rows}
+        self.sockets = Sockets(rows)
+        self.seconds = time.monotonic() - start
+        self.holders: Dict[str, Set[int]] = {}
+        self.children: Dict[int, Set[int]] = {}
+        self.threads: Dict[int, Set[int]] = {}  # the processes of a thread, by its number as it sees itself
+        for row in rows:
+            for it in row.get("threads", ()):
+                self.threads.setdefault(it.get("inner", it["tid"]), set()).add(row["pid"])
+            for key in keys_of(row):
+                self.holders.setdefault(key, set()).add(row["pid"])
+            for parent in (row["ppid"], int(row.get("TracerPid", "0"))):
+                self.children.setdefault(parent, set()).add(row["pid"])
+
+    def tree(self, pids: Iterable[int]) -> Set[int]:
+        """Returns some processes, with all their children and theirs."""
+        found: Set[int] = set()
+        left = list(pids)
+        while left:
+            pid = left.pop()
+            if pid not in found:
+                found.add(pid)
+                left += self.children.get(pid, ())
+        return found
+
+    def rows_of(self, pids: Iterable[int]) -> List[Row]:
+        return [self.rows[pid] for pid in pids if pid in self.rows]
+
+    def top(self, row: Row) -> int:
+        """Returns the highest process above one whose session or program is that of the one below it."""
+        while True:
+            above = self.rows.get(row["ppid"], {})
+            if not any(row.get(name, "") == above.get(name) for name in ("session", "exe")):
+                return int(row["pid"])
+            row = above
+
+    def later_branches(self, pid: int) -> Set[int]:
+        """Returns the children of those above a process that began after it: one may be an orphan of those below it."""
+        start, found = self.rows[pid]["start"], set()
+        while pid in self.rows:
+            pid = self.rows[pid]["ppid"]
+            found |= {it for it in self.children.get(pid, ()) if self.rows[it].get("start", start) >= start}
+        return found
+
+    def carriers(self) -> Set[int]:
+        """Returns the processes that may have a file which no descriptor shows: on its way, or used by an io_uring."""
+        return {row["pid"] for row in self.rows.values() if any(map(may_carry, row.get("fds", {}).values()))}
+
+    def around(self, pid: int, is_near: bool = False) -> Set[int]:
+        """Returns the processes that may end a wait of one: that have another end of it, or are its children, and those
+        that may use what has no key, unless only the near ones are asked for."""
+        row = self.rows.get(pid)
+        if row is None:
+            return set()
+        found = self.children.get(pid, set()) | {int(row.get("TracerPid", "0")), *row.get("kin", ())}
+        for thread in row.get("threads", ()):
+            found = found | self.threads.get(owner_of(thread), set())
+            if thread.get("key") == NO_KEY and not is_near:
+                tops = {self.top(it) for it in [row, *self.rows_of(thread["users"])]}
+                found = found | self.tree(tops.union(*map(self.later_branches, tops)))
+            keys = self.keys_of_wait(row, thread) if thread.get("call") not in SLEEPS else keys_of_locks(row)
+            for key in keys:
+                found = found | self.holders.get(key, set())
+        return found
+
+    def keys_of_wait(self, row: Row, thread: Row) -> Iterator[str]:
+        """Yields what tells the ends of the files that a thread waits at."""
+        for fd, *_ in thread.get("set", ()):
+            it = row["fds"].get(str(fd))
+            if it is None:
+                continue
+            number = inode_of(it[0])
+            if number:
+                yield from (f"socket:[{peer}]" for peer in self.sockets.rows.get(number, {}).get("peers", ()))
+            yield from keys_of_file(it)
+        if thread.get("call") in EPOLLS:
+            yield from keys_of_file(row["fds"].get(str(int32(int(thread["args"][0], 16))), ()))
+        if thread.get("memory"):
+            yield thread["memory"]
+        if thread.get("call") == "connect":
+            for inode in self.sockets.names.get((row["net"], thread.get("path", "")), ()):
+                yield f"socket:[{inode}]"
+
+    def parents(self, pids: Set[int]) -> Dict[int, List[int]]:
+        """Returns the parent of each process above some, and when it began."""
+        found: Dict[int, List[int]] = {}
+        left = [self.rows[pid]["ppid"] for pid in pids]
+        while left:
+            pid = left.pop()
+            row = self.rows.get(pid, {})
+            if "start" in row and pid not in pids and pid not in found:
+                found[pid] = [row["ppid"], row["start"]]
+                left.append(row["ppid"])
+        return found
+
+    def text(self, number: int, kept: Set[int]) -> Iterator[Row]:
+        """Yields the rows of the state for some processes."""
+        rows = [self.rows[pid] for pid in sorted(kept) if pid in self.rows]
+        missing = [row for pid, row in sorted(self.rows.items()) if pid not in kept and "unreadable" in row]
+        numbers = {inode_of(it[0]) for row in rows for it in row.get("fds", {}).values()} - {0}
+        yield {"reading": number, "began": self.began, "seconds": round(self.seconds, 2),
+               "warnings": self.sockets.warnings}
+        yield from ({**row, "command": "", "apart": True} for row in missing)
+        for row in rows:
+            wanted = {fd for thread in row.get("threads", ()) for fd, *_ in thread.get("set", ())}
+            files = {fd: it for fd, it in row.get("fds", {}).items() if is_shared(it) or int(fd) in wanted}
+            yield {**row, "fds": files} if "fds" in row else row
+        for inode in sorted(numbers & self.sockets.rows.keys()):
+            yield {"socket": inode, **self.sockets.rows[inode]}
+        listening = {f"{net} {path}": them for (net, path), them in self.sockets.names.items() if numbers & {*them}}
+        yield {"listening": listening}
+        yield {"parents": self.parents({row["pid"] for row in (*rows, *missing)})}
+        yield {"end": number, "processes": len(rows) + len(missing)}
+
+
+def keys_of(row: Row) -> Iterator[str]:
+    """Yields what tells the files of a process from others."""
+    for it in row.get("fds", {}).values():
+        yield from keys_of_file(it)
+
+
+def keys_of_locks(row: Row) -> Iterator[str]:
+    """Yields what tells the files of a process that somebody has locked, for which it may poll."""
+    return (key for key in keys_of(row) if key.startswith("file "))
+
+
+def keys_of_file(it: Sequence[str]) -> Iterator[str]:
+    yield from (more for more in it[2:] if not more.startswith(NO_KEYS))
+    if it and it[0].startswith(("pipe:[", "socket:[")):
+        yield it[0]
+
+
+def owner_of(thread: Row) -> int:
+    """Returns the number of the thread that has the mutex of several processes at which a thread waits, or 0."""
+    words = bytes.fromhex(thread.get("words", ""))
+    if thread.get("call") != "futex" or int(thread["args"][1], 16) & PRIVATE or len(words) < 12:
+        return 0
+    word, owner = (int.from_bytes(words[at:at + 4], sys.byteorder) for at in (0, 8))
+    return owner if word == 2 else word & TID if word >> 31 else 0
+
+
+def may_carry(it: Sequence[str]) -> bool:
+    """Whether a descriptor may have or use files that none shows."""
+    if "io_uring" in it[0]:  # (an older kernel doesn't say how many files it keeps)
+        return f"{RING} 0" not in it[2:]
+    return any(more.startswith(CARRIES) for more in it[2:])
+
+
+def is_shared(it: Sequence[str]) -> bool:
+    """Whether a descriptor may be an end of somebody's wait."""
+    return it[0].startswith(("pipe:[", "socket:[", "anon_inode:[")) or len(it) > 2
+
+
+def inode_of(target: str) -> int:
+    return int(target[8:-1]) if target.startswith("socket:[") else 0
