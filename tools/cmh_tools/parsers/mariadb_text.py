@@ -1,0 +1,132 @@
+"""The state that take-mariadb prints: lines of JSON, of two looks at a MariaDB or MySQL server. A look that isn't whole
+is refused: its last line counts the others."""
+from __future__ import annotations
+
+import json
+import re
+from dataclasses import dataclass, field
+from functools import cached_property
+from typing import Any, Dict, List, Optional, Tuple
+
+from ..files import Refusal, shown
+from .base import misfits
+
+Row = Dict[str, Any]
+MARK = "cmh-mariadb "
+EXPECTED = "lines of take-mariadb are expected"
+NONE = type(None)
+TEXT, WHOLE = (str, NONE), (int, NONE)
+NUMBER = (int, float, NONE)
+KEY = (int, str)  # of a transaction: MySQL's are larger than some take as a number
+SHAPES: Dict[str, Row] = {
+    "look": {"look": str, "version": str, "metadata_locks": int, "detects": int},
+    "limits": {"limits": str, "idle_transaction_timeout?": NUMBER, "max_statement_time?": NUMBER,
+               "innodb_lock_wait_timeout": int, "lock_wait_timeout": int, "wait_timeout": int},
+    "thread": {"thread": int, "user": TEXT, "host": TEXT, "db": TEXT, "command": str, "time": WHOLE, "state": TEXT,
+               "info": TEXT, "user_lock": WHOLE, "query_id": WHOLE, "tid": WHOLE},
+    "transaction": {"transaction": KEY, "of": int, "state": str, "started": str, "wait_started": TEXT, "age": WHOLE,
+                    "waited": WHOLE, "lock": TEXT},
+    "wait": {"wait": KEY, "for": KEY, "lock": str, "theirs": str},
+    "held": {"held": str, "table": TEXT, "index": TEXT, "data": TEXT},
+    "metadata": {"metadata": int, "mode": str, "type": str, "schema": TEXT, "name": TEXT},
+    "end": {"end": int, "process": int, "machine": str, "taken": [float, float]}}
+
+
+@dataclass(eq=False)
+class Look:
+    """One look at a server: its rows by their kinds, and where its text was read."""
+
+    path: str
+    rows: Dict[str, List[Row]] = field(default_factory=dict)
+
+    def of(self, kind: str) -> List[Row]:
+        return self.rows.get(kind, [])
+
+    @property
+    def head(self) -> Row:
+        return self.rows["look"][0]
+
+    @property
+    def limits(self) -> Row:
+        return self.rows["limits"][0]
+
+    @property
+    def end(self) -> Row:
+        return self.rows["end"][0]
+
+    @property
+    def taken(self) -> Tuple[float, float]:
+        return self.end["taken"][0], self.end["taken"][1]
+
+    @cached_property
+    def transactions(self) -> Dict[int, Row]:
+        """The transaction of each connection, by its number."""
+        return {row["of"]: row for row in self.of("transaction")}
+
+    @cached_property
+    def connections(self) -> Dict[Any, int]:
+        """The connection of each transaction."""
+        return {row["transaction"]: row["of"] for row in self.of("transaction")}
+
+    def waits_of(self, transaction: Any) -> List[Row]:
+        return [row for row in self.of("wait") if row["wait"] == transaction]
+
+    def told(self, lock: Optional[str]) -> str:
+        """Returns a lock of a row in words, with the key of the row in that index."""
+        row = next((row for row in self.of("held") if row["held"] == lock), None)
+        if row is None:
+            return "a row"
+        table = str(row["table"]).replace("`", "").rpartition(".")[2]
+        index = f" by {row['index']}" if row["index"] not in ("PRIMARY", None) else ""
+        return f"row {table}({row['data']}){index}" if row["data"] else f"table {table}"
+
+
+def looks_of(text: str, path: str) -> List[Look]:
+    """Returns the looks of a state. Raises Refusal if it is none, or isn't whole."""
+    looks: List[Look] = []
+    for number, line in enumerate(text.replace("\r\n", "\n").split("\n"), 1):
+        if not line.strip():
+            continue
+        kind, row = row_of(line, f"{shown(path)}:{number}")
+        if kind == "look":
+            looks.append(Look(path))
+        if not looks or "end" in looks[-1].rows:
+            raise Refusal(f"{shown(path)}:{number}: {EXPECTED}, and a look begins with its time")
+        looks[-1].rows.setdefault(kind, []).append(row)
+    if not looks:
+        raise Refusal(f"{shown(path)}:1: {EXPECTED}")
+    for look in looks:
+        check(look)
+    return looks
+
+
+def row_of(line: str, where: str) -> Tuple[str, Row]:
+    """Returns the kind of a line and its row. What isn't as it should be in the row of a connection is kept, as 'odd'.
+    """
+    try:
+        row = json.loads(line[len(MARK):]) if line.startswith(MARK) else None
+    except (ValueError, RecursionError):
+        row = None
+    kind = next((kind for kind in SHAPES if kind in row), "") if isinstance(row, dict) else ""
+    if not kind:
+        raise Refusal(f"{where}: {EXPECTED}, and this line isn't one, or is cut off")
+    odd = next(misfits(row, SHAPES[kind]), "")
+    if odd and (kind != "thread" or odd == ".thread"):
+        raise Refusal(f"{where}: {EXPECTED}, and in this line {shown(odd[1:])} isn't as these have it")
+    return kind, {**row, "odd": odd[1:]} if odd else row
+
+
+def check(look: Look) -> None:
+    """Raises Refusal if a look isn't whole, or has a row twice."""
+    is_whole = len(look.of("end")) == len(look.of("limits")) == 1
+    if not is_whole or look.end["end"] != sum(map(len, look.rows.values())) - 1:
+        raise Refusal(f"{shown(look.path)}: a look isn't whole: its count of rows doesn't fit")
+    for kind, key in (("thread", "thread"), ("transaction", "of"), ("held", "held")):
+        names = [row[key] for row in look.of(kind)]
+        if len(set(names)) != len(names):
+            raise Refusal(f"{shown(look.path)}: a row of {kind} stands twice in a look")
+
+
+def words_in(text: str) -> List[str]:
+    """Returns the words of a statement, as names of tables may be."""
+    return re.findall(r"[\w$]+", text.lower())

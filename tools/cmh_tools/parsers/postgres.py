@@ -1,0 +1,344 @@
+"""The parser for PostgreSQL: what take-postgres prints of a server, two looks in one text.
+
+A backend is a process here, called APPLICATION@DATABASE PID, and so is a prepared transaction. The server keeps by whom
+a lock is blocked: by holders, and by those who wait for it too and come first. All of these have to let it go. One
+that is idle in a transaction waits for its client. The server's own detector of deadlocks looks once into each wait,
+after deadlock_timeout, so one that is yet to come may end a wait, and so may the limits in force.
+
+Two looks show one wait where its query, its transaction and its last change of state began at the same time. Views are
+read one after the other in a look, so one alone decides nothing.
+"""
+from __future__ import annotations
+
+from typing import Any, Dict, Iterable, List, Optional, Set, Tuple
+
+from ..model import COMES, Part, Sign, all_of, any_of, unseen, wakers
+from ..sketch import LIMIT, SYSTEM, Process, Sketch, blocked, garbled, goes_on, premise, rests, unknown
+from ..snapshots import APART, Reading
+from . import State
+from .base import Parser, Snapshot, one_line
+from .postgres_text import Look, Row, looks_of, seconds_of
+from .sessions import SLACK, Limits, connections_of, end_of_socket, with_limits, words_for
+
+DETECTOR = "deadlock detector"
+LIMITS, DISK = "session-limits", "disk"  # assumptions
+CLIENT = "client backend"
+IDLE, IN_TRANSACTION, ACTIVE = "idle", ("idle in transaction", "idle in transaction (aborted)"), \
+    ("active", "fastpath function call")
+HIDDEN = "this role may not see what it does: grant pg_monitor to it"
+# Wait events of type IPC at which a leader waits for its workers, and a worker for its leader.
+FOR_WORKERS = ("ExecuteGather", "MessageQueueReceive", "ParallelFinish", "HashBuildHashInner", "BgWorkerShutdown",
+               "ParallelCreateIndexScan", "ParallelBitmapScan")
+FOR_LEADER = ("MessageQueueSend", "MessageQueueInternal")
+STANDBY = "SyncRep"
+WRAPAROUND = "(to prevent wraparound)"
+WORKER, AUTOVACUUM = "parallel worker", "autovacuum worker"
+TOLD = {"relation": "relation {name}", "tuple": "row ({page},{tuple}) of {name}", "transactionid":
+        "transaction {transactionid}", "virtualxid": "virtual transaction {virtualxid}", "extend":
+        "extension of {name}", "page": "page {page} of {name}", "advisory": "advisory lock {classid}, {objid}"}
+
+
+class Server(Snapshot):
+    """A look: the names of its backends by their numbers, its rows, and who has what others wait for."""
+
+    look: Look
+    names: Dict[int, str]
+    rows_by_pid: Dict[int, Row]
+    wanted: Set[int]
+
+
+class PostgresParser(Parser):
+    NAME, IDLE, MOMENT = "postgres", "sessions", APART
+    SNAPSHOT_CLASS = Server
+
+    def __init__(self) -> None:
+        self.limits = Limits()
+        self.lasted: Dict[Tuple[int, str], float] = {}  # by backends and counts, how long a wait has lasted at least
+        self.last = 0.0  # the time of the last look
+
+    def read(self, state: State) -> List[Reading]:
+        return [Reading(look.path, "server", [look], machine=look.machine, time=look.taken)
+                for look in looks_of(state.text, state.path)]
+
+    def begin(self, readings: List[Reading]) -> None:
+        """Sees how long each wait has lasted in the last look that shows it."""
+        first: Dict[Tuple[int, str], float] = {}
+        self.last = max(reading.rows[0].time for reading in readings)
+        for look in (reading.rows[0] for reading in readings):
+            for row in look.of("backend"):
+                if "odd" not in row and row["blocked_by"]:
+                    key = row["backend"], count_of(row)
+                    start = (look.waited_for.get(row["backend"]) or {}).get("waitstart")
+                    begun = seconds_of(start) if start else first.setdefault(key, look.time)
+                    self.lasted[key] = max(self.lasted.get(key, 0.0), look.time - begun)
+
+    def prepare(self, snapshot: Server) -> None:
+        snapshot.look = snapshot.readings[0].rows[0]
+        snapshot.rows_by_pid = {row["backend"]: row for row in snapshot.look.of("backend")}
+        snapshot.names = {pid: name_of(row) for pid, row in snapshot.rows_by_pid.items()}
+        snapshot.wanted = {pid for row in snapshot.look.of("backend") if "odd" not in row
+                           for pid in row["blocked_by"] or ()}
+
+    def processes(self, snapshot: Server) -> Iterable[Tuple[str, Row]]:
+        return [*(("backend", row) for row in snapshot.look.of("backend")
+                  if row["backend"] in snapshot.wanted or not is_of_server(row)),
+                *(("prepared", row) for row in snapshot.look.of("prepared"))]
+
+    def process_of(self, subject: Tuple[str, Row], snapshot: Server) -> Process:
+        kind, row = subject
+        if kind == "prepared":
+            return prepared_one(row, snapshot.look)
+        name = snapshot.names[row["backend"]]
+        if "odd" in row:
+            return garbled(name, f"its row has no {row['odd']} as these have it")
+        more = self.more_of(row, snapshot)
+        lock = snapshot.look.waited_for.get(row["backend"])
+        if row["blocked_by"] or lock is not None:
+            return self.waiter(name, row, lock, snapshot, more)
+        process = self.at_event(name, row, snapshot, more)
+        return process if process is not None else self.by_state(name, row, snapshot, more)
+
+    def more_of(self, row: Row, snapshot: Server) -> Dict[str, Any]:
+        """Returns what is told of a backend beside its wait."""
+        event = ":".join(filter(None, [row["wait_event_type"], row["wait_event"]]))
+        starts = [str(row[key]) for key in ("query_start", "xact_start", "state_change")]
+        pid = row["backend"]
+        return {"site": f"backend {pid}", "thread": f"{pid}/{pid}" if snapshot.look.machine else "",
+                "remedy": f"select pg_terminate_backend({pid})" if row["backend_type"] == CLIENT else "",
+                "frames": [row["application_name"] or row["backend_type"] or "backend"], "operation": event,
+                "objects": [*self.lock_of(row, snapshot), *starts], "count": count_of(row),
+                "note": note_of(row, snapshot.look)}
+
+    def lock_of(self, row: Row, snapshot: Server) -> List[str]:
+        lock = snapshot.look.waited_for.get(row["backend"])
+        return [told(lock, row["backend"], snapshot.look)] if lock else []
+
+    # Waits for a lock
+
+    def waiter(self, name: str, row: Row, lock: Optional[Row], snapshot: Server, more: Dict[str, Any]) -> Process:
+        """One that waits for a lock, for all by whom it is blocked."""
+        blockers = list(dict.fromkeys(row["blocked_by"] or []))
+        if not blockers or lock is None:
+            return unknown(name, "its lock came while it was read, or isn't shown", **more)
+        what = told(lock, row["backend"], snapshot.look)
+        more["operation"] = f"Lock:{lock['lock']}"
+        start, age = lock.get("waitstart"), self.lasted.get((row["backend"], count_of(row)), 0.0)
+        lasted = since(start, snapshot.look) or f" for {words_for(age)} or longer"
+        more["note"] = f"{what}{lasted}: {query_of(row)}"
+        parts = [self.part_of(pid, lock, snapshot) for pid in blockers if pid]
+        parts += prepared_parts(lock, snapshot.look, row["blocked_by"].count(0)) if 0 in blockers else []
+        return blocked(name, with_limits(parts, self.limits_of(row, lock, blockers, snapshot)),
+                       [SYSTEM, premise(LIMITS)], **more)
+
+    def part_of(self, pid: int, lock: Row, snapshot: Server) -> Part:
+        """Returns the part of a wait for a lock that one of its blockers has to end."""
+        if pid not in snapshot.names:
+            return (unseen("unshown", f"backend {pid}, which blocks it, isn't in the look"),)
+        theirs = snapshot.look.waited_for.get(pid)
+        is_before = theirs is not None and key_of(theirs) == key_of(lock)
+        return (wakers("ahead" if is_before else "owns", [snapshot.names[pid]]),)
+
+    def limits_of(self, row: Row, lock: Row, blockers: List[int], snapshot: Server) -> Part:
+        """Returns what may break off a wait for a lock: the detector where it hasn't looked yet, and limits."""
+        look = snapshot.look
+        part: Part = ()
+        timeout, age = look.limit("deadlock_timeout", row), self.lasted.get((row["backend"], count_of(row)), 0.0)
+        if timeout is None:
+            part += (unseen("unshown", "deadlock_timeout isn't shown"),)
+        elif age < timeout:
+            name = self.limits.name(DETECTOR, row["backend"], timeout - age)
+            is_at_worker = any(is_cancelled(snapshot.rows_by_pid.get(pid)) for pid in blockers)
+            part += tuple(wakers(how, [name], premise(LIMIT)) for how in ("breaks", "cancels")[:1 + is_at_worker])
+        starts = {"lock_timeout": lock.get("waitstart"), "statement_timeout": row["query_start"],
+                  "transaction_timeout": row["xact_start"]}
+        part += self.timeouts(row, look, starts)
+        return part + ((unseen("unshown", "the server is a standby, which may cancel it"),)
+                       if look.head["standby"] else ())
+
+    def timeouts(self, row: Row, look: Look, starts: Dict[str, Optional[str]]) -> Part:
+        """Returns the limits in force that may break off what a backend does. One that is over by now isn't in force:
+        the session has set another one, which no view shows."""
+        part: Part = ()
+        names: List[str] = []
+        for setting, start in starts.items():
+            limit, fault = look.limit(setting, row), ""
+            left = limit - (self.last - seconds_of(start)) if limit and start else 0.0
+            if limit is None:
+                fault = f"{setting} isn't known of its session" if look.has_setting(setting) else ""
+            elif limit and (start is None or left <= -SLACK):
+                fault = f"{setting} was over before, or isn't that of its session"
+            elif limit:
+                names.append(self.limits.name(f"{setting} of backend {row['backend']}", row["backend"], left))
+            part += (unseen("unshown", fault),) if fault else ()
+        return ((wakers("expires", names, premise(LIMIT)),) if names else ()) + part
+
+    # Other waits
+
+    def at_event(self, name: str, row: Row, snapshot: Server, more: Dict[str, Any]) -> Optional[Process]:
+        """Returns one by what it waits at, if that says what ends it."""
+        kind, event = row["wait_event_type"], row["wait_event"]
+        if kind == "Timeout":
+            return goes_on(name, "sleeps", [premise(LIMIT)], Sign.SLEEPS, **{**more, "operation": f"timed {event}"})
+        if kind == "IO":
+            return goes_on(name, "reads or writes files", [premise(DISK)], Sign.SLEEPS, **more)
+        if kind == "Activity":
+            return rests(name, "waits for work", any_of(unseen("outside")), [SYSTEM], **more)
+        if kind == "IPC" and event == STANDBY:
+            senders = [snapshot.names[other["backend"]] for other in snapshot.look.of("backend")
+                       if other.get("backend_type") == "walsender"]
+            parts = any_of(*([wakers("listed", senders)] if senders else []),
+                           unseen("outside", "a standby confirms its commit"))
+            return blocked(name, parts, [SYSTEM], reason="waits for a standby that confirms its commit", **more)
+        return self.among_workers(name, row, snapshot, more) if kind == "IPC" else None
+
+    def among_workers(self, name: str, row: Row, snapshot: Server, more: Dict[str, Any]) -> Optional[Process]:
+        """Returns a leader that waits for its parallel workers, or one of these that waits for it."""
+        if row["backend_type"] == WORKER and row["wait_event"] in FOR_LEADER:
+            leader = snapshot.names.get(row.get("leader_pid") or 0)
+            return blocked(name, any_of(wakers("called", [leader])), [SYSTEM], **more) if leader else None
+        workers = [snapshot.names[other["backend"]] for other in snapshot.look.of("backend")
+                   if other.get("leader_pid") == row["backend"] and other["backend"] != row["backend"]]
+        if not workers or row["wait_event"] not in FOR_WORKERS:
+            return None
+        return blocked(name, all_of(workers, COMES), [SYSTEM], **more)
+
+    def by_state(self, name: str, row: Row, snapshot: Server, more: Dict[str, Any]) -> Process:
+        """Returns one by the state of its session."""
+        state, kind, look = row["state"], row["wait_event_type"], snapshot.look
+        if state is None and (row["backend_type"] in (None, CLIENT) or "insufficient privilege" in str(row["query"])):
+            return unknown(name, HIDDEN, **more)
+        if state in IN_TRANSACTION:
+            starts = {"idle_in_transaction_session_timeout": row["state_change"],
+                      "transaction_timeout": row["xact_start"]}
+            more["operation"] = state
+            if row["backend"] not in snapshot.wanted:
+                parts = any_of(unseen("client"), unseen("to-come"))
+                return rests(name, "has an open transaction", parts, [SYSTEM], **more)
+            parts = with_limits(any_of(unseen("client")), self.timeouts(row, look, starts))
+            why = f"{state}{since(row['state_change'], look)}; its client isn't in the state"
+            return blocked(name, parts, [SYSTEM, premise(LIMITS)], reason=why, **more)
+        if state == IDLE:  # (a notice of another session may come to its client)
+            parts = any_of(unseen("client"), unseen("to-come"))
+            return rests(name, "has nothing to do", parts, [SYSTEM], **{**more, "operation": state})
+        if state in (*ACTIVE, None) and kind is None:
+            return goes_on(name, "computes", [SYSTEM], **more)
+        if state in ACTIVE and kind == "Client":
+            parts = with_limits(any_of(unseen("client")),
+                                self.timeouts(row, look, {"statement_timeout": row["query_start"]}))
+            return blocked(name, parts, [SYSTEM, premise(LIMITS)], reason="waits for its client", **more)
+        return unknown(name, f"what ends its wait at {more['operation'] or state} isn't known", **more)
+
+    def finish(self, sketch: Sketch, snapshots: List[Server]) -> None:
+        """Adds the limits, and who serves which connection. Warns of what the role couldn't see."""
+        self.limits.add_to(sketch)
+        names = {process.name for process in sketch.processes}
+        for snapshot in reversed(snapshots):
+            sketch.connections.update(connections_of({
+                name: keys_of(snapshot.rows_by_pid[pid], snapshot.look) for pid, name in snapshot.names.items()
+                if name in names and "odd" not in snapshot.rows_by_pid[pid]}))
+        hidden = sum(process.reason == HIDDEN for process in sketch.processes)
+        if hidden:
+            sketch.warnings.append(f"{HIDDEN}, for {hidden} of them")
+
+
+def is_of_server(row: Row) -> bool:
+    """Whether a backend looks after the server itself, and has none of its locks to wait for. Who sends what is written
+    to a standby is waited for."""
+    return "odd" not in row and row["datname"] is None and row["backend_type"] != "walsender" and not row["blocked_by"]
+
+
+def keys_of(row: Row, look: Look) -> List[str]:
+    """Returns what tells the connection of a backend from others: the end of its client, and its own process where that
+    is of the machine on which the state was taken."""
+    end = end_of_socket(row["client_addr"], row["client_port"])
+    return [*([end] if end else []), *([f"process {row['backend']} of {look.machine}"] if look.machine else [])]
+
+
+def name_of(row: Row) -> str:
+    """Returns what a backend is called: by its application and database, or by its kind where it is of no client."""
+    if "odd" in row or row["backend_type"] not in (None, CLIENT):
+        return f"{row.get('backend_type') or 'backend'} {row['backend']}"
+    who = one_line(str(row["application_name"] or row["usename"] or "client"), 40)
+    return f"{who}@{one_line(str(row['datname'] or ''), 40)} {row['backend']}"
+
+
+def count_of(row: Row) -> str:
+    """Returns what is the same as long as a backend is at one wait: when its query, its transaction and its state
+    began, and which query it is."""
+    return " ".join(str(row.get(key)) for key in ("query_start", "xact_start", "state_change", "query_id"))
+
+
+def query_of(row: Row) -> str:
+    return one_line(str(row["query"] or ""), 80) or "no query"
+
+
+def note_of(row: Row, look: Look) -> str:
+    """Returns what a backend does, for people: its state, since when, its query and its client."""
+    start = row["state_change"] if row["state"] in IN_TRANSACTION else row["query_start"]
+    end = end_of_socket(row["client_addr"], row["client_port"])
+    words = [f"{'next statement; ' if row['state'] in IN_TRANSACTION else ''}"
+             f"{row['state'] or row['backend_type'] or 'hidden'}{since(start, look)}",
+             f"transaction{since(row['xact_start'], look)}" if row["xact_start"] else "",
+             f"client {end}" if end else "",
+             f"{'last ' if row['state'] in IN_TRANSACTION else ''}{query_of(row)}"]
+    return ", ".join(filter(None, words))
+
+
+def since(start: Optional[str], look: Look) -> str:
+    """Returns for how long something has lasted, in words."""
+    return f" for {words_for(max(look.time - seconds_of(start), 0))}" if start else ""
+
+
+def key_of(lock: Row) -> Tuple[object, ...]:
+    """Returns what tells the thing that is locked from others."""
+    keys = ("lock", "database", "relation", "page", "tuple", "virtualxid", "transactionid", "classid", "objid",
+            "objsubid")
+    return tuple(lock.get(key) for key in keys)
+
+
+def told(lock: Row, pid: int, look: Look) -> str:
+    """Returns a lock in words. Who waits for the transaction that has changed a row has that row's own lock besides,
+    and so tells which it is."""
+    if lock["lock"] == "transactionid":
+        rows = [row for row in look.of("lock")
+                if row["lock"] == "tuple" and row["pid"] == pid and row["granted"] is True]
+        if len(rows) == 1:
+            return told(rows[0], pid, look)
+    values = {**lock, "name": lock["name"] or f"relation {lock['relation']} of another database"}
+    return TOLD.get(lock["lock"], "{lock}").format(**values)
+
+
+def is_cancelled(row: Optional[Row]) -> bool:
+    """Whether a backend is an autovacuum worker that ends where it blocks others."""
+    return row is not None and "odd" not in row and row["backend_type"] == AUTOVACUUM \
+        and WRAPAROUND not in str(row["query"])
+
+
+# Prepared transactions
+
+
+def prepared_name(row: Row) -> str:
+    return f"prepared {one_line(row['gid'], 80)}"
+
+
+def prepared_one(row: Row, look: Look) -> Process:
+    """A prepared transaction, which somebody has to commit or roll back."""
+    why = f"prepared{since(row['prepared'], look)}; whoever prepared it commits it, or rolls it back"
+    text = row["gid"].replace("'", "''")
+    return blocked(prepared_name(row), any_of(unseen("outside", why)), [SYSTEM], reason=why, note=why,
+                   site=f"prepared transaction {one_line(row['gid'], 80)}",
+                   frames=["prepared"], operation="prepared", objects=[row["gid"], row["prepared"]],
+                   count=row["prepared"], remedy=f"rollback prepared '{text}'")
+
+
+def prepared_parts(lock: Row, look: Look, number: int) -> List[Part]:
+    """Returns the parts of a wait for prepared transactions, of which the server says how many block it, and not which:
+    those that have the very lock, or else any."""
+    rows, locks = look.of("prepared"), [row for row in look.of("lock") if row["pid"] is None]
+    own = {row["virtualtransaction"]: row["transactionid"] for row in locks if row["lock"] == "transactionid"}
+    held = {own.get(row["virtualtransaction"]) for row in locks if key_of(row) == key_of(lock)}
+    names = [prepared_name(row) for row in rows if row["transaction"] in held]
+    if names and len(names) == number:
+        return all_of(names, "owns")
+    return [(wakers("listed", names or list(map(prepared_name, rows))),
+             unseen("unshown", "which prepared transaction blocks it isn't shown"))]

@@ -1,0 +1,156 @@
+"""The state that take-postgres prints: lines of JSON, of two looks at a PostgreSQL server. A look that isn't whole is
+refused: it has one line for each row, and the last one counts them."""
+from __future__ import annotations
+
+import json
+import re
+from collections import Counter
+from dataclasses import dataclass, field
+from datetime import datetime
+from functools import cached_property
+from typing import Any, Dict, Iterable, List, Optional, Tuple
+
+from ..files import Refusal, shown
+from .base import misfits
+
+Row = Dict[str, Any]
+MARK = "cmh-postgres "
+EXPECTED = "lines of take-postgres are expected"
+NONE = type(None)
+TIME = re.compile(r"(\d{4}-\d\d-\d\dT\d\d:\d\d:\d\d)(\.\d{1,6})?([+-]\d\d:\d\d)")
+NUMBER = re.compile(r"\d{1,12}")
+OF_TEXT, OF_TIME, OF_OID = (str, NONE), (TIME, NONE), (NUMBER, NONE)
+LOOK = {"look": TIME, "version": NUMBER, "port": (int, NONE), "role": OF_OID, "database": OF_OID, "standby": bool}
+BACKEND = {"backend": int, "datname": OF_TEXT, "datid": OF_OID, "usename": OF_TEXT, "usesysid": OF_OID,
+           "application_name": OF_TEXT, "client_addr": OF_TEXT, "client_port": (int, NONE), "backend_type": OF_TEXT,
+           "state": OF_TEXT, "wait_event_type": OF_TEXT, "wait_event": OF_TEXT, "xact_start": OF_TIME,
+           "query_start": OF_TIME, "state_change": OF_TIME, "query": OF_TEXT, "blocked_by": ([int], NONE),
+           "leader_pid?": (int, NONE), "query_id?": (int, NONE)}
+LOCK = {"lock": str, "pid": (int, NONE), "granted": bool, "name": OF_TEXT, "relation": OF_OID, "page": (int, NONE),
+        "tuple": (int, NONE), "transactionid": OF_OID, "virtualtransaction": OF_TEXT, "virtualxid": OF_TEXT,
+        "classid": OF_OID, "objid": OF_OID, "objsubid": (int, NONE), "database": OF_OID, "waitstart?": OF_TIME}
+SHAPES: Dict[str, Row] = {
+    "look": LOOK, "backend": BACKEND, "lock": LOCK,
+    "prepared": {"transaction": NUMBER, "gid": str, "prepared": TIME, "database": OF_TEXT, "owner": OF_TEXT},
+    "setting": {"setting": str, "value": OF_TEXT},
+    "set": {"set": str, "value": str, "role": NUMBER, "database": NUMBER},
+    "end": {"end": int}, "taken": {"taken": [float, float], "machine": str}}
+# What tells the rows of a kind from each other, and how many of the kind a look has.
+KEYS = {"backend": ("backend",), "prepared": ("gid",), "setting": ("setting",), "set": ("set", "role", "database")}
+
+
+def seconds_of(text: str, where: str = "") -> float:
+    """Returns a time in seconds. Raises Refusal if a text is none."""
+    match = TIME.fullmatch(text)
+    try:
+        assert match is not None
+        return datetime.fromisoformat(match[1] + match[3]).timestamp() + float(match[2] or 0)
+    except (AssertionError, ValueError, OverflowError) as error:
+        raise Refusal(f"{where}: {shown(text)} is no time") from error
+
+
+@dataclass(eq=False)
+class Look:
+    """One look at a server: its rows by their kinds, where its text was read, and when it was taken, and where if the
+    processes of the server are of that machine."""
+
+    path: str
+    rows: Dict[str, List[Row]] = field(default_factory=dict)
+    machine: str = ""
+    taken: Optional[Tuple[float, float]] = None
+
+    @cached_property
+    def time(self) -> float:
+        return seconds_of(self.rows["look"][0]["look"])
+
+    @property
+    def head(self) -> Row:
+        return self.rows["look"][0]
+
+    def of(self, kind: str) -> List[Row]:
+        return self.rows.get(kind, [])
+
+    @cached_property
+    def waited_for(self) -> Dict[int, Row]:
+        """The lock that each backend waits for, by its number. One that seems to wait for two waits for none here."""
+        rows = [row for row in self.of("lock") if row["granted"] is False and row["pid"] is not None]
+        counts = Counter(row["pid"] for row in rows)
+        return {row["pid"]: row for row in rows if counts[row["pid"]] == 1}
+
+    def limit(self, name: str, backend: Row) -> Optional[float]:
+        """Returns a limit that is in force for a backend as far as settings say, in seconds, 0 for none, or None where
+        that isn't known. What is set for a role in a database counts before what is set for the role, and so on."""
+        here = backend["usesysid"], backend["datid"]
+        value = self.set_for(name, *here)
+        own = self.set_for(name, self.head["role"], self.head["database"])
+        if value is None and own is None:  # (else the value of all is hidden by that of the role that looks)
+            value = next((str(row["value"]) for row in self.of("setting") if row["setting"] == name), None)
+        return milliseconds(value) if value is not None else None
+
+    def has_setting(self, name: str) -> bool:
+        """Whether this version of the server has a limit of that name."""
+        return any(row["setting"] == name for row in self.of("setting"))
+
+    def set_for(self, name: str, role: Optional[str], database: Optional[str]) -> Optional[str]:
+        rows = {(row["role"], row["database"]): str(row["value"]) for row in self.of("set") if row["set"] == name}
+        keys = ((role, database), (role, "0"), ("0", database), ("0", "0"))
+        return next((rows[key] for key in keys if key in rows), None)
+
+
+UNITS = {"": 0.001, "ms": 0.001, "s": 1.0, "min": 60.0, "h": 3600.0, "d": 86400.0, "us": 0.000001}
+
+
+def milliseconds(text: str) -> Optional[float]:
+    """Returns a limit in seconds, as a setting has it: in milliseconds where it has no unit."""
+    match = re.fullmatch(r"\s*(\d{1,12})\s*(us|ms|s|min|h|d|)\s*", text)
+    return int(match[1]) * UNITS[match[2]] if match else None
+
+
+def looks_of(text: str, path: str) -> List[Look]:
+    """Returns the looks of a state. Raises Refusal if it is none, or isn't whole."""
+    looks: List[Look] = []
+    lines: Iterable[Tuple[int, str]] = enumerate(text.replace("\r\n", "\n").split("\n"), 1)
+    for number, line in ((number, line) for number, line in lines if line.strip()):
+        kind, row = row_of(line, f"{shown(path)}:{number}")
+        if kind == "look":
+            looks.append(Look(path))
+        if not looks or kind != "look" and "taken" in looks[-1].rows:
+            raise Refusal(f"{shown(path)}:{number}: {EXPECTED}, and a look begins with its time")
+        looks[-1].rows.setdefault(kind, []).append(row)
+    if not looks:
+        raise Refusal(f"{shown(path)}:1: {EXPECTED}")
+    for look in looks:
+        check(look)
+    return looks
+
+
+def row_of(line: str, where: str) -> Tuple[str, Row]:
+    """Returns the kind of a line and its row. What isn't as it should be in the row of a backend is kept, as 'odd'."""
+    try:
+        row = json.loads(line[len(MARK):]) if line.startswith(MARK) else None
+    except (ValueError, RecursionError):
+        row = None
+    kind = next((kind for kind in SHAPES if kind in row), "") if isinstance(row, dict) else ""
+    if not kind:
+        raise Refusal(f"{where}: {EXPECTED}, and this line isn't one, or is cut off")
+    odd = next(misfits(row, SHAPES[kind]), "")
+    if odd and (kind != "backend" or odd == ".backend"):
+        raise Refusal(f"{where}: {EXPECTED}, and in this line {shown(odd[1:])} isn't as these have it")
+    for value in row.values():
+        if isinstance(value, str) and TIME.fullmatch(value):
+            seconds_of(value, where)
+    return kind, {**row, "odd": odd[1:]} if odd else row
+
+
+def check(look: Look) -> None:
+    """Raises Refusal if a look isn't whole, or has a row twice."""
+    ends, taken = look.of("end"), look.of("taken")
+    number = sum(map(len, look.rows.values())) - len(ends) - len(taken)
+    if len(ends) != 1 or ends[0]["end"] != number:
+        raise Refusal(f"{shown(look.path)}: a look isn't whole: its count of rows doesn't fit")
+    for kind, keys in KEYS.items():
+        names = [tuple(row[key] for key in keys) for row in look.of(kind)]
+        if len(set(names)) != len(names):
+            raise Refusal(f"{shown(look.path)}: a row of {kind} stands twice in a look")
+    if taken:
+        look.taken, look.machine = (taken[0]["taken"][0], taken[0]["taken"][1]), taken[0]["machine"]

@@ -1,0 +1,83 @@
+#!/usr/bin/env python3
+"""Has clients of a server do what stalls them, or what is only slow: statement after statement, each by a session that
+is called as its application. Says 'ready' then, and ends with its standard input. psql says which server it is.
+
+usage: postgres_clients.py NAME
+"""
+import os
+import subprocess
+import sys
+import time
+
+SLEEP, COMPUTE = "select pg_sleep(900);", "select count(*) from generate_series(1, 100000000000);"
+WORKER = "set force_parallel_mode = on; set max_parallel_workers_per_gather = 1; "
+HOUR = "alter system set deadlock_timeout = '1h'; select pg_reload_conf();"
+
+
+def row(number):
+    return f"update orders set quantity = quantity - 1 where id = {number};"
+
+
+def migration(last=""):
+    return [("shop", "begin;" + row(1) + last), ("migrate", "alter table orders add column note text;"),
+            ("web", "select * from orders;"), ("api", "begin;" + row(2))]
+
+
+def circle(last=row(1)):
+    return [("ops", HOUR), ("packer", "begin;" + row(1)), ("printer", "begin;" + row(2)), ("printer", last),
+            ("packer", row(2)), ("web", row(2))]
+
+
+CASES = {
+    "migration": migration(),
+    "migration_slow": migration(SLEEP),
+    "circle": circle(),
+    "circle_slow": circle(COMPUTE),
+    # Limits of a role and of a database, and the session of a client that has one of its own, which no view shows.
+    "circle_limits": [("ops", "alter role clerk set lock_timeout = '2h'; alter database postgres set "
+                              "statement_timeout = '3h'; alter system set idle_in_transaction_session_timeout = '4h';"
+                              "select pg_reload_conf();"), *circle(), ("idler", "begin;" + row(7)), ("late", row(7))],
+    "outlasted": [("ops", "alter system set lock_timeout = '1s'; select pg_reload_conf();"), ("shop", "begin;" + row(1)),
+                  ("web", "set lock_timeout = 0;" + row(1))],
+    # A lock of a session that is in no transaction.
+    "advisory": [("cron", "select pg_advisory_lock(7, 4711);"), ("report", "select pg_advisory_lock(7, 4711);")],
+    "advisory_slow": [("cron", "select pg_advisory_lock(7, 4711);"), ("cron", SLEEP),
+                      ("report", "select pg_advisory_lock(7, 4711);")],
+    "prepared": [("bank", "begin;" + row(1) + "prepare transaction 'transfer-17';"),
+                 ("bank", "begin;" + row(2) + "prepare transaction 'transfer-18';"), ("shop", row(1)),
+                 ("drop", "truncate orders;")],
+    # A program that asks by a second connection while its first one is in a transaction.
+    "own_client": [("shop", "begin;" + row(1)), ("audit", row(1)), ("web", row(1))],
+    "standby": [("ops", "alter system set synchronous_standby_names = 'standby_1'; select pg_reload_conf();"),
+                ("shop", "begin;" + row(1) + "commit;"), ("web", row(1))],
+    "workers_slow": [("shop", "begin;" + row(1)), ("shop", WORKER + SLEEP), ("web", row(1))],
+    # A client that doesn't take what the server sends: the COPY goes to a pipe that nobody reads.
+    "unread": [("shop", "begin;" + row(1)),
+               ("shop", "copy (select repeat('x', 1000) from generate_series(1, 100000)) to stdout;"), ("web", row(1))],
+    # What a role can't see that has no right to.
+    "hidden": [("shop", "begin;" + row(1)), ("web", row(1))],
+}
+
+
+def start(name):
+    out = subprocess.PIPE if sys.argv[1] == "unread" else subprocess.DEVNULL
+    env = {**os.environ, "PGAPPNAME": name, **({"PGUSER": "clerk"} if name in ("packer", "printer") else {})}
+    return subprocess.Popen(["psql", "-qX"], stdin=subprocess.PIPE, stdout=out, text=True, env=env)
+
+
+def main():
+    sessions = {}
+    for name, statements in CASES[sys.argv[1]]:
+        if name not in sessions:
+            sessions[name] = start(name)
+        sessions[name].stdin.write(f"{statements}\n".replace("; ", ";\n").replace(";", ";\n"))
+        sessions[name].stdin.flush()
+        time.sleep(0.7)
+    print("ready", flush=True)
+    sys.stdin.read()
+    for process in sessions.values():
+        process.kill()
+
+
+if __name__ == "__main__":
+    main()
