@@ -19,8 +19,12 @@ import sys
 from collections import Counter
 from typing import Dict, Iterable, Iterator, List, Sequence, Tuple, Union
 
-from cmh_linux import (CARRIES, EPOLLS, RING, WRITES, Machine, Row, Sockets, TcpRow, address, inode_of, int32, read_all,
-                       try_lines, try_slurp)
+from cmh_linux.calls import EPOLLS, WRITES
+from cmh_linux.proc import Row, int32, try_lines, try_slurp
+from cmh_linux.processes import CARRIES, RING, Machine
+from cmh_linux.readers import read_all
+from cmh_linux.reading import inode_of
+from cmh_linux.sockets import Sockets, TcpRow, address
 
 Files = Dict[int, List[int]]  # the processes that have a socket, by its number
 POINTERS = {"ppoll": 2, "select": 4, "pselect6": 4, "epoll_pwait2": 3, "futex": 3, "rt_sigtimedwait": 2}

@@ -5,9 +5,10 @@
 
 FILE is of `jcmd PID GC.heap_dump FILE`, in the binary format HPROF, and CODE what `jcmd PID Compiler.codelist` prints
 then: without it, it isn't said who has a path of references to what. It is read from front to end, and only the objects
-of the classes in GROUPS are kept, and half of each reference. A row is a line '# cmh heap {..}'. Threads stand in it as
-[number, address], which is how jstack prints them too: "name" #number .. tid=address. Objects move, so no address of
-one is printed.
+of the classes in GROUPS are kept, and half of each reference. A row is a line '# cmh heap {..}' with all its keys:
+`waits` is of which kind a wait is, `for` are those that have to end it, `besides` who else has what it waits for in a
+frame, and `reach` who has a path of references to what it waits at, or null. Threads stand in it as [number, address],
+which is how jstack prints them too: "name" #number .. tid=address. Objects move, so no address of one is printed.
 """
 from __future__ import annotations
 
@@ -23,7 +24,7 @@ from typing import Any, Callable, Dict, Iterable, Iterator, List, NamedTuple, Op
 
 # The classes whose objects are kept, also those of classes that derive from them, and which fields of each.
 (THREAD, TASK, TIMED, SYNC, HOLDS, ENTRY, WORKER, POOL, QUEUE, NODE, FUTURE, STEP, SUPPLY, RUN, PART, MUTEX,
- ADAPTER, GROUP, HOLDER, CONDITION, LONG_CONDITION) = GROUPS = (
+ GROUP, HOLDER, CONDITION, LONG_CONDITION) = GROUPS = (
     "java/lang/Thread", "java/util/concurrent/FutureTask", "java/util/TimerTask",
     "java/util/concurrent/locks/ReentrantReadWriteLock$Sync",
     "java/util/concurrent/locks/ReentrantReadWriteLock$Sync$HoldCounter", "java/lang/ThreadLocal$ThreadLocalMap$Entry",
@@ -32,12 +33,12 @@ from typing import Any, Callable, Dict, Iterable, Iterator, List, NamedTuple, Op
     "java/util/concurrent/CompletableFuture", "java/util/concurrent/CompletableFuture$Completion",
     "java/util/concurrent/CompletableFuture$AsyncSupply", "java/util/concurrent/CompletableFuture$AsyncRun",
     "java/util/concurrent/CountedCompleter", "java/util/concurrent/locks/ReentrantLock$Sync",
-    "java/util/concurrent/Executors$RunnableAdapter", "java/lang/ThreadGroup", "java/lang/Thread$FieldHolder",
+    "java/lang/ThreadGroup", "java/lang/Thread$FieldHolder",
     "java/util/concurrent/locks/AbstractQueuedSynchronizer$ConditionObject",
     "java/util/concurrent/locks/AbstractQueuedLongSynchronizer$ConditionObject")
 FIELDS = {
     THREAD: ("tid", "eetop", "parkBlocker", "holder", "group"),
-    TASK: ("state", "runner", "period", "this$0", "callable"),
+    TASK: ("state", "runner", "period", "this$0"),
     TIMED: ("state", "period"),
     SYNC: ("state", "firstReader", "firstReaderHoldCount", "readHolds", "exclusiveOwnerThread"),
     HOLDS: ("count", "tid"),
@@ -45,7 +46,7 @@ FIELDS = {
     POOL: ("workQueue", "corePoolSize", "maximumPoolSize"), QUEUE: ("head", "capacity"), NODE: ("item", "next"),
     FUTURE: ("result",), STEP: ("dep", "src", "executor", "snd"), SUPPLY: ("dep",), RUN: ("dep",),
     PART: ("completer", "spliterator"), MUTEX: ("state", "exclusiveOwnerThread"),
-    ADAPTER: ("task",), GROUP: ("parent",), HOLDER: ("group",), CONDITION: ("this$0",), LONG_CONDITION: ("this$0",)}
+    GROUP: ("parent",), HOLDER: ("group",), CONDITION: ("this$0",), LONG_CONDITION: ("this$0",)}
 OF_PATHS = GROUP, HOLDER, CONDITION, LONG_CONDITION  # what says more of who may end a wait
 MOST = 300_000  # objects of one group that are kept; with more, what rests on them isn't printed
 # References that are looked through, objects on paths, looks through all references, and threads in all lists: with
@@ -54,16 +55,12 @@ MOST_REFERENCES, MOST_ON_PATHS, MOST_SWEEPS, MOST_LISTED = 50_000_000, 20_000, 1
 STRIDE = 1 << 17  # bytes of a heap dump whose references are looked through together
 UNBOUNDED, SCHEDULED = 2 ** 31 - 1, 1
 SHOWN = 12  # frames of a row
-STEPS = 100  # futures of a chain, and tasks whose classes are looked for
+STEPS = 100  # futures of a chain
 FREED = 1 << 26  # bytes after which what was read leaves the memory
 JOIN, AWAIT, GET = ("java.lang.Thread.join", "java.util.concurrent.FutureTask.awaitDone",
                     "java.util.concurrent.CompletableFuture.waitingGet")
 POOL_ENDS, TIMER = "java.util.concurrent.ThreadPoolExecutor.awaitTermination", "java.util.TimerThread.mainLoop"
-SCHEDULER = "java/util/concurrent/ScheduledThreadPoolExecutor"
 SCHEDULES = "java.util.concurrent.ScheduledThreadPoolExecutor$DelayedWorkQueue.take"
-SERVES, DISPATCHER = "sun.net.httpserver.ServerImpl$Dispatcher.run", "sun/net/httpserver/ServerImpl$Dispatcher"
-ITSELF, HANDS_OVER = "sun/net/httpserver/ServerImpl$DefaultExecutor", "java/util/concurrent/SynchronousQueue"
-DELEGATES = re.compile(r"java/util/concurrent/Executors\$\w*DelegatedExecutorService")
 LATCH = "java.util.concurrent.CountDownLatch.await"
 LOCKS = "java.util.concurrent.locks.ReentrantLock.lock"
 WRITES, READS = (f"java.util.concurrent.locks.ReentrantReadWriteLock${it}Lock.lock" for it in ("Write", "Read"))
@@ -72,12 +69,6 @@ STREAMS, OF_PARTS = "java/util/stream/", re.compile(r"java\.util\.stream\..*Task
 MOST_PARTS = 1000  # parts of all parallel streams, and futures of which one needs all
 COMPUTES = re.compile(r"java\.util\.concurrent\.CompletableFuture\$(?:Async(?:Supply|Run)\.run|(?:Uni|Bi)\w+\.tryFire)")
 JDK = re.compile(r"(?:java|javax|jdk|sun|com\.sun)\.")
-CONCURRENT = re.compile(r"java\.util\.concurrent\.")
-# Calls of the JDK of which none ends the wait of another one that is in one of the same, at the same object.
-_QUEUE = r"java\.util\.concurrent\.(?:(?:Array|Linked|Priority)BlockingQueue|LinkedBlockingDeque)"
-WAYS = [re.compile(it) for it in (
-    rf"{_QUEUE}\.(?:take|poll)\w*", rf"{_QUEUE}\.(?:put|offer)\w*", r"java\.util\.concurrent\.CountDownLatch\.await",
-    r"java\.util\.concurrent\.locks\.AbstractQueuedSynchronizer\$ConditionObject\.await\w*")]
 NATIVE = -3  # the line of a native method, of whose arguments no heap dump has all
 # Who lets a thread sleep, and who waits by that.
 PARKS_A_WHILE = re.compile(r"java\.util\.concurrent\.locks\.LockSupport\.park(?:Nanos|Until)")
@@ -108,8 +99,6 @@ BEFORE_CALLS = re.compile(r".*\.(?:<clinit>|loadClass)|java\.lang\.invoke\.Metho
 # Classes without a name, of which no heap dump has the data: those of the JDK's own have none of the job's.
 HIDDEN, OF_THE_JDK = re.compile(r".*[+/.]0x[0-9a-f]+"), re.compile(
     r"(?:javax?|jdk|sun|com/sun)/.*|.*\$\$(?:Lambda|StringConcat|TypeSwitch)\b.*")
-MADE, BUILT = re.compile(r".*\$\$Lambda.*"), re.compile(r"(?<=[+/.])0x[0-9a-f]+$")
-LINKED, MOST_LINKED = "<resolved_references>", 2000  # of a class, for all that its code has made to call
 VIRTUAL, STRING, OF_THE_END = "java/lang/VirtualThread", "java/lang/String", "java/lang/ApplicationShutdownHooks"
 TEXT, LOADED, FRAME, TRACE, SEGMENTS, END = 0x01, 0x02, 0x04, 0x05, (0x0C, 0x1C), 0x2C
 LOCAL, OF_THREAD, CLASS, INSTANCE, OBJECTS, VALUES = 0x03, 0x08, 0x20, 0x21, 0x22, 0x23
@@ -117,7 +106,6 @@ OF_ALL, OF_NATIVES = (0x01, 0xFF), (0x02, 0x04, 0x06)  # roots of the JVM's, and
 ROOTS = {0x01: 16, 0x02: 16, LOCAL: 16, 0x04: 12, 0x05: 8, 0x06: 12, 0x07: 8, OF_THREAD: 16, 0xFF: 8}
 REFERENCE = 2
 WIDTHS = {REFERENCE: 8, 4: 1, 5: 2, 6: 4, 7: 8, 8: 1, 9: 2, 10: 4, 11: 8}
-LETTERS = {REFERENCE: "L", 4: "Z", 5: "C", 6: "F", 7: "D", 8: "B", 9: "S", 10: "I", 11: "J"}
 FORMATS = {REFERENCE: struct.Struct(">Q"), 10: struct.Struct(">i"), 11: struct.Struct(">q")}
 RECORD, NUMBER, IDENTITY = struct.Struct(">BII"), struct.Struct(">I"), struct.Struct(">Q")
 HEAD = struct.Struct(">B12xQI")  # of an object: its tag, its class and size; of an array its length, and what follows
@@ -188,9 +176,8 @@ class Heap:
     fields, for each group; of each thread, by its number in the file, its object, its trace, and which objects each of
     its frames has, or its natives. `of_all` are those that the JVM has, or a static field of the JDK's,
     and of these `hooks` is the map of the threads that are started once the JVM ends; `statics` are in static fields of
-    the job's, to which all its threads may come. `linked` has of classes the arrays of what their code has made to
-    call. `references` has the lower half of each reference, in the order of the file, and `strides` where some of them
-    begin there and here."""
+    the job's, to which all its threads may come. `references` has the lower half of each reference, in the order of the
+    file, and `strides` where some of them begin there and here."""
 
     def __init__(self, data: mmap.mmap) -> None:
         self.data, self.time = data, 0.0
@@ -208,9 +195,8 @@ class Heap:
         self.locals: Dict[int, List[Tuple[int, int]]] = defaultdict(list)
         self.natives: Dict[int, Set[int]] = defaultdict(set)
         self.of_all: Set[int] = set()
-        self.statics: Dict[int, Set[str]] = defaultdict(set)
+        self.statics: Set[int] = set()
         self.hooks: Set[int] = set()
-        self.linked: Dict[int, int] = {}
         self.keeps_references = True
         self.references = array("I")
         self.strides: List[Tuple[int, int]] = []
@@ -328,6 +314,7 @@ class Heap:
         """Reads a class, and returns where the next record stands: constants and statics come before the fields."""
         kind, _, above, *of_all = CLASS_HEAD.unpack_from(self.data, at)
         is_own = not is_jdks(self.name_of(kind))
+        static: List[int] = []
         at += 64
         for head in (2, 8):
             number: int = COUNT.unpack_from(self.data, at)[0]
@@ -336,13 +323,10 @@ class Heap:
                 if self.data[at + head] == REFERENCE:
                     held = IDENTITY.unpack_from(self.data, at + head + 1)[0]
                     name = self.text(IDENTITY.unpack_from(self.data, at)[0]) if head == 8 else ""
-                    self.linked.update({kind: held} if name == LINKED else {})
-                    if is_own and name.isidentifier():
-                        self.statics[held].add(f"{self.name_of(kind)}.{name}".replace("/", "."))
-                    else:
-                        of_all.append(held)
+                    (static if is_own and name.isidentifier() else of_all).append(held)
                 at += head + 1 + WIDTHS[self.data[at + head]]
         self.of_all.update(of_all)
+        self.statics.update(static)
         self.hooks.update(of_all if self.name_of(kind) == OF_THE_END else ())
         number = COUNT.unpack_from(self.data, at)[0]
         self.classes[kind] = above, [(name, width) for name, width in FIELD.iter_unpack(
@@ -383,33 +367,6 @@ class Heap:
         at = self.place_of(identity) if identity and identity not in self.kinds else -1
         return int(HEAD.unpack_from(self.data, at)[1]) if at >= 0 else self.kinds.get(identity, 0)
 
-    def fields_of(self, identity: int) -> Dict[str, int]:
-        """Returns to what the fields of an object refer, by their names."""
-        at, found = self.place_of(identity), {}
-        for name, width in (it for each in self.lineage(self.kind_of(identity)) for it in self.classes[each][1]):
-            found.update({self.text(name): IDENTITY.unpack_from(self.data, at + 25)[0]} if width == REFERENCE else {})
-            at += WIDTHS[width]
-        return found
-
-    def array_of(self, identity: int) -> List[int]:
-        """Returns to what an array refers."""
-        at = self.data.find(bytes([OBJECTS]) + IDENTITY.pack(identity)) if identity else -1
-        number = NUMBER.unpack_from(self.data, at + 13)[0] if at >= 0 else 0
-        return list(struct.unpack_from(f">{number}Q", self.data, at + 25)) if number <= MOST_LINKED else []
-
-    def sites_of(self, host: int) -> List[str]:
-        """Returns what the code of a class has made to call, in the order in which the JVM keeps it: the address of the
-        class of a lambda, or nothing, and by which types it is made. An empty text is of what isn't made so."""
-        return [self.site_of(it) if it else "" for it in self.array_of(self.linked.get(host, 0))]
-
-    def site_of(self, handle: int) -> str:
-        its = self.fields_of(handle) if "MethodHandle" in self.name_of(self.kind_of(handle)) else {}
-        kinds = [its.get("instanceClass", 0), *(self.kind_of(its[it]) for it in its if it.startswith("argL"))]
-        address = next((it[0] for it in map(BUILT.search, map(self.name_of, kinds)) if it), "")
-        type_ = self.fields_of(its["type"]) if "type" in its else {}
-        given = [self.name_of(it) or "-" for it in self.array_of(type_.get("ptypes", 0))]
-        return f"{address}({','.join(given)}){self.name_of(type_.get('rtype', 0)) or '-'}" if type_ else ""
-
     def place_of(self, identity: int) -> int:
         """Returns where an object stands, or -1."""
         mark = bytes([INSTANCE]) + IDENTITY.pack(identity)
@@ -421,21 +378,6 @@ class Heap:
                 return at
             at = self.data.find(mark, at + 1)
         return -1
-
-    def taken_by(self, identity: int, kind: int) -> List[int]:
-        """Returns what the fields of a lambda refer to, in the order in which it takes them, or 0 of a number."""
-        at = self.place_of(identity) + 25
-        found: Dict[int, int] = {}
-        for name, width in (it for each in self.lineage(kind) for it in self.classes[each][1]):
-            number = self.text(name).rpartition("$")[2]
-            is_one = number.isdigit() and width == REFERENCE
-            found[int(number) if number.isdigit() else -1] = IDENTITY.unpack_from(self.data, at)[0] if is_one else 0
-            at += WIDTHS[width]
-        return [found[it] for it in sorted(found)]
-
-    def letters_of(self, kind: int) -> str:
-        """Returns of which kinds the fields of a class are, in the order of the alphabet: 'L' of a reference."""
-        return "".join(sorted(LETTERS[width] for it in self.lineage(kind) for _, width in self.classes[it][1]))
 
     def text(self, identity: int) -> str:
         at, length = self.texts.get(identity, (0, 0))
@@ -469,14 +411,6 @@ class Thread:
         depths = {at for at, (name, _) in enumerate(self.frames) if name == method}
         return {identity for depth, identity in self.locals if depth in depths and identity in some}
 
-    def begin(self) -> int:
-        """Returns how many frames of the JDK's are on top of those of the job."""
-        return next((at for at, (name, _) in enumerate(self.frames) if not JDK.match(name)), len(self.frames))
-
-    def entry(self) -> str:
-        """Returns the method of the JDK that the job has called, or nothing."""
-        return "".join(name for name, _ in self.frames[:self.begin()][-1:])
-
 
 class Reach:
     """Who has a path of references to some objects. `into` has, of each object on a path, those that refer to it, `own`
@@ -488,11 +422,9 @@ class Reach:
         self.into: Dict[int, Set[int]] = {}
         self.own: Dict[int, Set[int]] = defaultdict(set)
         self.having: Dict[int, Set[int]] = defaultdict(set)
-        self.of_all, self.statics = {*heap.of_all}, heap.statics.keys() - {0}
+        self.of_all, self.statics = {*heap.of_all}, heap.statics - {0}
         self.unused: Set[int] = set()
         self.fields: Dict[int, List[Tuple[int, int]]] = {}
-        self.by_fields: Dict[int, Set[str]] = defaultdict(set)
-        self.names: Dict[Tuple[int, int], str] = {}
         self.known: Dict[int, Optional[Set[int]]] = {}
         self.by_statics: Set[int] = set()  # of these, to which one comes by a static field
         self.queues: Dict[int, bool] = {}  # whether the collector puts into one
@@ -577,7 +509,6 @@ class Reach:
                 self.own[other].add(row.identity)
             elif other in self.into:
                 self.into[other].add(row.identity)
-                self.by_fields[other].add(self.names.get((row.kind, at), ""))
                 is_new = is_new or row.identity not in self.into
         if is_new:
             self.into[row.identity] = {it for it in self.queues_of(row) if self.has_puts(it)}
@@ -618,25 +549,8 @@ class Reach:
             is_unused = (WAKES.fullmatch(field) or field == REFERENT and PHANTOM in names
                          or field == OWNER and not self.is_asked(names[0]))
             if width == REFERENCE:
-                self.names[kind, at] = field.replace("/", ".")
                 yield at, UNUSED if is_unused else BY_ITSELF if OWN.fullmatch(field) else BY_ANY
             at += WIDTHS[width]
-
-    def fields_with(self, thing: int) -> Tuple[Set[int], Set[str]]:
-        """Returns an object, with those of the JDK's locks and queues in which it stands, and all fields in which these
-        do: nothing stands for an array."""
-        found: Set[str] = set()
-        todo = [thing]
-        for it in todo:  # (which grows meanwhile)
-            inside = {name for name in self.by_fields[it] if CONCURRENT.match(name)}
-            todo += [other for other in self.into.get(it, ()) if inside and other not in todo and self.is_inside(other)]
-            found |= (self.by_fields[it] - inside).union(self.heap.statics.get(it, ()))
-        return {*todo}, found
-
-    def is_inside(self, thing: int) -> bool:
-        """Whether an object is of the JDK's locks and queues, or of a class of the job's that derives from one."""
-        names = map(self.heap.name_of, self.heap.lineage(self.heap.kind_of(thing)))
-        return any(CONCURRENT.match(it.replace("/", ".")) for it in names)
 
     def is_asked(self, kind: str) -> bool:
         """Whether code of the job may ask the locks of a class for their owners."""
@@ -715,18 +629,15 @@ class Waits:
             is_meant = thread.identity in waiting and self.at[thread.identity] not in self.found[THREAD]
             some, is_all = self.reaching(thread) if is_known and is_meant else (None, False)
             if some is not None and not row and self.at[thread.identity] and not thread.top(GETS_TASK):
-                row = {"waits": "reach", "for": some}
-            elif some is not None and row:
-                row["reach"] = some
-            elif is_known and not row and thread.top(LATCH) and self.is_for_hook(self.at[thread.identity]):
+                row = {"waits": "reach", "for": []}
+            elif some is None and is_known and not row and thread.top(LATCH) and self.is_for_hook(
+                    self.at[thread.identity]):
                 row = {"waits": "hook", "for": []}
-            if row and some is not None:
-                row.update(self.fields_of(thread))
-            if row and some is not None and is_all:
-                row.update({"for" if row["waits"] == "reach" else "reach": [], "is_all": True})
             if row:
                 frames = [f"{name}:{line}" for name, line in thread.frames[:SHOWN]]
-                yield {"thread": thread.label, "frames": frames, **row}
+                yield {"thread": thread.label, "frames": frames, "besides": [], "is_full": False, "is_direct": False,
+                       **row, "reach": [] if some is not None and is_all else some,
+                       "is_all": some is not None and is_all}
 
     def object_of(self, thread: Thread) -> int:
         """Returns by which object others end the wait of a thread without a limit: one of the JDK's at which it is
@@ -761,28 +672,6 @@ class Waits:
             found |= {it for it in new if not self.is_at_rest(self.threads[it])}
         self.listed += len(found) if not is_all else 0
         return [thread.label for it, thread in self.threads.items() if it in found], is_all
-
-    def fields_of(self, thread: Thread) -> Row:
-        """Returns in which fields what a thread waits at stands, unless a final one is to get it yet. `held` has those
-        who have it in a frame, or may have: they may have read it from an object that is gone."""
-        at = self.at[thread.identity]
-        things, fields = self.reach.fields_with(at)
-        is_put = any(map(things.intersection, self.heap.natives.values())) or any(
-            held in things and it.frames[depth:depth + 1] and it.frames[depth][0].endswith((".<init>", ".<clinit>"))
-            for it in self.threads.values() for depth, held in it.locals)
-        if not at or is_put:
-            return {}
-        held = [it.label for it in self.threads.values() if it is not thread and (
-            it.identity in self.hiding or self.has_at_hand(it, things, thread))]
-        return {"fields": sorted(fields - {""}), **({"held": held} if held else {})}
-
-    @staticmethod
-    def has_at_hand(thread: Thread, things: Set[int], other: Thread) -> bool:
-        """Whether a thread has one of some objects in a frame, and isn't just at it by the same call of the JDK as
-        another one, by which it ends no wait of that."""
-        begin, entries = thread.begin(), (thread.entry(), other.entry())
-        way = next((it for it in WAYS if all(map(it.fullmatch, entries))), None)
-        return any(held in things and not (way and depth < begin) for depth, held in thread.locals)
 
     def lock_of(self, at: int) -> int:
         """Returns the lock of a condition, or 0: one that was signalled still stands there until it gets the lock."""
@@ -822,9 +711,7 @@ class Waits:
             pools = thread.objects_in(POOL_ENDS, self.found[POOL])
             return {"waits": "pool", "for": self.workers(*pools)} if len(pools) == 1 else {}
         if thread.top(TIMER) or thread.top(SCHEDULES):
-            return {"waits": "timer", "for": [], **self.tasks_of(thread)} if self.is_periodic(thread) else {}
-        if any(name == SERVES for name, _ in thread.frames):
-            return self.server(thread)
+            return {"waits": "timer", "for": []} if self.is_periodic(thread) else {}
         if thread.top(GET):
             futures = thread.objects_in(GET, self.found[FUTURE])
             return self.future(thread, next(iter(futures))) if len(futures) == 1 else {}
@@ -864,11 +751,10 @@ class Waits:
         state, runner = self.found[TASK][thread.blocker][:2]
         if runner in self.threads:
             but = [thread, self.threads[runner]]
-            return {"waits": "task", "for": [self.threads[runner].label], "object": f"{thread.blocker:#x}",
+            return {"waits": "task", "for": [self.threads[runner].label],
                     "besides": self.besides(thread.blocker, but)}
         row = {} if runner or state else self.in_queue(thread.blocker)
-        return {"waits": "queued", **row, "object": f"{thread.blocker:#x}",
-                "besides": self.besides(thread.blocker, [thread])} if row else {}
+        return {"waits": "queued", **row, "besides": self.besides(thread.blocker, [thread])} if row else {}
 
     def in_queue(self, work: int) -> Row:
         """Returns the threads of the pool in whose queue some work stands, and whether it has all that it may have. A
@@ -898,61 +784,10 @@ class Waits:
         pools = self.pools_of(thread)
         if thread.top(TIMER):
             return [it for it, (state, _) in self.found[TIMED].items() if state == SCHEDULED]
-        return [it for it, (state, _, _, pool, _) in self.found[TASK].items() if not state and pool in pools]
+        return [it for it, (state, _, _, pool) in self.found[TASK].items() if not state and pool in pools]
 
     def pools_of(self, thread: Thread) -> Set[int]:
         return {pool for pool, it in self.found[WORKER].values() if it == thread.identity}
-
-    def tasks_of(self, thread: Thread) -> Row:
-        """Returns the methods that run what a thread has to do later, as 'Job$$Lambda$7+0x1f.run(LI)', with the kinds
-        of what a lambda has, if no class but the JDK's own calls them, and its pool begins no more threads."""
-        is_timer, works = thread.top(TIMER), self.to_do(thread)
-        runners = [] if is_timer else [self.heap.kinds[it] for it in (*works, *self.pools_of(thread))]
-        calls = [(it, "run") if is_timer else (self.found[TASK][it][4], "call") for it in works]
-        calls = [(self.found[ADAPTER][it][0], "run") if it in self.found[ADAPTER] else (it, name) for it, name in calls]
-        is_plain = all(self.heap.name_of(it).startswith(SCHEDULER) for it in runners) and all(
-            it in self.found[POOL] and len(self.workers(it)) >= self.found[POOL][it][1] for it in self.pools_of(thread))
-        if not is_plain or not 0 < len(calls) <= STEPS or {ADAPTER, TASK, TIMED, WORKER} & self.heap.over:
-            return {}
-        kinds = {(self.heap.kind_of(it or 0), name) for it, name in calls}
-        named = {f"{self.heap.name_of(kind)}.{name}({self.heap.letters_of(kind)}){self.taken_by(it or 0, kind)}"
-                 for (it, name), kind in zip(calls, (self.heap.kind_of(it or 0) for it, _ in calls))}
-        hosts = {it.partition("$$Lambda")[0] for it in (self.heap.name_of(kind) for kind, _ in kinds)
-                 if MADE.fullmatch(it)}
-        sites = [f"{name} {it}" for host in self.heap.linked for name in [self.heap.name_of(host)] if name in hosts
-                 for it in self.heap.sites_of(host)]
-        return {"tasks": sorted(named), **({"sites": sites} if sites else {})} if all(it for it, _ in kinds) else {}
-
-    def taken_by(self, thing: int, kind: int) -> str:
-        """Returns the classes of what a lambda takes with it, in its order, with '-' for what isn't known."""
-        is_made = MADE.fullmatch(self.heap.name_of(kind)) is not None
-        some = self.heap.taken_by(thing, kind) if is_made else ()
-        return ",".join(self.heap.name_of(self.heap.kind_of(it)) or "-" for it in some)
-
-    def server(self, thread: Thread) -> Row:
-        """Returns the threads of the pool to which one that serves HTTP gives what it is asked, if it gives that to
-        nobody else: the pool begins no more threads, refuses no task by code of the job, and each of these is at work.
-        Where it runs that itself, or its pool has nothing else to do, it `answers`."""
-        its = [held for depth, held in thread.locals if thread.frames[depth:depth + 1]
-               and thread.frames[depth][0] == SERVES and self.heap.name_of(self.heap.kind_of(held)) == DISPATCHER]
-        server = self.heap.fields_of(its[0]).get("this$0", 0) if its else 0
-        pool = self.heap.fields_of(server).get("executor", 0) if server else 0
-        is_behind = DELEGATES.fullmatch(self.heap.name_of(self.heap.kind_of(pool))) is not None
-        pool = self.heap.fields_of(pool).get("e", 0) if is_behind else pool
-        is_plain = pool in self.found[POOL] and self.heap.name_of(self.heap.kinds[pool]) == POOL and is_jdks(
-            self.heap.name_of(self.heap.kind_of(self.heap.fields_of(pool).get("handler", 0))))
-        queue, least, _ = self.found[POOL][pool] if is_plain else (0, 0, 0)
-        is_linked = queue in self.found[QUEUE] and self.heap.name_of(self.heap.kinds[queue]) == QUEUE
-        is_open = is_linked and self.found[QUEUE][queue][1] == UNBOUNDED
-        some = [self.threads.get(it) for its, it in self.found[WORKER].values() if its == pool]
-        is_full = is_plain and is_open and 0 < least <= len(some) and not {WORKER, POOL, QUEUE} & self.heap.over
-        labels = [it.label for it in some if it is not None and not it.top(GETS_TASK)]
-        if is_full and len(labels) == len(some):
-            return {"waits": "server", "for": labels}
-        is_empty = is_plain and not {POOL, QUEUE, NODE} & self.heap.over and (
-            is_linked and self.queued(pool) <= {0} or self.heap.name_of(self.heap.kind_of(queue)) == HANDS_OVER)
-        is_itself = self.heap.name_of(self.heap.kind_of(pool)) == ITSELF
-        return {"waits": "server", "for": [], "answers": True} if is_empty or is_itself else {}
 
     def is_for_hook(self, at: int) -> bool:
         """Whether the work of a thread that is started once the JVM ends has a latch itself, so that it opens it."""
@@ -1110,7 +945,7 @@ def main(words: List[str]) -> int:
         return fail(f"{words[0]}: {error}")
     except (ValueError, KeyError, IndexError, struct.error):
         return fail(f"{words[0]}: the heap dump is cut off, or no file of a JVM's")
-    for row in [{"version": 1, "time": heap.time}, *rows, {"end": len(rows)}]:
+    for row in [{"version": 2, "time": heap.time}, *rows, {"end": len(rows)}]:
         print(f"# cmh heap {json.dumps(row)}")
     return 0
 

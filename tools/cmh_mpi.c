@@ -16,6 +16,7 @@
 #include <stdlib.h>
 #include <string.h>
 #include <sys/mman.h>
+#include <sys/stat.h>
 #include <sys/syscall.h>
 #include <unistd.h>
 
@@ -53,6 +54,7 @@ struct file { /* cmh_mpi_reader.py has the same */
 static struct file *file;
 static int32_t before[OWN];
 static int memory = -1, keyval = MPI_KEYVAL_INVALID;
+static struct stat identity; /* of the file in memory, since the job may close it, and open its own under the number */
 static struct record nowhere;
 static __thread struct record *mine __attribute__((tls_model("initial-exec")));
 static pthread_key_t at_end;
@@ -64,11 +66,17 @@ static const MPI_Request no_request = MPI_REQUEST_NULL;
 #define BITS(it) bits_of(&(it), sizeof(it)) /* of a handle of MPI, which is an address or an int */
 INLINE uint64_t bits_of(const void *it, size_t size) {
     uint64_t bits = 0;
-    memcpy(&bits, it, size);
+    if (it) /* (the job may hand on an address that is none, for MPI to refuse) */
+        memcpy(&bits, it, size);
     return bits;
 }
 static void lock(void) { while (__atomic_test_and_set(&locked, __ATOMIC_ACQUIRE)) {} }
 static void unlock(void) { __atomic_clear(&locked, __ATOMIC_RELEASE); }
+
+static int is_open(void) {
+    struct stat it;
+    return !fstat(memory, &it) && it.st_dev == identity.st_dev && it.st_ino == identity.st_ino;
+}
 
 /* The record of this thread. One that finds no room writes to nowhere, and is counted. */
 static void leave_thread(void *record) { WRITE(((struct record *)record)->thread, 0); }
@@ -101,19 +109,19 @@ static int find(uint64_t handle) {
     return NOT_KNOWN;
 }
 static void describe(MPI_Comm comm, struct comm *it, uint64_t parent, uint64_t number) {
-    MPI_Group group, world;
+    MPI_Group group, world; /* (where MPI doesn't give these, nothing is known of it, and the job's call goes on) */
     int32_t *ranks = &file->ranks[(it - file->comm) * file->size];
     *it = (struct comm){.parent = parent, .made = number};
-    PMPI_Comm_test_inter(comm, &it->is_inter);
-    PMPI_Comm_rank(comm, &it->rank);
-    it->is_inter ? PMPI_Comm_remote_group(comm, &group) : PMPI_Comm_group(comm, &group);
-    PMPI_Group_size(group, &it->size);
-    PMPI_Comm_group(MPI_COMM_WORLD, &world);
-    int is_known = it->size <= file->size
+    if (PMPI_Comm_test_inter(comm, &it->is_inter) || PMPI_Comm_rank(comm, &it->rank)
+        || (it->is_inter ? PMPI_Comm_remote_group(comm, &group) : PMPI_Comm_group(comm, &group)))
+        return;
+    int has_world = !PMPI_Comm_group(MPI_COMM_WORLD, &world);
+    int is_known = has_world && !PMPI_Group_size(group, &it->size) && it->size <= file->size && is_open()
         && !posix_fallocate(memory, (char *)ranks - (char *)file, it->size * sizeof *ranks)
         && !PMPI_Group_translate_ranks(group, it->size, file->ranks, world, ranks); /* (of the world: 0, 1, ..) */
     PMPI_Group_free(&group);
-    PMPI_Group_free(&world);
+    if (has_world)
+        PMPI_Group_free(&world);
     it->size = is_known ? it->size : 0;
     it->id = (parent * 1099511628211u ^ number) * 1099511628211u;
     for (int rank = 0; rank < it->size; rank++)
@@ -156,7 +164,7 @@ INLINE const void *at(struct call it, char letter) {
 INLINE long word(struct call it, char letter) { return at(it, letter) ? *(const long *)at(it, letter) : 0; }
 INLINE const void *where(struct call it, char letter) { return (const void *)word(it, letter); }
 INLINE const MPI_Request *requests(struct call it) { return at(it, 'r') ? at(it, 'r') : where(it, 'R'); }
-INLINE int how_many(struct call it) { return at(it, 'n') ? word(it, 'n') : requests(it) != NULL; }
+INLINE int how_many(struct call it) { return requests(it) ? at(it, 'n') ? (int)word(it, 'n') : 1 : 0; }
 INLINE uint64_t made(struct call it) {
     return at(it, 'C') ? bits_of(where(it, 'C'), sizeof(MPI_Comm))
         : at(it, 'W') ? bits_of(where(it, 'W'), sizeof(MPI_Win))
@@ -235,7 +243,7 @@ INLINE struct operation enter(struct record *r, struct call it) {
 }
 INLINE void leave(struct record *r, struct call it, struct operation now, int error) {
     struct comm *comm = now.comm >= 0 ? &file->comm[now.comm] : NULL;
-    if (at(it, 'd') && !*(const int *)where(it, 'd')) {
+    if (at(it, 'd') && (!where(it, 'd') || !*(const int *)where(it, 'd'))) {
         r->polls++;
         return;
     }
@@ -256,7 +264,7 @@ INLINE void leave(struct record *r, struct call it, struct operation now, int er
         WRITE(comm->handle, 0);
     r->calls += at(it, 'd') || at(it, 'b');
     WRITE(r->now.kind, NONE);
-    if (it.kind & ENDS)
+    if (it.kind & ENDS && is_open())
         close(memory);
 }
 
@@ -381,23 +389,14 @@ static void keep_threads(int32_t *threads) {
     if (folder)
         closedir(folder);
 }
-static int begin_record(int error, int asked) {
-    int size, minor, made = error || file ? -1 : memfd_create("cmh_mpi", MFD_CLOEXEC);
-    if (made < 0)
-        return error;
-    PMPI_Comm_size(MPI_COMM_WORLD, &size);
-    size_t own = sizeof(struct file) + size * sizeof(int32_t), all = own + (COMMS - 1) * size * sizeof(int32_t);
-    struct file *it = ftruncate(made, all) || posix_fallocate(made, 0, own) ? MAP_FAILED
-        : mmap(NULL, all, PROT_READ | PROT_WRITE, MAP_SHARED, made, 0);
-    if (it == MAP_FAILED || pthread_key_create(&at_end, leave_thread)
-        || PMPI_Comm_create_keyval(MPI_COMM_NULL_COPY_FN, forget, &keyval, NULL)) {
-        close(made);
-        return error;
-    }
+/* Fills in what is known from the start. Returns 0, or that a call has failed. */
+static int fill(struct file *it, int size, int asked) {
+    int minor;
     it->pid = getpid(), it->size = size, it->asked = asked, it->any_source = MPI_ANY_SOURCE, it->any_tag = MPI_ANY_TAG;
-    PMPI_Comm_rank(MPI_COMM_WORLD, &it->rank);
-    PMPI_Query_thread(&it->level);
-    PMPI_Get_version(&it->standard, &minor);
+    if (PMPI_Comm_rank(MPI_COMM_WORLD, &it->rank) || PMPI_Query_thread(&it->level)
+        || PMPI_Get_version(&it->standard, &minor)
+        || PMPI_Comm_create_keyval(MPI_COMM_NULL_COPY_FN, forget, &keyval, NULL))
+        return 1;
     for (int rank = 0; rank < size; rank++)
         it->ranks[rank] = rank;
     it->comm[WORLD] = (struct comm){BITS((MPI_Comm){MPI_COMM_WORLD}), .id = 1, .size = size, .rank = it->rank};
@@ -405,7 +404,36 @@ static int begin_record(int error, int asked) {
     memcpy(it->threads[0], before, sizeof before);
     keep_threads(it->threads[1]);
     memcpy(it->magic, "cmh_mpi3", 8);
-    file = it, memory = made;
+    return 0;
+}
+static void make_record(int asked) {
+    int size, made = PMPI_Comm_size(MPI_COMM_WORLD, &size) ? -1 : memfd_create("cmh_mpi", MFD_CLOEXEC);
+    if (made < 0)
+        return;
+    size_t own = sizeof(struct file) + size * sizeof(int32_t), all = own + (COMMS - 1) * size * sizeof(int32_t);
+    struct file *it = fstat(made, &identity) || ftruncate(made, all) || posix_fallocate(made, 0, own) ? MAP_FAILED
+        : mmap(NULL, all, PROT_READ | PROT_WRITE, MAP_SHARED, made, 0);
+    if (it == MAP_FAILED || pthread_key_create(&at_end, leave_thread) || fill(it, size, asked))
+        close(made);
+    else
+        file = it, memory = made;
+}
+/* A call of ours that fails would end the job, as long as that has said nothing else of faults. */
+static int begin_record(int error, int asked) {
+    const MPI_Comm comms[] = {MPI_COMM_WORLD, MPI_COMM_SELF};
+    MPI_Errhandler handlers[2];
+    int number = 0;
+    if (error || file)
+        return error;
+    while (number < 2 && !PMPI_Comm_get_errhandler(comms[number], &handlers[number])
+           && !PMPI_Comm_set_errhandler(comms[number], MPI_ERRORS_RETURN))
+        number++;
+    if (number == 2)
+        make_record(asked);
+    while (number-- > 0) {
+        PMPI_Comm_set_errhandler(comms[number], handlers[number]);
+        PMPI_Errhandler_free(&handlers[number]);
+    }
     return error;
 }
 int MPI_Init(int *count, char ***words) {

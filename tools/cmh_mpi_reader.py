@@ -13,7 +13,6 @@ from __future__ import annotations
 
 import argparse
 import contextlib
-import importlib
 import json
 import os
 import platform
@@ -351,9 +350,14 @@ def is_moved(path: str) -> bool:
     return False
 
 
+def command_for_lines() -> Optional[str]:
+    """Returns what says at which line of source an address is, or None if it isn't there."""
+    return shutil.which("addr2line") or shutil.which("eu-addr2line")
+
+
 def lines_of(path: str, addresses: Sequence[int]) -> Dict[int, List[Any]]:
     """Returns the function, the file and the line of addresses of a file, as far as they are known."""
-    command = shutil.which("addr2line") or shutil.which("eu-addr2line")
+    command = command_for_lines()
     if command is None:
         return {}
     words = [command, "-f", "-C", "-e", path, *map(hex, addresses)]
@@ -379,9 +383,6 @@ def reading(pids: Sequence[int], number: int) -> Iterator[Row]:
     """Yields the rows of one reading."""
     began = time.time()
     rows = [row_of_rank(pid) for pid in pids]
-    if number == 1:
-        with contextlib.suppress(ImportError):  # (where only this file of the tools is)
-            importlib.import_module("cmh_mpi_code").add_ahead(rows)
     ended = time.time()
     add_places(rows)
     yield {"reading": number, "time": [began, ended]}
@@ -413,6 +414,9 @@ def main() -> int:
     except LookupError as error:
         print(f"cmh_mpi_reader: {error.args[0]}", file=sys.stderr)
         return 1
+    if command_for_lines() is None:
+        print("cmh_mpi_reader: lines of source can't be named: addr2line isn't there (Debian: apt-get install "
+              "binutils)", file=sys.stderr)
     sys.stdout.write(text)
     return 0
 

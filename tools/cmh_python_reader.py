@@ -6,7 +6,7 @@
 `py-spy dump --nonblocking` reads the memory of a process, and stops nothing. gdb stops it while it reads it: its
 command py-bt needs the symbols of that very Python (Debian: python3-dbg). The kernel's counts of each thread, which
 show that it was at one wait, are read after the first stack and before the second, and its call before each. It needs
-Python 3.8, and cmh_linux.py beside it. The state has names of functions, files and threads: look at it before you mail
+Python 3.8, and cmh_linux beside it. The state has names of functions, files and threads: look at it before you mail
 it.
 """
 from __future__ import annotations
@@ -22,7 +22,7 @@ import sys
 import time
 from typing import Any, Dict, List, Sequence, Tuple
 
-import cmh_linux
+from cmh_linux.calls import calls_of
 
 Row = Dict[str, Any]
 
@@ -64,7 +64,7 @@ def named(words: List[str]) -> Row:
     """A call of the kernel by its name, with its arguments, or nothing of one that is in none."""
     if len(words) < 7 or not words[0].isdigit():
         return {}
-    names = cmh_linux.calls_of(platform.machine())
+    names = calls_of(platform.machine())
     return {"call": names.get(int(words[0]), words[0]), "args": words[1:7]}
 
 

@@ -5,48 +5,53 @@ docs/answer.schema.json says what each key is. Each process is one row of `proce
 from __future__ import annotations
 
 import json
-from typing import Any, Dict, Iterable, List, Optional
+from collections import Counter
+from typing import Any, Dict, Iterable, List, Optional, Sequence
 
 from . import VERSION
-from .findings import NOT_STUCK, STUCK, UNDECIDED, Findings, Verdicts
+from .cures import Cures, words_of
+from .explain import Explanation
+from .findings import LIKELY, NOT_STUCK, STUCK, UNDECIDED, Findings
 from .program import identity
 from .reasons import Reason
-from .sketch import ALL, ANY, ENDED, FACT, PREMISE, number_of_guess
+from .model import Anybody, Wakers
+from .sketch import ALL, ANY, ENDED, FACT, PREMISE, Process
 
-FORMAT = 1  # no key is dropped while it stays, nor does one get another meaning; new ones may come
+FORMAT = 2  # no key is dropped while it stays, nor does one get another meaning; new ones may come
+LONG = 20  # names in a list; one that is longer stands once, if several waits have it
 Tree = Dict[str, Any]
 
 
-def answer(found: Findings, noted: Optional[str] = None, at: Optional[int] = None) -> Tree:
+def answer(found: Explanation, noted: Optional[str] = None, at: Optional[int] = None) -> Tree:
     """Returns the answer as a tree. `noted` is the SHA-256 of the program that the notes name, `at` who is asked for by
     --why."""
-    roots = range(len(found.roots.roots))
+    roots, hubs = range(len(found.roots.roots)), {key: list_name(found, at) for key, at in found.waits.hubs.items()}
+    lists = SharedLists(found.original.sketch.processes, hubs)
     return {
         "version": FORMAT,
         "made_by": f"cmh-explain {VERSION}",
         "program": {**identity(), "noted_sha256": noted},
         "status": found.status(),
-        "verdict": found.certain.worst(),
-        "is_all_idle": found.are_all_idle(),
+        "headline": found.headline.value,
         "counts": counts_of(found),
-        "counts_without_guesses": verdict_counts(found.certain) if found.guesses else None,
         "system": found.dump.sketch.system,
         "as_of": found.dump.sketch.as_of,
         "readings": found.dump.sketch.readings,
         "roots": [root_row(found, number) for number in roots],
+        "doubts": doubt_rows(found),
+        "cures": cure_rows(found),
         "still_stuck": names(found, found.left_over),
         "unknown": unknown_rows(found),
         "proposals": proposal_rows(found),
         "limits": limit_rows(found),
         "premises": [{"name": it.name, "text": it.text, "processes": it.number} for it in reasons(found, PREMISE)],
         "facts": fact_rows(found),
-        "guesses": guess_rows(found),
         "warnings": list(found.dump.sketch.warnings),
         "cut": cut_of(found),
         "why": None if at is None else why_row(found, at),
-        "lists": {list_name(found, at): names(found, found.waits.left[at])
-                  for at in range(found.waits.number, len(found.waits.left))},
-        "processes": process_rows(found),
+        "lists": {**{list_name(found, at): names(found, found.waits.all_left(at))
+                     for at in range(found.waits.number, len(found.waits.left))}, **lists.names()},
+        "processes": process_rows(found, lists),
     }
 
 
@@ -69,12 +74,9 @@ def names(found: Findings, some: Iterable[int]) -> List[str]:
 def counts_of(found: Findings) -> Dict[str, int]:
     """Returns how many there are of each. Those that have ended are none of `processes`, as in the text."""
     ended = len(found.ended)
-    return {"processes": len(found.waits.processes) - ended, **verdict_counts(found), "running": len(found.running()),
+    return {"processes": len(found.waits.processes) - ended, STUCK: len(found.certain.stuck), LIKELY: len(found.likely),
+            UNDECIDED: len(found.undecided), NOT_STUCK: len(found.well), "running": len(found.running()),
             ENDED: ended, "roots": len(found.roots.roots)}
-
-
-def verdict_counts(found: Verdicts) -> Dict[str, int]:
-    return {STUCK: len(found.stuck), UNDECIDED: len(found.undecided), NOT_STUCK: len(found.well)}
 
 
 def cut_of(found: Findings) -> Dict[str, int]:
@@ -92,7 +94,8 @@ def root_row(found: Findings, number: int) -> Tree:
     sites, is_some_unsaid = found.sites(members)
     return {
         "root": number + 1,
-        "if_guesses": found.rests_on_guesses(members),
+        "is_certain": found.is_certain(number),
+        "doubts": [doubt.number for doubt in found.doubts_of(members)],
         "is_cycle": bool(found.cycle(number)),
         "members": names(found, members),
         "behind": names(found, behind),
@@ -103,6 +106,13 @@ def root_row(found: Findings, number: int) -> Tree:
     }
 
 
+def cure_rows(found: Explanation) -> List[Tree]:
+    """Returns what breaks all roots."""
+    cures = Cures(found)
+    return [{"units": cure.units, "is_all": cure.is_all, "roots": [number + 1 for number in cure.roots],
+             "says": words_of(cures, cure)} for cure in cures.least()]
+
+
 def reason_rows(some: Iterable[Reason]) -> List[Tree]:
     return [{"kind": it.kind, "name": it.name, "text": it.text, "processes": it.number} for it in some]
 
@@ -110,33 +120,61 @@ def reason_rows(some: Iterable[Reason]) -> List[Tree]:
 # Processes
 
 
-def process_rows(found: Findings) -> List[Tree]:
+class SharedLists:
+    """The lists of wakers that are long and stand in several waits, each once with a name, which is that of its hub if
+    it has one."""
+
+    def __init__(self, processes: Sequence[Process], hubs: Dict[int, str]) -> None:
+        found = [wakers for process in processes for part in process.parts for wakers in part]
+        counts = Counter(id(wakers.who) for wakers in found)
+        self.lists = {id(wakers.who): wakers.names() for wakers in found
+                      if counts[id(wakers.who)] > 1 and len(wakers.names()) > LONG}
+        self.called = {key: hubs.get(key) or f"wakers {number}" for number, key in enumerate(self.lists, 1)}
+
+    def names(self) -> Dict[str, List[str]]:
+        return {self.called[key]: list(names) for key, names in self.lists.items()}
+
+    def row(self, wakers: Wakers) -> Tree:
+        """Returns the row of some wakers: their names, null for anybody, or the name of their list."""
+        names = None if isinstance(wakers.who, Anybody) else list(wakers.who) if id(wakers.who) not in self.lists else \
+            self.called[id(wakers.who)]
+        return {"who": names, "how": wakers.how, "strength": wakers.strength.value, "because": list(wakers.because)}
+
+
+def process_rows(found: Findings, lists: SharedLists) -> List[Tree]:
     ends = found.ends()
-    return [process_row(found, at, ends.get(at)) for at in range(found.waits.number)]
+    return [{**process_row(found, at, ends.get(at)),
+             "wakers": [list(map(lists.row, part)) for part in found.original.sketch.processes[at].parts]}
+            for at in range(found.waits.number)]
 
 
 def process_row(found: Findings, at: int, end: Optional[int]) -> Tree:
-    """Returns the row of a process. `end` is who may unblock it in the end, if it isn't stuck."""
+    """Returns the row of a process, but for its wakers. `end` is who may unblock it in the end, if it isn't stuck."""
     process, waits, root = found.process(at), found.waits, found.roots.root_of.get(at)
-    has_list = waits.has_hub(at)
-    waits_for = waits.left[at] if process.kind in (ANY, ALL) and not has_list else []
+    shared = waits.list_of(at)
+    kept = set(waits.without_hubs(waits.left_of(at)))
+    one_of = [it for it in waits.left[at] if it >= waits.number] if process.kind == ALL and shared is None else []
+    nodes = [it for it in waits.left[at] if it < waits.number] if one_of else waits.all_left(at)
+    others = [] if shared is not None or process.kind not in (ANY, ALL) else nodes
+    waits_for = [it for it in others if process.kind == ALL or it in kept]
     return {
         "name": process.name,
         "verdict": found.verdict(at),
-        "if_guesses": at in found.if_guesses,
         "root": None if root is None else root + 1,
         "behind": [it + 1 for it in found.roots.above.get(at, ())] if root is None else [],
         "kind": process.kind,
         "waits_for": names(found, waits_for),
-        "waits_for_list": list_name(found, waits.left[at][0]) if has_list else None,
+        "waits_for_list": list_name(found, shared) if shared is not None else None,
+        "one_of": [list_name(found, it) for it in one_of],
+        "besides": names(found, [it for it in others if process.kind != ALL and it not in kept]),
         "in_transit_from": names(found, sorted(waits.senders[at])),
         "site": process.site,
         "note": found.place(at),
         "frames": process.frames,
         "operation": process.operation,
         "objects": process.objects,
+        "sign": process.sign.value,
         "reason": process.reason,
-        "is_idle": process.is_idle,
         "rests_on": process.because,
         "goes_on": found.goes_on(at),
         "unblocked_by": None if end is None else found.process(end).name,
@@ -176,7 +214,7 @@ def fact_rows(found: Findings) -> List[Tree]:
     """Returns the facts that were used, with the names that each of their words took, and how many rest on each."""
     counts = {it.name: it.number for it in reasons(found, FACT)}
     return [{"at": row["at"], "text": row["text"], "took": row["took"], "processes": counts.get(row["at"], 0)}
-            for row in found.dump.sketch.facts if not number_of_guess(row)]
+            for row in found.dump.sketch.facts]
 
 
 def limit_rows(found: Findings) -> List[Dict[str, Any]]:
@@ -184,7 +222,9 @@ def limit_rows(found: Findings) -> List[Dict[str, Any]]:
     return [{"fact": line, "names": [it.name for it in some]} for line, some in found.limited()]
 
 
-def guess_rows(found: Findings) -> List[Tree]:
-    """Returns the guesses on which any process rests, with the names that each of their words took."""
-    return [{"guess": int(it.name), "text": it.text, "took": found.rests.took_by(it), "processes": it.number}
-            for it in found.guesses]
+def doubt_rows(found: Explanation) -> List[Tree]:
+    """Returns the doubts on which it hangs that some are likely to be stuck."""
+    return [{"number": doubt.number, "who": list(doubt.who), "how": doubt.how,
+             "sign": None if doubt.sign is None else doubt.sign.value, "waits": list(doubt.waits),
+             "says": found.doubt_words(doubt, [found.waits.index[name] for name in doubt.waits]),
+             "facts": list(doubt.lines)} for doubt in found.original.doubts]

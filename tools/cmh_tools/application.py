@@ -1,33 +1,30 @@
-"""Facts that are applied to a sketch: once, for all recorders alike."""
+"""Facts that are applied to a sketch, once, for all systems alike: they change who may end a wait. What a fact says and
+what the state shows of a wait is intersected."""
 from __future__ import annotations
 
 import re
-from typing import Container, Dict, Iterable, List, Optional, Set, Tuple
+from typing import Dict, Iterable, List, Optional, Set, Tuple
 
-from .bounds import take_bounds
-from .facts import HOLDS, OTHERS, RELATIVES, Fact, Facts, families, fill_in, has_others, is_others
-from .files import shown
-from .idle import has_fact
-from .moments import GROWN, POLLED
+from .facts import HOLDS, OTHERS, RELATIVES, Fact, Facts, families, fill_in, is_others
+from .files import short_name
+from .model import COMES, Anybody, Part, Sign, Strength, Wakers, all_of, any_of, unseen, wakers
 from .places import SPECIAL, VARIABLE, is_like, may_meet
 from .proposals import frame_name
-from .sketch import (ALL, ANY, DONE, ENDED, LIMIT, NEEDED, REST, RUNS, SYSTEM, UNKNOWN, WORK, Process, Sketch,
-                     near_name, premise, quote)
+from .sketch import (ANY, DONE, GOING, LIMIT, NEEDED, REST, UNKNOWN, WAITING, WORK, Process, Sketch, near_name,
+                     premise, quote)
 
 TIMED = "timed "  # before the operation of a wait with a limit
+UNCOUNTED, UNSHOWN = "uncounted", "unshown"  # hows that a fact may settle
+STARTERS = "starters"  # before the name of a process, the group of those who may start more like it
+POLLED = "it looks only now and then, so what it waits for may have come already"
 SHOWN = 5  # names in a reason
 Found = List[Tuple[Process, Optional[Fact]]]  # processes, each with the fact on its wait, if there is one
 
 
 def apply(facts: Facts, sketch: Sketch) -> None:
-    """Decides who is unknown in the sketch, and widens calls that others may answer. Adds to its warnings which facts
-    matched nothing, or name nobody."""
+    """Changes by facts who may end the waits of a sketch. Adds to its warnings which facts matched nothing, or name
+    nobody."""
     Application(facts, sketch).run()
-
-
-def apply_guesses(facts: Facts, sketch: Sketch) -> None:
-    """Has guesses decide who is unknown, once the facts are applied."""
-    Application(facts, sketch).guess()
 
 
 class Names:
@@ -38,8 +35,7 @@ class Names:
         self.names = {process.name: None for process in sketch.processes}
         self.at_frames = {frame_name(each): process.name for process in sketch.processes for each in process.frames}
         self.families = families(self.names)
-        self.others = [it.name for it in sketch.processes if it.is_there() and it.name not in facts.spared
-                       and not (it.kind == RUNS and it.proposal == "nobody")]
+        self.others = [it.name for it in sketch.processes if it.is_there()]
         self.holders: Dict[str, Dict[str, None]] = {}
         self.holding: Dict[str, Dict[int, Fact]] = {}  # the facts by which something is held, by their lines
         self.lists: Dict[Tuple[str, Tuple[str, ...]], Tuple[List[str], str]] = {}
@@ -129,69 +125,53 @@ class Application:
     def __init__(self, facts: Facts, sketch: Sketch) -> None:
         self.facts, self.sketch, self.names = facts, sketch, Names(facts, sketch)
         self.at_rest: Set[str] = set()
+        self.missing = [it.name for it in sketch.processes if it.frames == [REST]]
         # By operation and meeting, who is at a collective one: with its fact, and what tells the circle that it needs.
         self.here: Dict[Tuple[str, str], Dict[str, Tuple[Optional[Fact], object]]] = {}
+        self.started: Dict[Tuple[int, ...], List[str]] = {}  # by the ids of lists, all who are in them
         self.meetings: Dict[int, Set[str]] = {}  # by the line of a fact, at what those whom it is on wait
         self.by_line: Dict[int, Set[str]] = {}  # by the line of a fact, whom it is on
 
     def run(self) -> None:
         self.facts.find_bystanders(self.sketch)
         found = self.undecided()
-        self.meet(found)
-        self.decide_all(found, found)
-        self.settle(self.sketch.processes)
-        take_bounds(self.sketch, self.facts)
-        self.note_facts()
-        self.sketch.warnings += self.facts.unused_lines(self.sketch)
-
-    def guess(self) -> None:
-        """Decides those whom a guess is for, beside those whom facts have decided."""
-        found = self.undecided()
-        decided = [it for it in self.sketch.processes if it.is_collective and has_fact(it)]
-        self.meet([*found, *((process, self.facts.wait(process)) for process in decided)])
-        guessed = [it for it in found if it[1] is not None and it[1].is_guess]
-        self.decide_all(found, guessed)
-        self.settle([process for process, _ in guessed])
-        self.note_facts({row["at"] for row in self.sketch.facts})
-
-    def meet(self, found: Found) -> None:
-        """Notes who is at which collective operation, each with the fact on its wait."""
-        for process, fact in found:
-            if process.is_collective:
-                self.here_with(process)[process.name] = fact, self.circle(process, fact)
-
-    def decide_all(self, undecided: Found, found: Found) -> None:
-        """Decides some of those who are undecided."""
-        self.at_rest = {process.name for process, _ in undecided if process.is_idle and process.reason == WORK}
-        for process, fact in found:
-            if fact is not None and not fact.has_variables():
-                self.meetings.setdefault(fact.at, set()).add(process.meeting)
-                self.by_line.setdefault(fact.at, set()).add(process.name)
+        self.at_rest = {it.name for it in self.sketch.processes if it.sign is Sign.RESTS and it.reason == WORK}
+        self.note_places(found)
         for process, fact in found:
             self.decide(process, fact)
+        for process in self.sketch.processes:
+            self.widen(process)
+        for process in self.sketch.processes:
+            self.settle_doubt(process)
+        drop_missing(self.sketch)
+        drop_bystanders(self.facts, self.sketch)
+        self.note_facts()
+        self.sketch.warnings += self.facts.unused_lines(self.sketch)
 
     def undecided(self) -> Found:
         """Returns those whom facts may decide, each with the fact on its wait, if there is one."""
         return [(process, self.facts.wait(process)) for process in self.sketch.processes if self.is_undecided(process)]
 
-    def settle(self, processes: List[Process]) -> None:
-        """Does for some processes what comes after their waits."""
-        for process in processes:
-            self.widen(process)
-        for process in processes:
-            self.settle_doubt(process)
+    def note_places(self, found: Found) -> None:
+        """Notes who is at which collective operation, each with the fact on its wait, and which lines are on whom."""
+        for process, fact in found:
+            if process.is_collective:
+                self.here_with(process)[process.name] = fact, self.circle(process, fact)
+            if fact is not None and not fact.has_variables():
+                self.meetings.setdefault(fact.at, set()).add(process.meeting)
+                self.by_line.setdefault(fact.at, set()).add(process.name)
 
-    def note_facts(self, known: Container[str] = ()) -> None:
-        """Has the facts in the sketch that were used, but for those that are known there."""
-        path, guesses = self.facts.path, [*self.facts.guesses.values(), *self.facts.spared.values()]
-        found = [*self.facts.facts, *filter(None, [self.facts.still]), *{it.at: it for it in guesses}.values()]
-        self.sketch.facts += [fact.row(path) for fact in found if fact.used and fact.called(path) not in known]
+    def note_facts(self) -> None:
+        """Has the facts in the sketch that were used."""
+        found = [*self.facts.facts, *filter(None, [self.facts.still])]
+        self.sketch.facts += [fact.row(self.facts.path) for fact in found if fact.used]
 
     def is_undecided(self, process: Process) -> bool:
-        """Whether a fact may decide a process: an unknown one, or by a fact on 'timed' calls one with a limit."""
-        if process.is_spoilt or process.kind == UNKNOWN:
-            return not process.is_spoilt
-        if process.kind != RUNS or premise(LIMIT) not in process.because or not process.operation.startswith(TIMED):
+        """Whether a fact may decide a process: one whose wait the state doesn't show, or shows by mere reach, or by a
+        fact on 'timed' calls one with a limit."""
+        if process.is_garbled or process.sign not in GOING:
+            return not process.is_garbled and is_undecided(process)
+        if premise(LIMIT) not in process.because or not process.operation.startswith(TIMED):
             return False
         fact = self.facts.wait(process)
         return fact is not None and fact.place.operation.startswith(TIMED.strip())
@@ -201,47 +181,55 @@ class Application:
         if fact is None:
             self.wait_for_holders(process)
             return
-        because, was_timed = [self.facts.reason(fact)], process.kind == RUNS
         if fact.kind == "runs":
-            process.decide(RUNS, because, reason=f"{'a guess' if fact.is_guess else 'a fact'} says so")
+            process.become(Sign.GOES_ON, "a fact says so", [self.facts.reason(fact)])
         elif fact.kind == "ended":
-            process.decide(ENDED, because, reason=NEEDED if fact.words else DONE)
-        else:
-            self.decide_wait(process, fact, because, was_timed)
-        if process.kind != UNKNOWN:
-            fact.decided.append(process.name)
-
-    def decide_wait(self, process: Process, fact: Fact, because: List[str], was_timed: bool) -> None:
-        """Sets whom one waits for by a fact. One that only waits again may have been sent what it will see next time:
-        no count tells, but the line `still`."""
-        whom, fault = ([], "") if fact.kind == "nobody" else self.names.of_fact(fact, process)
-        if not fault and whom == [process.name] and has_others(fact.words) and (self.facts.spared or process.scope):
-            fault = "nobody else is there but those who are likely to end nobody's wait"
-        if not fault and fact.kind == "all" and not process.is_collective and len(self.meetings.get(fact.at, ())) > 1:
-            fault = (f"line {fact.at} of the facts names one list for several that may wait at different objects: 'of "
-                     "NAME' before the operation, or the object after it, tells them apart")
-        elif not fault and fact.kind == "all":
-            whom, fault = self.left_of(process, fact, whom)
-        if fault:
-            if not fact.is_guess:  # (what a guess lacks is nothing that people have to mend)
-                process.become_unknown(fault)
+            process.become(Sign.ENDED, NEEDED if fact.words else DONE, [self.facts.reason(fact)])
+        elif not self.decide_wait(process, fact):
             return
-        process.because = [] if was_timed else process.because
-        for spared in self.facts.spared.values() if has_others(fact.words) else ():
-            spared.used = True
-            spared.decided.append(process.name)
-            because.append(self.facts.reason(spared))
-        process.decide(ALL if fact.kind == "all" else ANY, because)
-        process.whom = whom  # (the same list for all that wait alike)
-        process.is_open = process.is_open or self.names.is_open(fact, process)
-        process.doubt = POLLED if was_timed else process.doubt
+        fact.decided.append(process.name)
+
+    def decide_wait(self, process: Process, fact: Fact) -> bool:
+        """Sets who ends the wait of one by a fact, and returns whether the fact says that. One that only waits again
+        may have been sent what it will see next time: no count tells, but the line `still`."""
+        whom, fault = ([], "") if fact.kind == "nobody" else self.names.of_fact(fact, process)
+        if not fault and fact.kind == "all":
+            whom, fault = self.left_of(process, fact, whom) if process.is_collective or len(
+                self.meetings.get(fact.at, ())) <= 1 else ([], several(fact))
+        if not fault and fact.kind != "nobody":
+            whom, fault = intersected(process, fact, whom)
+        if fault:
+            doubt(process, fault)
+            return False
+        kept = kept_wakers(process)
+        if process.sign in GOING:
+            process.because, kept = [], (unseen(UNCOUNTED, POLLED),)
+        if self.names.is_open(fact, process):
+            kept += (wakers("left-out", self.missing),) if self.missing else ()
+            # Who has a lock is there already.
+            kept += () if fact.kind == "all" or process.operation.endswith("Lock") else tuple(self.starters(whom))
+        because = self.facts.reason(fact)
+        parts = all_of(whom, COMES, because, beside=kept) if fact.kind == "all" else \
+            any_of(*([said(whom, because)] if whom else []), *kept)
+        process.wait_for(parts, [because])
+        return True
+
+    def starters(self, whom: List[str]) -> List[Wakers]:
+        """Returns those who may start more like some, whom a pattern found, where the system says who they are."""
+        lists = {id(some): some for some in (self.sketch.groups.get(f"{STARTERS}:{name}") for name in whom) if some}
+        key = tuple(lists)
+        if key not in self.started:
+            self.started[key] = list(dict.fromkeys(name for some in lists.values() for name in some
+                                                   if name in self.names.names))
+        return [wakers("starts", self.started[key])] if self.started[key] else []
 
     def left_of(self, process: Process, fact: Fact, whom: List[str]) -> Tuple[List[str], str]:
         """Returns those of a list of all that have not come, and what is wrong with it. Who holds something has not let
         go of it, wherever it stands."""
-        if process.is_collective and fact.group and process.name not in whom:
+        is_collective = process.is_collective
+        if is_collective and fact.group and process.name not in whom:
             return [], f"it isn't in the group {quote(fact.group)} of line {fact.at} of the facts itself"
-        here = self.here_with(process) if process.is_collective else {}
+        here = self.here_with(process) if is_collective else {}
         mine = self.circle(process, fact)
         come = self.at_rest | {name for name, (_, circle) in here.items() if circle == mine}
         held = {name: word for word in self.names.words(fact, process) if word.startswith("@")
@@ -250,23 +238,20 @@ class Application:
         if process.name in held:
             return [], (f"by the facts it holds {quote(held[process.name])} itself, of line {fact.at}: if it does, it "
                         "waits for ever, and 'nobody' says so; if not, a line that names its place better does")
-        if not process.is_collective and whom != [process.name] and process.name in self.names.words(fact, process) \
-                and self.is_for_one(fact):
+        if not is_collective and whom != [process.name] and process.name in self.names.words(fact, process) \
+                and len(self.by_line.get(fact.at, ())) == 1:
             return [], (f"line {fact.at} of the facts names it itself: if it waits for itself it waits for ever, and "
                         "'nobody' says so; if not, it doesn't belong there")
         left = [name for name in whom if name not in come and name != process.name]
         elsewhere = next((name for name in left if name in here and not are_told_apart(fact, here[name][0])), None)
         if elsewhere:
-            return [], (f"{shown(elsewhere)} stands at {process.operation} too, by another line: a group of facts "
+            return [], (f"{short_name(elsewhere)} stands at {process.operation} too, by another line: a group of facts "
                         "would say whether it has come to the same one")
         if not left and whom == [process.name] and process.name not in come:
             return whom, ""
         if not left:
             return [], f"all that line {fact.at} of the facts names have come themselves or wait for work"
         return left, ""
-
-    def is_for_one(self, fact: Fact) -> bool:
-        return len(self.by_line.get(fact.at, ())) == 1
 
     def here_with(self, process: Process) -> Dict[str, Tuple[Optional[Fact], object]]:
         return self.here.setdefault((process.operation, process.meeting), {})
@@ -281,112 +266,169 @@ class Application:
         return frozenset([process.name, *self.names.of_fact(fact, process)[0]])
 
     def wait_for_holders(self, process: Process) -> None:
-        """One that waits at what others hold by facts waits for any of these. What may end its wait and is held by
-        nobody leaves it unknown."""
-        at = [what for what in process.objects if what in self.names.holders]
-        at += [what for what in self.names.holders if what not in at and is_end(process, what)]
-        free = [key for key, end in process.ends.items() if not any(is_key(what, key, end) for what in at)]
+        """One that waits at what others hold by facts waits for any of these. What nobody holds may be anybody's."""
+        keys = [some for part in process.parts for some in part if some.what]
+        held = {some.what: [what for what in self.names.holders if self.is_key(what, some.what)] for some in keys}
+        objects = [what for what in process.objects if what in self.names.holders]
+        found = dict.fromkeys([*objects, *(what for some in held.values() for what in some)])
         gone = next((fact for fact in self.facts.facts if fact.kind == HOLDS and not fact.used
-                     and is_end(process, fact.words[0])), None)
-        if free and process.likely:
-            held = [name for what in at for name in self.names.holders[what]]
-            process.decide(ANY, [SYSTEM], list(dict.fromkeys([*filter(process.likely.get, process.likely), *held])))
-            process.besides = [*process.besides, *process.likely]
-            process.is_open = True
-        elif free:
-            process.reason = f"nobody is known by facts to hold {quote(free[0])}"
-            process.proposal, process.candidates = "holds", free
-        elif gone is not None:
-            process.reason = f"nobody is there that line {gone.at} of the facts says to hold {quote(gone.words[0])}"
-        elif at:
-            self.let_wait(process, at)
+                     and any(self.is_key(fact.words[0], key) for key in held)), None)
+        if gone is not None:
+            doubt(process, f"nobody is there that line {gone.at} of the facts says to hold {quote(gone.words[0])}")
+            return
+        free = next((key for key, some in held.items() if not some), None)
+        if free is not None and found:
+            process.reason = f"nobody is known by facts to hold {quote(free)}"
+        if found:
+            self.let_wait(process, list(found), [some for some in keys if not held[some.what]])
 
-    def let_wait(self, process: Process, at: List[str]) -> None:
-        """Sets that one waits for any of those that hold something by facts."""
-        facts = sorted({fact.at: fact for what in at for fact in self.names.holding[what].values()}.items())
-        whom = [name for what in at for name in self.names.holders[what]]
-        process.decide(ANY, [self.facts.reason(fact) for _, fact in facts], whom)
-        process.is_open = True
+    def is_key(self, what: str, key: str) -> bool:
+        """Whether what is held fits a key that ends a wait: by an expression of the system for it, or as a pattern of
+        keys itself."""
+        words = what.split(".")
+        is_pattern = "*" in words or "#" in words
+        return any(re.fullmatch(expression, what) for expression in self.sketch.groups.get(f"key:{key}", ())) \
+            or is_pattern and may_meet(tuple(words), tuple(key.split(".")))
+
+    def let_wait(self, process: Process, objects: List[str], free: List[Wakers]) -> None:
+        """Sets that one waits for any of those that hold something by facts, or that hold what is free."""
+        facts = sorted({fact.at: fact for what in objects for fact in self.names.holding[what].values()}.items())
+        because = [self.facts.reason(fact) for _, fact in facts]
+        whom = list(dict.fromkeys(name for what in objects for name in self.names.holders[what]))
+        known = [some for part in process.parts for some in part if some.strength in (Strength.NAMED, Strength.ABLE)
+                 and some.how == "listed"]
+        left_out = (wakers("left-out", self.missing),) if self.missing else ()
+        process.wait_for(any_of(*known, said(whom, *because), *free, *kept_wakers(process), *left_out), because)
         for _, fact in facts:
             fact.decided.append(process.name)
 
     def widen(self, process: Process) -> None:
         """Adds who else may answer, to a call that is known or whose object names whom it called."""
         called = process.whom if process.kind == ANY else []
-        if process.kind == UNKNOWN and not process.is_spoilt:
+        if process.kind == UNKNOWN and not process.is_garbled:
             called = [name for name in process.objects if name in self.names.names]
         fact = self.facts.also(process) if called else None
         if fact is None:
             return
         more, fault = self.names.of_fact(fact, process)
         if fault:
-            process.become_unknown(fault)
-        else:
-            process.decide(ANY, [self.facts.reason(fact)], list(dict.fromkeys([*called, *more])))
-            process.is_open = process.is_open or self.names.is_open(fact, process)
-            fact.decided.append(process.name)
+            doubt(process, fault)
+            return
+        because = self.facts.reason(fact)
+        left_out = (wakers("left-out", self.missing),) if self.names.is_open(fact, process) and self.missing else ()
+        process.wait_for(any_of(said(list(dict.fromkeys([*called, *more])), because), *kept_wakers(process), *left_out),
+                         [because])
+        fact.decided.append(process.name)
 
     def settle_doubt(self, process: Process) -> None:
-        """Leaves one unknown whose states may show two waits, unless a fact says that nothing moves."""
-        if not process.doubt or process.kind not in (ANY, ALL):
-            return
+        """Settles by the line `still` that nothing has ended a wait between the looks."""
         still = self.facts.still
-        if still is not None and process.doubt != GROWN:
-            still.used, process.doubt = True, ""
-            process.because.append(self.facts.reason(still))
-            still.decided.append(process.name)
+        if still is None or process.sign not in WAITING or not has_how(process, UNCOUNTED):
             return
-        kind = "any" if process.kind == ANY else "all"
-        some = ", ".join(map(shown, process.whom[:SHOWN])) + (" .." if process.whom[SHOWN:] else "")
-        process.proposal = "still" if process.doubt != GROWN else "none"
-        says = "a guess" if process.is_guessed() else "its place"
-        process.become_unknown(f"{process.doubt}; {says} says that it waits for {kind} of {some or 'nobody'}")
+        still.used = True
+        process.parts = [tuple(some for some in part if some.how != UNCOUNTED) for part in process.parts]
+        if process.sign is Sign.BLOCKED or not process.is_open():  # (one with nothing to do is left out as before)
+            process.because = [*process.because, self.facts.reason(still)]
+            still.decided.append(process.name)
+
+
+def is_undecided(process: Process) -> bool:
+    """Whether the state doesn't show who ends the wait of one, or shows by mere reach who may."""
+    if process.sign is Sign.UNKNOWN:
+        return True
+    return process.sign in WAITING and (not process.parts or any(
+        some.how in OPEN or some.what or is_anybody(some) for part in process.parts for some in part))
+
+
+def is_anybody(some: Wakers) -> bool:
+    """Whether somebody may end a wait whom the state doesn't name, and a fact may."""
+    return isinstance(some.who, Anybody) and some.how != UNCOUNTED
+
+
+# Hows by which one may end a wait, and needn't, and those of somebody who isn't in the state.
+OPEN = {"reaches", "same-process", "inside", "guess", UNSHOWN, "outside", "to-come"}
+
+
+def has_how(process: Process, how: str) -> bool:
+    return any(some.how == how for part in process.parts for some in part)
+
+
+THERE = {"repeats", "finalizes"}  # hows by which one would end a wait as those do whom a fact names
+
+
+def kept_wakers(process: Process) -> Part:
+    """Returns the wakers of a wait that a fact on it leaves as they are: those that end it in another way, and who may
+    have ended it between the looks."""
+    return tuple({(id(some.who), some.how): some for part in process.parts for some in part
+                  if some.strength is Strength.AGAINST and some.how not in THERE or some.how == UNCOUNTED}.values())
+
+
+def intersected(process: Process, fact: Fact, whom: List[str]) -> Tuple[List[str], str]:
+    """Returns those of whom a fact speaks who may end the wait by the state too, where this has all who may."""
+    if process.sign not in WAITING or process.is_open() or not process.parts:
+        return whom, ""
+    able = {name for part in process.parts for some in part for name in some.names()
+            if some.strength in (Strength.NAMED, Strength.ABLE)}
+    left = [name for name in whom if name in able]
+    if whom and not left:
+        return [], f"line {fact.at} of the facts names nobody who may end this wait by the state"
+    return left, ""
+
+
+def said(whom: List[str], *because: str) -> Wakers:
+    """Those who end a wait by the facts: the one who is needed, or able ones."""
+    return Wakers(whom, Strength.NAMED if len(whom) == 1 else Strength.ABLE, "said", because)
+
+
+def doubt(process: Process, fault: str) -> None:
+    """Says of a wait that a fact on it names nobody, so that anybody may end it."""
+    process.reason = fault
+    process.parts = [(*part, unseen(UNSHOWN, fault)) for part in process.parts]
+
+
+def several(fact: Fact) -> str:
+    return (f"line {fact.at} of the facts names one list for several that may wait at different objects: 'of NAME' "
+            "before the operation, or the object after it, tells them apart")
+
+
+def drop_missing(sketch: Sketch) -> None:
+    """Takes those out of all lists whom a state may lack, if a fact says that none of them matters."""
+    gone = {it.name for it in sketch.processes if it.frames == [REST] and it.sign is not Sign.UNKNOWN}
+    for process in sketch.processes if gone else ():
+        process.parts = [tuple(left for left in (some.without(gone) for some in part) if left.names() or left.who)
+                         for part in process.parts]
 
 
 def drop_bystanders(facts: Facts, sketch: Sketch) -> None:
-    """Takes those out of the lists of others, where one of several is enough, that end no such wait by the facts. A
+    """Takes those out of the wakers of others, where one of several is enough, that end no such wait by the facts. A
     list of such ones alone stays: who waits for them waits for their own end, as a join does."""
-    kept: Dict[Tuple[int, int], List[str]] = {}  # by the ids of a list and of who is taken out, what is left of it
+    kept: Dict[Tuple[int, int], Wakers] = {}  # by the ids of a list and of who is taken out, what is left of it
     for process in sketch.processes if facts.bystanders or facts.bystanders_at else ():
         known = facts.bystanders_of(process)
-        for some in (process.whom, process.besides):
-            kept.setdefault((id(some), id(known)), [name for name in some if name not in known])
-        whom = kept[id(process.whom), id(known)] or process.whom
-        lists = [process.besides, *([process.whom] if process.kind == ANY and whom is not process.whom else [])]
-        gone = {known[name].at: known[name] for some in lists for name in some if name in known}
-        process.besides = kept[id(process.besides), id(known)]
-        process.whom = whom if process.kind == ANY else process.whom
-        for fact in gone.values() if process.kind in (ANY, ALL) else ():
+        gone: Dict[int, Fact] = {}
+        process.parts = [part_without(part, known, kept, gone) for part in process.parts]
+        for fact in gone.values() if process.sign in WAITING else ():
             process.because = [*process.because, facts.reason(fact)]
             fact.decided.append(process.name)
+
+
+def part_without(part: Part, known: Dict[str, Fact], kept: Dict[Tuple[int, int], Wakers],
+                 gone: Dict[int, Fact]) -> Part:
+    """Returns a part without bystanders, and notes the facts on those who were one of it."""
+    left: List[Wakers] = []
+    for some in part:
+        key = id(some.who), id(known)
+        if key not in kept:
+            kept[key] = some.without(known)
+        left.append(kept[key]._replace(strength=some.strength, how=some.how, because=some.because, what=some.what))
+    if not any(some.strength in (Strength.NAMED, Strength.ABLE) and some.names() for some in left):
+        left = [new if old.strength in (Strength.AGAINST, Strength.UNSEEN) else old for old, new in zip(part, left)]
+    for old, new in zip(part, left):
+        gone.update({known[name].at: known[name] for name in set(old.names()) - set(new.names())})
+    return tuple(new for old, new in zip(part, left) if new.names() or not old.names())
 
 
 def are_told_apart(fact: Fact, other: Optional[Fact]) -> bool:
     """Whether it is known of two that meet in no one operation by their facts: by groups, or by the names of one line.
     """
     return other is not None and (fact is other or fact.group != "" and other.group != "")
-
-
-def is_end(process: Process, what: str) -> bool:
-    """Whether one that holds this may end the wait of a process."""
-    return any(is_key(what, key, end) for key, end in process.ends.items())
-
-
-def is_key(what: str, key: str, end: str) -> bool:
-    """Whether what is held fits a key that ends a wait: by its expression, or as a pattern of keys itself."""
-    words = what.split(".")
-    is_pattern = "*" in words or "#" in words
-    return re.fullmatch(end, what) is not None or is_pattern and may_meet(tuple(words), tuple(key.split(".")))
-
-
-def add_left_out(sketch: Sketch) -> None:
-    """Adds to each list that was found by a search those that the state may lack, unless a fact says that none of them
-    matters."""
-    missing = [it.name for it in sketch.processes if it.frames == [REST] and (it.kind == UNKNOWN or it.is_guessed())]
-    longer: Dict[int, Tuple[List[str], List[str]]] = {}  # by the id of a list, it and what becomes of it
-    for process in sketch.processes:
-        if missing and process.is_open and process.kind in (ANY, ALL):
-            key = id(process.whom)
-            if key not in longer:
-                longer[key] = process.whom, list(dict.fromkeys([*process.whom, *missing]))
-            process.whom = longer[key][1]

@@ -4,7 +4,7 @@ from __future__ import annotations
 import contextlib
 import glob
 import os
-import pwd
+import re
 import shutil
 import signal
 import subprocess
@@ -13,11 +13,13 @@ import time
 from dataclasses import dataclass, field, replace
 from typing import Dict, Iterator, List, Optional, Sequence
 
-from .files import Failure, shown
+from .files import Failure, say, shown
+from .folder import user_of
 
 HOME = os.path.dirname(os.path.dirname(os.path.realpath(__file__)))
 PATIENCE = 10  # seconds in which a command that is ended puts away what it has begun
 REST = 1  # seconds in which a process goes on, or stands still, once its debugger has ended
+OURS = ("take-", "cmh_")  # how lines begin that our own scripts say, and no program that they run
 STOP = 1 << (signal.SIGSTOP - 1)  # in a mask of signals
 
 
@@ -42,9 +44,19 @@ SYSTEMS = {
                      "may return early"),
     "erlang": System("no process is held, but each while its own stack is printed",
                      {"erl": "erlang-nox", "erlc": "erlang-nox"}),
+    "mariadb": System("nothing is stopped: two statements that only read, of 2 s at most each, ask the server",
+                      {"mariadb": "mariadb-client"}),
     "mpi": System("gdb stops each rank in turn while it reads it: twice, some 0.6 s", {"gdb": "gdb"}),
+    "postgres": System("nothing is stopped: two statements that only read, of 2 s at most each, ask the server",
+                       {"psql": "postgresql-client"}),
     "rabbitmq": System("nothing is stopped: rabbitmqctl asks the broker", {"rabbitmqctl": "rabbitmq-server"}, True),
 }
+
+NAMELESS = ("mariadb", "postgres", "rabbitmq")  # systems that need no TARGET
+SERVERS = ("mariadb", "postgres")  # systems whose sessions wait for clients, and these for them
+# A password among the words for a server: in a key, which a URI may encode, or behind the name of the user.
+PASSWORD = re.compile(r"password\s*=|^postgres(ql)?://([^/@]*:[^/@]*@|[^?]*\?(.*&)?[^=&]*%[^=&]*=)|^[^/=]*:[^/=]*@",
+                      re.I)
 
 STACKS = {
     "eu-stack": "nothing is stopped but each process at a futex: once, some 0.04 s, while eu-stack reads its stacks",
@@ -52,7 +64,7 @@ STACKS = {
 }
 HEAP = ("the JVM collects its garbage, and then stops while it dumps its heap: 10.5 s for 2.4 GB that live then, which "
         "need as much room in $TMPDIR meanwhile; it also stops twice while it prints its threads")
-
+HEAP_NEEDS = {it: "default-jdk-headless" for it in ("jstack", "jcmd")}
 
 # The ways to Python processes that haven't loaded cmh_state.
 PYTHON_WAYS = {
@@ -79,7 +91,7 @@ class Capture:
         if self.command:
             return [*self.command, *self.targets]
         if self.system == "linux":
-            collector = [sys.executable, f"{HOME}/cmh_linux.py", "--seconds", f"{seconds:g}"]
+            collector = [sys.executable, f"{HOME}/cmh_linux", "--seconds", f"{seconds:g}"]
             collector += ["--stacks"] if self.has_stacks else []
             return [*collector, *(word for pid in self.targets for word in ("--pid", pid))]
         return [recipe(self.system), *(nodes_first(self.targets) if self.system == "erlang" else self.targets)]
@@ -112,8 +124,9 @@ def recipe(system: str) -> str:
 def check_needs(capture: Capture) -> None:
     """Raises Failure if a command is missing."""
     system = capture.system
-    for command, package in SYSTEMS[system].needs.items() if not capture.how else ():
-        if shutil.which(command) is None:
+    needs = HEAP_NEEDS if capture.how == HEAP else {} if capture.how else SYSTEMS[system].needs
+    for command, package in needs.items():
+        if shutil.which(command) is None and not (command == "mariadb" and shutil.which("mysql")):
             raise Failure(f"{command} is needed for {system}, and isn't there (Debian: apt-get install {package})")
     for pid in capture.targets if system == "jvm" and os.geteuid() else ():
         with contextlib.suppress(FileNotFoundError):
@@ -123,12 +136,8 @@ def check_needs(capture: Capture) -> None:
 def check_user(pid: str, owner: int) -> None:
     """Raises Failure if a JVM is of another user: it answers its own and root alone."""
     if owner != os.geteuid():
-        try:
-            user = pwd.getpwuid(owner).pw_name
-        except KeyError:
-            user = f"#{owner}"  # (as sudo has users by their numbers)
-        raise Failure(f"process {pid} is of another user, by whom a JVM has to be asked: sudo -u '{user}' cmh-stall "
-                      f"jvm {pid}")
+        raise Failure(f"process {pid} is of another user, by whom a JVM has to be asked: sudo -u '{user_of(owner)}' "
+                      f"cmh-stall jvm {pid}")
 
 
 def captures_for(system: str, targets: List[str], may_kill: bool, may_dump: bool) -> List[Capture]:
@@ -142,6 +151,26 @@ def captures_for(system: str, targets: List[str], may_kill: bool, may_dump: bool
     command = [sys.executable, f"{HOME}/cmh_python_reader.py", way]
     frames = Capture("python", targets, PYTHON_WAYS[way], command)
     return [frames, made] if way == "py-spy" else [frames]  # (gdb takes too long for both to be of one time)
+
+
+def fault_of(system: str, targets: Sequence[str]) -> str:
+    """Returns why words don't say whom to take, or nothing. A password isn't said again."""
+    if not targets and system not in NAMELESS:
+        return "whom to take isn't said"
+    if system in SERVERS and any(map(PASSWORD.search, targets)):
+        return "a password is on the command line, where all users see it: a file for passwords takes it"
+    return "one server is expected" if system in SERVERS and targets[1:] else ""
+
+
+def with_sockets(captures: List[Capture]) -> List[Capture]:
+    """Returns captures with what Linux sees of the clients of a server, whose connections it alone knows."""
+    systems = [capture.system for capture in captures]
+    clients = [pid for capture in captures if capture.system in ("jvm", "python") for pid in capture.targets
+               if pid.isdigit()]
+    if clients and "linux" not in systems and not set(SERVERS).isdisjoint(systems):
+        return [*captures, Capture("linux", list(dict.fromkeys(clients)), "its connections are read as the kernel "
+                                   "sees them, which stops nothing")]
+    return captures
 
 
 def with_stacks(capture: Capture) -> Capture:
@@ -281,21 +310,24 @@ class Running:
 
     def __init__(self, capture: Capture, seconds: float, env: Dict[str, str]) -> None:
         self.capture = capture
+        self.lacks: List[str] = []
         self.held = [pid for pid in capture.held() if not standstill(pid)]
         self.process = subprocess.Popen(
             capture.words(seconds), stdin=subprocess.DEVNULL, stdout=subprocess.PIPE, stderr=subprocess.PIPE,
             start_new_session=True, env={**os.environ, "CMH_SECONDS": f"{seconds:g}", **env})
 
     def text(self, seconds: float) -> Optional[str]:
-        """Returns what it printed, or None if it hasn't ended within so many seconds. Raises Failure if it failed."""
+        """Returns what it printed, or None if it hasn't ended within so many seconds. Then `lacks` has what it couldn't
+        take, as it says. Raises Failure if it failed."""
         try:
             out, err = self.process.communicate(timeout=seconds)
         except subprocess.TimeoutExpired:
             return None
+        said = err.decode(errors="backslashreplace").strip() or f"status {self.process.returncode}"
+        lines = [shown(line) for line in said.split("\n")]
         if self.process.returncode or not out:
-            said = err.decode(errors="backslashreplace").strip() or f"status {self.process.returncode}"
-            lines = "\n".join(shown(line) for line in said.split("\n"))
-            raise Failure(f"the state of {self.capture.system} couldn't be taken: {lines}")
+            raise Failure("\n".join([f"the state of {self.capture.system} couldn't be taken: {lines[0]}", *lines[1:]]))
+        self.lacks = [line for line in lines if line.startswith(OURS)]
         return out.decode(errors="backslashreplace")
 
     def end(self) -> None:
@@ -323,6 +355,8 @@ def take(captures: Sequence[Capture], seconds: float, env: Dict[str, str]) -> It
                 running.append(Running(it.capture, seconds, env))
                 texts.append(wait(running[-1], begun))
             yield dict(zip(it.capture.names(), texts))
+        for line in dict.fromkeys(line for command in running for line in command.lacks):
+            say(f"warning: {line}")
     finally:
         for it in running:
             it.end()

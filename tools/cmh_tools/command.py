@@ -1,15 +1,20 @@
-"""What both commands share: their words, where notes lie, how a file becomes a sketch, and how faults end a command."""
+"""What all commands share: their words, where notes lie, how a file becomes a sketch, and how faults end a command."""
 from __future__ import annotations
 
 import argparse
+import contextlib
 import gc
 import os
-from typing import Any, Callable, Dict, NoReturn, Optional, Sequence, Tuple
+import re
+import traceback
+from typing import Any, Callable, Dict, List, NoReturn, Optional, Sequence, Tuple
 
 from . import VERSION
 from .dump import Dump
 from .files import Failure, Refusal, read_text, say, shown, write_out
-from .sketch import BARE, OLDER, Sketch, read_json, sketch_of
+from .sketch import BARE, OLDER, Sketch, is_texts, read_json, sketch_of
+
+Read = Callable[[str], str]  # the text of a path
 
 
 class Parser(argparse.ArgumentParser):
@@ -59,7 +64,7 @@ def sketch_of_dump(tree: Any, where: str, is_by_hand: bool) -> Sketch:
     rows = tree.get("processes")
     if not isinstance(rows, list) or not all(isinstance(row, dict) and "name" in row for row in rows):
         raise Refusal(f"{shown(where)}: it is no dump: 'processes' is no list of processes with names")
-    active: Dict[str, Any] = {"runs": True} if is_by_hand else {"unknown": NO_NOTES, "proposal": "none"}
+    active: Dict[str, Any] = {"runs": True} if is_by_hand else {"unknown": NO_NOTES, "spoilt": True}
     made = []
     for row in rows:
         waits = {"waits_for_any": row.get("dependents", [])} if row.get("state") == "idle" else active
@@ -68,9 +73,9 @@ def sketch_of_dump(tree: Any, where: str, is_by_hand: bool) -> Sketch:
                       "in_transit": tree.get("in_transit") or []}, where)
 
 
-def read_any(path: str) -> Sketch:
+def read_any(path: str, read: Read = read_text) -> Sketch:
     """Returns the sketch of a file that has a sketch, a dump's notes, or a dump: then of its notes, if it has some."""
-    tree = read_json(read_text(path), path)
+    tree = read_json(read(path), path)
     if is_notes(tree):
         return sketch_of(tree["sketch"], path, OLDER)
     if not is_dump(tree):
@@ -79,16 +84,30 @@ def read_any(path: str) -> Sketch:
     return dump_of_notes(tree, path, notes)[0].sketch if os.path.exists(notes) else sketch_of_dump(tree, path, False)
 
 
-def dump_of_notes(tree: Any, path: str, notes: str) -> Tuple[Dump, Any]:
+def dump_of_notes(tree: Any, path: str, notes: str, read: Read = read_text) -> Tuple[Dump, Any]:
     """Returns a dump, made anew from its notes, and these. Raises Refusal if it is another one."""
-    noted = read_json(read_text(notes), notes)
+    noted = read_json(read(notes), notes)
     if not is_notes(noted):
         raise Refusal(f"{shown(notes)}: it has no 'sketch', so these are no notes of cmh-dump")
-    dump = Dump(sketch_of(noted["sketch"], notes, OLDER))
-    if tree != read_json(dump.text(dump.low), path):
+    dump = Dump(sketch_of(noted["sketch"], notes, OLDER), known_doubts(noted, notes))
+    shown_dump = dump.likely if noted.get("guesses") is True else dump  # (as version 1.1.0 wrote it where it guessed)
+    if tree != read_json(shown_dump.text(shown_dump.low), path):
         raise Refusal(f"{shown(path)}: it isn't the dump of {shown(notes)}: one of them was changed. Make both "
                       "again with cmh-dump, or move the notes away")
     return dump, noted
+
+
+def known_doubts(noted: Any, notes: str) -> List[str]:
+    """Returns the keys of doubts that notes have, in the order of their numbers."""
+    keys = noted.get("doubts", []) if is_notes(noted) else None
+    if not is_texts(keys) or len(set(keys)) < len(keys):
+        raise Refusal(f"{shown(notes)}: 'doubts' is no list of texts, each once")
+    return list(keys)
+
+
+def likely_path(path: str) -> str:
+    """Returns the path of the dump of the likely answer: dump.likely.json beside dump.json."""
+    return f"{path[:-5] if path.endswith('.json') else path}.likely.json"
 
 
 def run(name: str, main: Callable[[Sequence[str]], int], words: Sequence[str]) -> int:
@@ -102,8 +121,29 @@ def run(name: str, main: Callable[[Sequence[str]], int], words: Sequence[str]) -
         return fault(name, failure, failure.status)
     except MemoryError:
         return fault(name, "out of memory", 4)
+    except Exception as error:  # (one that nobody has thought of)
+        return fault(name, own_fault(name, error, words), 4)
     finally:
         gc.freeze()  # (nor is it looked through when Python ends)
+
+
+def own_fault(name: str, error: Exception, words: Sequence[str]) -> str:
+    """Says what went wrong in our own code, and where: in the code, and in the files that the command was given."""
+    last = traceback.extract_tb(error.__traceback__)[-1]
+    where = f"{last.name} ({os.path.basename(last.filename)}:{last.lineno})"
+    files = ", ".join(place_in(word, str(error)) for word in words if os.path.isfile(word))
+    return (f"this is a fault of {name}, and nothing is said: {type(error).__name__} in {where}: {shown(str(error))}"
+            f"{f'. It was given {files}' if files else ''}")
+
+
+def place_in(path: str, message: str) -> str:
+    """Returns the path of a file, with its first line that has what a message quotes, if one has."""
+    quoted = re.search(r"'([^']+)'", message)
+    with contextlib.suppress(OSError), open(path, encoding="utf-8", errors="replace") as file:
+        for at, line in enumerate(file if quoted else (), 1):
+            if quoted and quoted[1] in line:
+                return f"{shown(path)} (see line {at})"
+    return shown(path)
 
 
 def fault(name: str, text: object, status: int) -> int:

@@ -6,7 +6,7 @@ import re
 from typing import Dict, Iterable, Iterator, List, NamedTuple, Tuple
 
 from .explain import number_of
-from .files import shown
+from .files import MOST_OF_LINE, shown
 from .folding import BEHIND, FREE, MORE, OPEN, OVER, ROOT, RUNNING, SHARED, UNDECIDED
 from .picture import MESSAGE, Arrow, Box, Picture
 from .sketch import ALL, ANY
@@ -232,4 +232,4 @@ def escape(text: str) -> str:
 
 def in_svg(text: str) -> str:
     """Returns a text for people, without the two characters that no XML has."""
-    return shown(text).replace("\ufffe", "\\ufffe").replace("\uffff", "\\uffff")
+    return shown(text, MOST_OF_LINE).replace("\ufffe", "\\ufffe").replace("\uffff", "\\uffff")

@@ -7,9 +7,11 @@ from __future__ import annotations
 
 import json
 import re
-from typing import Any, Dict, List, Set
+from typing import Any, Dict, List, NamedTuple, Optional, Sequence, Set
 
+from .doubts import Doubt, Likely
 from .reduction import Reduction
+from .roots import Roots
 from .sketch import Sketch, text_of_sketch
 from .stuck import Answer, Waits
 
@@ -38,12 +40,24 @@ def program_names(names: List[str]) -> Dict[str, str]:
     return found
 
 
+class LikelyAnswer(NamedTuple):
+    """The dump of a likely answer, and the doubts on which it hangs. `likely` has the keys of these in the order of
+    their numbers, also of those that are none any more."""
+
+    dump: Dump
+    doubts: List[Doubt]
+    likely: Likely
+
+
 class Dump:
     """The dumps of a sketch. `parts` have the indices of those in each, the first of which is the dump that is written;
-    `left_out` and `folded` say what became of others: a list, and who stands for each."""
+    `left_out` and `folded` say what became of others: a list, and who stands for each. `known` has the keys of doubts
+    in the order of their numbers."""
 
-    def __init__(self, sketch: Sketch) -> None:
-        self.sketch, self.waits = sketch, Waits(sketch)
+    def __init__(self, sketch: Sketch, known: Sequence[str] = ()) -> None:
+        self.sketch, self.known = sketch, known
+        self.waits = Waits(sketch)
+        self.kept_likely: Optional[LikelyAnswer] = None
         self.names = program_names([process.name for process in sketch.processes])
         sites = dict.fromkeys(process.site for process in sketch.processes if process.site is not None)
         self.sites = program_names(list(sites))
@@ -51,11 +65,35 @@ class Dump:
         while self.no_site in self.sites.values():
             self.no_site += "-"
         self.taken = set(self.names.values())
-        self.low, self.high = self.waits.answer(False), self.waits.answer(True)
+        self.low, self.high = self.waits.low(), self.waits.high()
         self.cut = Reduction(self.waits)
         self.kept, self.left_out = self.cut.kept, self.cut.left_out
         self.folded = {at: self.cut.stands_for(at) for at in self.cut.over if at < self.waits.number}
         self.parts = self.cut.parts([self.low, self.high])
+
+    # The likely answer
+
+    def likely_answer(self) -> LikelyAnswer:
+        """Returns the likely answer. Its dump is this one where nobody is likely to be stuck and not certain to be."""
+        if self.kept_likely is None:
+            likely = Likely(self.waits, self.known)
+            self.kept_likely = LikelyAnswer(self, [], likely)
+            if likely.numbers:
+                dump = Dump(likely.sketch(self.sketch))
+                members = Roots(dump.waits, dump.low.members()).root_of
+                doubts = likely.doubts({self.waits.processes[at].name for at in members})
+                self.kept_likely = LikelyAnswer(dump, doubts, likely)
+        return self.kept_likely
+
+    @property
+    def likely(self) -> Dump:
+        return self.likely_answer().dump
+
+    @property
+    def doubts(self) -> List[Doubt]:
+        return self.likely_answer().doubts
+
+    # The dump
 
     def name(self, at: int) -> str:
         """Returns the name of one in the dump, also of a hub."""
@@ -139,12 +177,13 @@ class Dump:
 
     def notes(self, **about: object) -> str:
         """Returns the text of the notes: the sketch, what became of its names and processes, and what `about` says."""
-        named = [process.name for process in self.sketch.processes]
+        named, keys = [process.name for process in self.sketch.processes], self.likely_answer().likely.keys
         more: Dict[str, object] = {
             "names": {name: new for name, new in self.names.items() if name != new},
             "sites": {site: new for site, new in self.sites.items() if site != new},
             "left_out": [named[at] for at in self.left_out],
             "folded": {named[at]: named[one] for at, one in self.folded.items()},
+            **({"doubts": keys} if keys else {}),
             **about,
         }
         lines = "".join(f",\n{json.dumps(key)}: {json.dumps(value)}" for key, value in more.items())

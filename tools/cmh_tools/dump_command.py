@@ -2,33 +2,33 @@
 from __future__ import annotations
 
 import importlib
+from argparse import SUPPRESS
 from collections import Counter
-from typing import Any, Dict, Iterator, List, Sequence
+from typing import Any, Dict, Iterator, List, Sequence, Tuple
 
 from .check import describe_fault
-from .command import Parser, notes_path, run
+from .command import Parser, likely_path, notes_path, run
 from .dump import Dump
 from .facts import Facts, read_facts
-from .files import Failure, Refusal, decoded, hindrance, read_bytes, read_text, say, shown, write_out, write_texts
-from .idle import proposals_of
+from .files import (MOST_OF_LINE, Failure, Refusal, decoded, hindrance, read_bytes, read_text, say, short_name, shown,
+                    write_out, write_texts)
 from .making import sketch_for
 from .program import identity, judge
-from .proposals import Proposal, legend
-from .recorders import MODULES
-from .sketch import KINDS, UNKNOWN, FactRow, Sketch, number_of_guess, reason_of
+from .proposals import Proposal, legend, propose
+from .parsers import MODULES
+from .sketch import KINDS, UNKNOWN, FactRow, Sketch, reason_of
 
 DID = {" holds ": "is held by", " frees ": "is freed by"}  # what names have to do with a word of a fact
 SHOWN, NAMES = 8, 5  # as many unknown ones and lines of facts are shown, and names in one; the notes have all
-USAGE = """cmh-dump SYSTEM STATE.. [--facts FILE] [--guesses] -o DUMP
-       cmh-dump linux --pid PID.. [--seconds S] [--stacks] [--save STATE] [--facts FILE] [--guesses] -o DUMP
+USAGE = """cmh-dump SYSTEM STATE.. [--facts FILE] -o DUMP
+       cmh-dump linux --pid PID.. [--seconds S] [--stacks] [--save STATE] [--facts FILE] -o DUMP
        cmh-dump check FILE"""
 ABOUT = """Makes a dump for cmh, and beside it DUMP.notes.json with all that is known of it: cmh-explain reads both.
 A process that isn't understood is unknown, and active in this dump. Nothing is written if something is refused."""
 FACTS, OUTPUT = "a file of facts, which no state shows: see the man page", "the dump to write, usually DUMP.json"
-GUESSES = "guess the facts that are asked for; the status is that without them"
+NO_GUESSES = "--guesses: the answer has what is likely now, without being asked"
 MORE = f"""options after SYSTEM:
   --facts FILE            {FACTS}
-  --guesses               {GUESSES}
   -o DUMP, --output DUMP  {OUTPUT}
 
 DUMPS.md, in the documents of cmh, has the commands that print a state.
@@ -74,7 +74,7 @@ def add_system(systems: Any, name: str, summary: str, states: Dict[str, Any]) ->
         it.set_defaults(facts=None, guesses=False)
     else:
         it.add_argument("--facts", metavar="FILE", help=FACTS)
-        it.add_argument("--guesses", action="store_true", help=GUESSES)
+        it.add_argument("--guesses", action="store_true", help=SUPPRESS)
     it.add_argument("-o", "--output", metavar="DUMP", required=True, help=OUTPUT)
     return it
 
@@ -91,26 +91,21 @@ def summary(dump: Dump, path: str, asked: List[Proposal]) -> Iterator[str]:
         yield f"this is the first of {len(dump.parts)} dumps, which cmh-explain makes of the notes: it says all"
     unknown = [process for process in dump.sketch.processes if process.kind == UNKNOWN]
     for process in unknown[:SHOWN]:
-        yield f"unknown: {shown(process.name)}: {shown(process.reason)}"
+        yield f"unknown: {short_name(process.name)}: {shown(process.why_unknown())}"
     if unknown[SHOWN:]:
         yield f"unknown: {len(unknown) - SHOWN:,} more"
-    yield from fact_lines(dump.sketch, path)
+    yield from fact_lines(dump.sketch)
     if asked:
         yield "Facts that would decide them, for you to complete:"
-        yield from (f"  {shown(it.text())}" for it in asked[:SHOWN])
+        yield from (f"  {shown(it.text(), MOST_OF_LINE)}" for it in asked[:SHOWN])
     if asked[SHOWN:]:
         yield f"  # and {len(asked) - SHOWN:,} lines more, in {shown(notes_path(path))}"
-    yield from (f"  {shown(line)}" for line in legend(asked, dump.sketch))
+    yield from (f"  {shown(line, MOST_OF_LINE)}" for line in legend(asked, dump.waits.processes))
 
 
-def fact_lines(sketch: Sketch, path: str) -> Iterator[str]:
-    """Returns a line for each fact, and for the first few guesses."""
-    rows = [*zip(sketch.facts, number_decided(sketch))]
-    guessed = [it for it in rows if number_of_guess(it[0])]
-    yield from (fact_line(*it) for it in rows if not number_of_guess(it[0]))
-    yield from (fact_line(*it) for it in guessed[:SHOWN])
-    if guessed[SHOWN:]:
-        yield f"guesses: {len(guessed) - SHOWN:,} more, in {shown(notes_path(path))}"
+def fact_lines(sketch: Sketch) -> Iterator[str]:
+    """Returns a line for each fact."""
+    yield from (fact_line(*row) for row in zip(sketch.facts, number_decided(sketch)))
 
 
 def number_decided(sketch: Sketch) -> List[int]:
@@ -122,13 +117,13 @@ def number_decided(sketch: Sketch) -> List[int]:
 def fact_line(row: FactRow, number: int) -> str:
     """Returns the line on what a fact did: how many it decided, and the names that each of its patterns took."""
     did = next((words for mark, words in DID.items() if mark in row["text"]), "took")
-    some = [f"; {shown(word)} {did} {some_names(names)}" for word, names in row["took"].items() if names != [word]]
-    return f"{shown(row['at'])}: {shown(row['text'])}: decided {number:,}{''.join(some)}"
+    some = [f"; {short_name(word)} {did} {some_names(names)}" for word, names in row["took"].items() if names != [word]]
+    return f"{shown(row['at'])}: {shown(row['text'], MOST_OF_LINE)}: decided {number:,}{''.join(some)}"
 
 
 def some_names(names: List[str]) -> str:
     more = f" and {len(names) - NAMES:,} more" if names[NAMES:] else ""
-    return (", ".join(map(shown, names[:NAMES])) or "nobody") + more
+    return (", ".join(map(short_name, names[:NAMES])) or "nobody") + more
 
 
 def check_outputs(it: Parser, asked: Any) -> None:
@@ -136,11 +131,12 @@ def check_outputs(it: Parser, asked: Any) -> None:
     taken = [*asked.states, *([asked.facts] if asked.facts else [])]
     taken += map(notes_path, asked.states if asked.system in ("both", "join") else [])
     kept = [asked.save] if getattr(asked, "save", None) else []
-    for path in (asked.output, notes_path(asked.output), *kept):
+    for path in (asked.output, notes_path(asked.output), likely_path(asked.output), *kept):
         why = "the notes are put beside it" if path == "-" else hindrance(path, taken)
         if why:
             what = "the state" if path in kept else "the dump"
-            it.error(f"{what} goes to a file of its own, and the notes of the dump beside it; {path}: {why}")
+            it.error(f"{what} goes to a file of its own, and the notes of the dump and the likely answer beside it; "
+                     f"{path}: {why}")
         taken.append(path)
 
 
@@ -172,6 +168,13 @@ def check_live(it: Parser, asked: Any) -> None:
         it.error(f"--save keeps what --pid reads; {asked.save}: nothing is read")
 
 
+def texts_of(dump: Dump, path: str, asked: List[Proposal]) -> List[Tuple[str, str]]:
+    """Returns the texts of a dump and its notes, each behind its path. `asked` has the facts that are asked for."""
+    notes = dump.notes(**({"proposals": [it.text() for it in asked]} if asked else {}), **program_notes())
+    likely = dump.likely
+    return [(path, dump.text(dump.low)), (likely_path(path), likely.text(likely.low)), (notes_path(path), notes)]
+
+
 def make(asked: Any) -> int:
     """Makes a dump and its notes."""
     facts = read_facts(decoded(read_bytes(asked.facts), asked.facts), asked.facts) if asked.facts else Facts()
@@ -180,15 +183,15 @@ def make(asked: Any) -> int:
         text = collected(asked)
         paths, read = ["the processes"], lambda path: text
         kept = [(asked.save, text)] if asked.save else []
-    sketch = sketch_for(asked.system, paths, facts, read, asked.guesses)
-    dump, found = Dump(sketch), proposals_of(sketch)
-    notes = dump.notes(**({"proposals": [it.text() for it in found]} if found else {}), **program_notes())
-    write_texts([*kept, (asked.output, dump.text(dump.low)), (notes_path(asked.output), notes)])
+    sketch = sketch_for(asked.system, paths, facts, read)
+    dump = Dump(sketch)
+    found = propose(dump.waits)
+    said = [*summary(dump, asked.output, found)]
+    write_texts([*kept, *texts_of(dump, asked.output, found)])
     for line in sketch.warnings:
         say(f"warning: {line}")
-    said = [*summary(dump, asked.output, found)]
-    if asked.guesses and not any(map(number_of_guess, sketch.facts)):
-        said.append("no guess is taken: nothing is unknown that a line of facts decides")
+    if asked.guesses:
+        say(NO_GUESSES)
     write_out("".join(f"{line}\n" for line in said))
     return 0
 

@@ -5,18 +5,16 @@ from collections import Counter
 from typing import Callable, Dict, Iterable, Iterator, List, Optional, Sequence, Tuple
 
 from .dump import Dump
-from .files import shown
-from .findings import COME, MESSAGE, NOT_STUCK, STUCK, UNDECIDED, Findings, Waiters
+from .files import MOST_OF_LINE, short_name, shown
+from .doubts import Doubt, sentence
+from .findings import COME, LIKELY, MESSAGE, NOT_STUCK, STUCK, UNDECIDED, Findings, Waiters
 from .proposals import legend
-from .reasons import more_lines, rests_lines, rows
+from .reasons import more_lines, rests_lines
 from .sketch import ALL, ANY, DONE, ENDED, RUNS, UNKNOWN, Process
 from .terminal import PLAIN, AsItIs, Painted, Style, fill, laid_out, painted
 
 LINES, NAMES = 8, 5  # as many lines and names are shown; the others are counted
 UNSAID = "it isn't said why"
-IF_GUESSES = ", if guesses hold"
-ALL_IDLE = "All that was read is idle. Idle ones that wait for each other look so too, so it isn't known whether " \
-    "these are stuck. If one should have work, say by a fact whom it waits for."
 GOES_ON = {MESSAGE: "has a message in transit to it", COME: "no longer waits for any process"}
 
 
@@ -32,7 +30,7 @@ class Explanation(Findings):
         self.everything, self.style = everything, style
 
     def name(self, at: int) -> str:
-        return shown(self.waits.processes[at].name) or "''"
+        return short_name(self.waits.processes[at].name) or "''"
 
     def note(self, at: int) -> str:
         return shown(self.place(at))
@@ -54,13 +52,11 @@ class Explanation(Findings):
 
     def answer(self, at: int) -> str:
         """Returns what is known of one, in a few words."""
-        return f"{self.verdict_words(at)}{IF_GUESSES if at in self.if_guesses else ''}"
-
-    def verdict_words(self, at: int) -> str:
+        stuck = "likely stuck" if at in self.likely else "stuck"
         if at in self.roots.root_of:
-            return f"stuck in root {self.roots.root_of[at] + 1}"
+            return f"{stuck} in root {self.roots.root_of[at] + 1}"
         if at in self.roots.above:
-            return f"stuck behind {self.root_names(at)}"
+            return f"{stuck} behind {self.root_names(at)}"
         process = self.waits.processes[at]
         if process.kind == ENDED:
             return "has ended" if process.reason == DONE else "has ended and is still needed"
@@ -85,12 +81,12 @@ class Explanation(Findings):
             return self.wait_for_all(at)
         if process.kind == ENDED:
             return self.answer(at)
-        reason = f": {shown(process.reason)}" if process.reason else ""
-        return f"{'runs' if process.kind == RUNS else 'is unknown'}{reason}"
+        reason = process.reason if process.kind == RUNS else process.why_unknown()
+        return f"{'runs' if process.kind == RUNS else 'is unknown'}{f': {shown(reason)}' if reason else ''}"
 
     def wait_for_any(self, process: Process, alone: bool) -> str:
         itself = process.name if alone else None
-        names = [f"{shown(name)}{self.ended_word(name)}" for name in process.whom if name != itself]
+        names = [f"{short_name(name)}{self.ended_word(name)}" for name in process.whom if name != itself]
         names += ["itself"] if itself in process.whom else []
         if not names:
             return "can never be unblocked"
@@ -112,7 +108,7 @@ class Explanation(Findings):
     def lines(self, at: int, more: Sequence[int] = ()) -> List[str]:
         """Returns the line of one, or of it and more that are alike, and one of the note."""
         process, note = self.waits.processes[at], self.note(at)
-        where = f" on {shown(process.site)}" if process.site is not None else ""
+        where = f" on {short_name(process.site)}" if process.site is not None else ""
         names = self.some([self.name(it) for it in (at, *more)])
         line = f"  {names}{where}{': each' if more else ''} {self.wait(at, not more)}"
         return [line] + ([f"      {note}"] if note else [])
@@ -148,52 +144,19 @@ class Explanation(Findings):
             yield self.other_lines()
         yield from filter(None, [self.cut_lines(), self.warnings()])
 
-    def if_words(self) -> str:
-        """Returns how an answer begins that rests on guesses, or nothing."""
-        if not self.guesses:
-            return ""
-        number = len(self.guesses)
-        return "If this guess holds:" if number == 1 else f"If these {number:,} guesses hold:"
-
-    def guess_lines(self) -> List[str]:
-        """Returns the lines of the guesses on which anybody rests, with how many do."""
-        if not self.guesses:
-            return []
-        most = len(self.guesses) if self.everything else LINES
-        lines = [self.if_words(), *rows(self.rests, self.guesses[:most], self.everything)]
-        left = len(self.guesses) - most
-        return lines + ([f"  and {number_of(left, 'guess', 'guesses')} more (--all shows them)"] if left > 0 else [])
-
-    def certain_lines(self) -> List[str]:
-        """Returns what is known without guesses."""
-        if not self.guesses:
-            return []
-        certain = self.certain
-        line = f"Without {'it' if len(self.guesses) == 1 else 'them'}: {len(certain.stuck):,} stuck, " \
-            f"{len(certain.undecided):,} undecided, {len(certain.well):,} not stuck."
-        is_open = certain.worst() == UNDECIDED
-        return [f"{line} So it isn't known whether a process is stuck." if is_open else line]
-
-    def counts_line(self, before: str = "") -> Painted:
-        """Returns the line of all counts, which stands behind some words."""
+    def counts_line(self) -> Painted:
+        """Returns the headline with all counts."""
         total = len(self.waits.processes) - len(self.ended)
-        counts = {STUCK: f"{len(self.stuck):,} stuck", UNDECIDED: f"{len(self.undecided):,} undecided",
-                  NOT_STUCK: f"{len(self.well):,} not stuck"}
+        counts = {STUCK: f"{len(self.certain.stuck):,} stuck", LIKELY: f"{len(self.likely):,} likely stuck",
+                  UNDECIDED: f"{len(self.undecided):,} undecided", NOT_STUCK: f"{len(self.well):,} not stuck"}
         ended = f"; {number_of(len(self.ended))} more {'has' if len(self.ended) == 1 else 'have'} ended"
-        line = f"{before}{number_of(total)}: {', '.join(counts.values())}{ended if self.ended else ''}."
+        said = [words for verdict, words in counts.items() if verdict != LIKELY or self.likely]
+        line = f"{self.headline.value}: {number_of(total)}: {', '.join(said)}{ended if self.ended else ''}."
         return painted(line, *((part, verdict) for verdict, part in counts.items() if part[:2] != "0 "))
 
     def head(self) -> List[str]:
-        lines: List[str] = [*self.guess_lines(), self.counts_line()]
-        if self.worst() == NOT_STUCK and self.are_all_idle():
-            lines.append(ALL_IDLE)
-        elif self.worst() == NOT_STUCK:
-            lines.append(painted(f"Nobody is stuck{'' if self.status() == 0 else IF_GUESSES}.", NOT_STUCK))
-        if self.worst() == UNDECIDED:
-            lines.append("It isn't known whether a process is stuck: that depends on the unknown ones.")
-        if self.dump.sketch.as_of:
-            lines.append(f"This is {shown(self.dump.sketch.as_of)}.")
-        return lines + self.certain_lines()
+        as_of = self.dump.sketch.as_of
+        return [self.counts_line(), *([f"This is {shown(as_of)}."] if as_of else [])]
 
     def all_roots(self) -> Iterator[List[str]]:
         """A paragraph for each of the first few roots, and one on the others."""
@@ -210,8 +173,8 @@ class Explanation(Findings):
         members = len(self.roots.roots[number])
         what = "process, and nobody can unblock it" if members == 1 else \
             "processes wait for each other, and nobody else can unblock them"
-        guessed = IF_GUESSES if self.rests_on_guesses(self.roots.roots[number]) else ""
-        return [painted(f"Root {number + 1}{guessed}: {members:,} {what}", STUCK), *self.cycle_lines(number)]
+        likely, verdict = ("", STUCK) if self.is_certain(number) else (", likely", LIKELY)
+        return [painted(f"Root {number + 1}{likely}: {members:,} {what}", verdict), *self.cycle_lines(number)]
 
     def cycle_lines(self, number: int) -> List[str]:
         """Returns the line that draws a root that is one cycle, with as many of its names as fit."""
@@ -226,12 +189,32 @@ class Explanation(Findings):
     def root(self, number: int) -> List[str]:
         members, behind = self.roots.roots[number], self.roots.behind[number]
         rests = self.rests.of(self.processes(members))
-        lines = self.root_head(number) + self.group(members) + rests_lines(self.rests, rests, self.everything)
+        lines = self.root_head(number) + self.group(members) + self.doubt_lines(members)
+        lines += rests_lines(self.rests, rests, self.everything)
         if behind:
             head = f"Stuck behind root {number + 1} alone: {number_of(len(behind))}"
             lines += [painted(head, STUCK), *self.group(behind)]
             lines += more_lines(self.rests, self.rests.of(self.processes(behind), rests), self.everything)
         return lines
+
+    # Doubts
+
+    def doubt_lines(self, members: List[int]) -> List[str]:
+        """Returns the doubts on which it hangs that some are stuck."""
+        lines = [f"  {doubt.number}: {self.doubt_words(doubt, members)}" for doubt in self.doubts_of(members)]
+        return ["Unless", *self.first(lines, ("doubt", "doubts"))] if lines else []
+
+    def doubt_words(self, doubt: Doubt, members: List[int], several: str = "") -> str:
+        """Returns in words what a doubt about some says, who are called `several` if they are."""
+        waits = set(doubt.waits)
+        whom = [self.name(at) for at in members if self.waits.processes[at].name in waits] or \
+            list(map(short_name, doubt.waits))
+        there = [self.waits.index[name] for name in doubt.who if name in self.waits.index]
+        reasons = {self.waits.processes[at].reason for at in there}
+        reason = shown(reasons.pop()) if len(reasons) == 1 else ""
+        who = self.some([short_name(name) for name in doubt.who], " or ")
+        several = several or f"one of {self.some(whom, ' and ')}"
+        return sentence(doubt, who, whom[0] if len(whom) == 1 else several, reason)
 
     def behind_several(self) -> List[str]:
         lines: List[str] = [painted(f"Stuck behind more than one root: {number_of(len(self.roots.shared))}", STUCK)]
@@ -264,7 +247,7 @@ class Explanation(Findings):
                          "may show a deadlock that never was: take another, and compare them with 'cmh-dump both'.")
         return lines
 
-    def restart(self, members: List[int], called: Callable[[str], str] = shown) -> str:
+    def restart(self, members: List[int], called: Callable[[str], str] = short_name) -> str:
         """Returns where a root has to be broken. A site is `called` by its name alone, or with what it is."""
         units, is_some_unsaid = self.units(members, called)
         if not units:
@@ -277,13 +260,14 @@ class Explanation(Findings):
         counts = dict(self.unknown_ones(len(self.open) if self.everything else NAMES))
         others = len(self.undecided) - len(counts)
         more = f", and {number_of(others, 'other that depends', 'others that depend')} on them" if others else ""
-        head = f"Undecided: {number_of(len(counts))} of which the state doesn't say enough{more}"
+        head = f"Undecided: {number_of(len(counts))} of which the state doesn't say enough{more}" if counts else \
+            f"Undecided: {number_of(others)}, and nobody goes on who may unblock {'it' if others == 1 else 'them'}"
         lines = [painted(head, UNDECIDED), *self.group(counts, lambda row: self.waiters_words(row, counts[row[0]]))]
         facts = self.proposals()
         if facts:
             lines += ["Facts that would decide them, for you to complete:"]
-            lines += self.first([AsItIs(f"  {shown(it.text())}") for it in facts], ("line", "lines"))
-            lines += [AsItIs(f"  {shown(line)}") for line in legend(facts, self.dump.sketch)]
+            lines += self.first([AsItIs(f"  {shown(it.text(), MOST_OF_LINE)}") for it in facts], ("line", "lines"))
+            lines += [AsItIs(f"  {shown(line, MOST_OF_LINE)}") for line in legend(facts, self.waits.processes)]
         return lines
 
     def waiters_words(self, row: List[int], others: Waiters) -> str:
@@ -335,8 +319,9 @@ class Explanation(Findings):
         lines = [f"With a limit at the same place in all states: {number_of(number)}. One that only waits again and "
                  "again needs a fact, or '-> frees nobody' if it ends nobody's wait; one that does something else "
                  "after its limit needs none:"]
-        return lines + self.first([AsItIs(f"  {shown(text)}  # {self.some([shown(it.name) for it in some])}")
-                                   for text, some in rows], ("place", "places"))
+        names = [self.some([short_name(it.name) for it in some]) for _, some in rows]
+        return lines + self.first([AsItIs(f"  {shown(text, MOST_OF_LINE)}  # {words}")
+                                   for (text, _), words in zip(rows, names)], ("place", "places"))
 
     def goes_on_words(self, at: int) -> str:
         """Returns why one goes on by itself."""
@@ -356,7 +341,7 @@ class Explanation(Findings):
 
     def summary(self, at: Optional[int] = None) -> str:
         """Returns the first line, or that of the chain of one process."""
-        line = self.counts_line(f"{self.if_words()} ".lstrip()) if at is None else self.why_head(at)
+        line = self.counts_line() if at is None else self.why_head(at)
         return laid_out(line, self.style._replace(width=len(line) + 1)) + "\n"
 
     # One process and why
@@ -373,7 +358,7 @@ class Explanation(Findings):
             number = self.roots.root_of[chain[-1]]
             members = self.roots.roots[number]
             rests = self.rests.of(self.processes(list(dict.fromkeys([*chain, *members]))))
-            root = self.root_head(number) + self.group(members)
+            root = self.root_head(number) + self.group(members) + self.doubt_lines(members)
             return fill([lines, root + rests_lines(self.rests, rests, self.everything)], self.style)
         lines += [line for it in chain for line in self.lines(it)]
         if at not in self.open and self.waits.kinds[chain[-1]] in (ANY, ALL):

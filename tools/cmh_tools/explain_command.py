@@ -1,23 +1,26 @@
 """The command `cmh-explain`: who is stuck in a dump, who isn't, who is undecided, and where it has to be broken."""
 from __future__ import annotations
 
+import contextlib
 import os
-from typing import Any, Optional, Sequence, Tuple
+import stat
+import sys
+from typing import Any, Iterator, Optional, Sequence, Tuple
 
 from .answer import Tree, answer, text_of_answer
 from .check import describe_fault
-from .command import Parser, dump_of_notes, is_dump, is_notes, notes_path, run, sketch_of_dump
+from .command import Parser, Read, dump_of_notes, is_dump, is_notes, notes_path, run, sketch_of_dump
 from .dot import dot
 from .dump import Dump
 from .explain import Explanation
 from .files import (Failure, Refusal, hindrance, read_bytes, read_text, say, shown, text_of_bytes, write_out,
                     write_texts)
-from .guesses import without_guesses
 from .page import page
 from .picture import Picture
+from .screen import screen
 from .program import compare, confirm, deadlocked_names, identity
 from .sketch import near_name, quote, read_json
-from .svg import svg
+from .svg import check_graphviz, svg
 from .terminal import show, style_of_output
 
 ASK_NOTES = "the dump has no notes, so its active processes may be unknown ones: put NAME.notes.json of cmh-dump " \
@@ -32,7 +35,7 @@ MOST_OF_STATES = 2_000_000  # characters, in a page
 def parser() -> Parser:
     it = Parser("cmh-explain", description=ABOUT, epilog=MORE)
     it.add_argument("dump", metavar="DUMP", help="a dump; its notes are read from DUMP.notes.json")
-    it.add_argument("--all", action="store_true", help="show all names and lines")
+    it.add_argument("--all", action="store_true", help="show all that is known, in place of the first screen")
     it.add_argument("--why", metavar="NAME", help="show the chain from one process to what its answer rests on")
     how = it.add_mutually_exclusive_group()
     how.add_argument("--summary", action="store_true", help="print the first line alone")
@@ -60,13 +63,13 @@ def load(path: str, is_by_hand: bool) -> Tuple[Dump, Optional[str]]:
     return load_noted(data, path, notes)
 
 
-def load_noted(data: bytes, path: str, notes: str) -> Tuple[Dump, Optional[str]]:
+def load_noted(data: bytes, path: str, notes: str, read: Read = read_text) -> Tuple[Dump, Optional[str]]:
     """Returns a dump with its notes."""
-    dump, noted = dump_of_notes(read_json(text_of_bytes(data, path), path), path, notes)
+    dump, noted = dump_of_notes(read_json(text_of_bytes(data, path), path), path, notes, read)
     named = compare_programs(noted.get("program"))
     confirm(dump)
-    if any(it.is_guessed() for it in dump.sketch.processes):
-        confirm(Dump(without_guesses(dump.sketch)))
+    if dump.likely is not dump:
+        confirm(dump.likely)
     return dump, named
 
 
@@ -139,29 +142,54 @@ def write_page(asked: Any, explanation: Explanation, tree: Tree, at: Optional[in
         picture = svg(Picture(explanation, at))
     except Failure as failure:
         say(f"cmh-explain: the page has no picture: {failure}")
+    summary = explanation.summary(at)
     write_texts([(asked.html, page(explanation, tree, picture, states))])
-    write_out(explanation.summary(at))
+    write_out(summary)
+
+
+@contextlib.contextmanager
+def words_for_picture() -> Iterator[None]:
+    """Has the file that standard output goes to say why it is no picture. A shell has made it before this began, and an
+    empty one looks like a picture."""
+    try:
+        yield
+    except Failure as failure:
+        if is_file(sys.stdout):
+            write_out(f"There is no picture here: {failure}\n")
+        raise
+
+
+def is_file(stream: Any) -> bool:
+    with contextlib.suppress(AttributeError, OSError, ValueError):  # (it is closed, or none of the system's)
+        return stat.S_ISREG(os.fstat(stream.fileno()).st_mode)
+    return False
 
 
 def main(words: Sequence[str]) -> int:
     asked = parser().parse_args(words)
     check_page(asked)
+    if asked.svg:
+        with words_for_picture():
+            check_graphviz()
     dump, noted = load(asked.dump, asked.without_notes)
     explanation = Explanation(dump, asked.all, style_of_output(asked.color))
-    at = None if asked.why is None else index_of(dump, asked.why)
+    at, status = None if asked.why is None else index_of(dump, asked.why), explanation.status()
     if asked.json:
         write_out(text_of_answer(answer(explanation, noted, at)))
     elif asked.dot:
         write_out(dot(Picture(explanation, at, asked.all)))
     elif asked.svg:
-        write_out(svg(Picture(explanation, at, asked.all)))
+        with words_for_picture():
+            picture = svg(Picture(explanation, at, asked.all))
+        write_out(picture)
     elif asked.html is not None:
         write_page(asked, explanation, answer(explanation, noted, at), at)
     elif asked.summary:
         write_out(explanation.summary(at))
     elif not asked.quiet:
-        show(explanation.text() if at is None else explanation.why(at), asked.pager)
-    return explanation.status()
+        text = explanation.text() if asked.all else screen(explanation)
+        show(text if at is None else explanation.why(at), asked.pager)
+    return status
 
 
 def command(words: Sequence[str]) -> int:

@@ -1,4 +1,4 @@
-"""Facts: what stands in the source of a program and in no state of it, in one grammar for all recorders.
+"""Facts: what stands in the source of a program and in no state of it, in one grammar for all parsers.
 
     # FRAME [OPERATION] -> FACT
     Orders.book put                -> any auditor
@@ -61,9 +61,9 @@ import re
 from dataclasses import dataclass, field
 from typing import Dict, Iterable, Iterator, List, Optional, Tuple
 
-from .files import Refusal, shown
+from .files import Refusal, escaped, shown
 from .places import VARIABLE, Place, Values, is_like, values_of_frame
-from .sketch import COMPLETE, FACT, UNKNOWN, FactRow, Process, Sketch, guess, near_name, quote
+from .sketch import COMPLETE, FACT, UNKNOWN, FactRow, Process, Sketch, near_name, quote
 
 HOLDS, ALSO, STILL, GROUP, FREES, FREES_NONE = "holds", "also answered by", "still", "group", "frees", "frees none of"
 WAITS = ("any", "all", "nobody", "runs", "ended")
@@ -81,8 +81,8 @@ Word = Tuple[str, bool]  # of a line, with whether it stood in quotes
 @dataclass
 class Fact:
     """A line of facts. `words` are what follows the kind, but for `group` of 'all of GROUP' and for 'or nobody'. `used`
-    says whether it has matched, `took` has the names that each of its words took, and `decided` whom it has decided. Of
-    a guess `at` is its number. `lacks` says that a variable had no value where it matched."""
+    says whether it has matched, `took` has the names that each of its words took, and `decided` whom it has decided.
+    `lacks` says that a variable had no value where it matched."""
 
     at: int
     text: str
@@ -94,23 +94,21 @@ class Fact:
     used: bool = False
     took: Dict[str, Dict[str, None]] = field(default_factory=dict)
     decided: List[str] = field(default_factory=list)
-    is_guess: bool = False
     lacks: bool = False
 
     def values(self, process: Process) -> Values:
         """Returns the values of all variables for a process at its place."""
         arguments = dict(it.split("=", 1) for it in process.objects if "=" in it)
         found = self.place.values(process, self.kind in ANYWHERE) or {}
-        scope = {"process": process.scope} if process.scope else {}
-        return {"self": process.name, **scope, **arguments, **found}
+        return {"self": process.name, **arguments, **found}
 
     def has_variables(self) -> bool:
         """Whether its names may be others for each one that waits."""
         return any(map(is_variable, self.words))
 
     def called(self, path: str) -> str:
-        """Returns where it stands, or for a guess what it is called."""
-        return guess(self.at) if self.is_guess else f"{path}:{self.at}"
+        """Returns where it stands."""
+        return f"{path}:{self.at}"
 
     def row(self, path: str) -> FactRow:
         """Returns what the notes have of it."""
@@ -139,32 +137,21 @@ def fill_in(word: str, values: Values) -> str:
 
 @dataclass
 class Facts:
-    """The facts of a file. `path` is its name, for people, and `still` the line that says that nothing moves. `guesses`
-    has by the names of processes what is guessed of them, where no fact is on their wait, `bystanders` by theirs the
-    fact that they end nobody's wait, `bystanders_at` the same for the wait of one alone, by its name, and `spared` the
-    guess that they aren't among `others`."""
+    """The facts of a file. `path` is its name, for people, and `still` the line that says that nothing moves.
+    `bystanders` has by the names of processes the fact that they end nobody's wait, and `bystanders_at` the same for
+    the wait of one alone, by its name."""
 
     facts: List[Fact] = field(default_factory=list)
     path: str = "facts"
     still: Optional[Fact] = None
     groups: Dict[str, List[str]] = field(default_factory=dict)
-    guesses: Dict[str, Fact] = field(default_factory=dict)
     bystanders: Dict[str, Fact] = field(default_factory=dict)
     bystanders_at: Dict[str, Dict[str, Fact]] = field(default_factory=dict)
-    spared: Dict[str, Fact] = field(default_factory=dict)
     by_frame: Dict[str, List[Fact]] = field(default_factory=dict, repr=False, compare=False)
 
     def wait(self, process: Process) -> Optional[Fact]:
-        """Returns the first fact on the wait of a process, or else the guess, or None."""
-        return self.first(WAITS, process) or self.guess(process)
-
-    def guess(self, process: Process) -> Optional[Fact]:
-        """Returns the guess on the wait of a process, if its line matches."""
-        found = self.guesses.get(process.name)
-        if found is None or found.place.values(process) is None:
-            return None
-        found.used = True
-        return found
+        """Returns the first fact on the wait of a process, or None."""
+        return self.first(WAITS, process)
 
     def also(self, process: Process) -> Optional[Fact]:
         """Returns the first fact on who else may answer a process, or None."""
@@ -226,11 +213,10 @@ class Facts:
         lacking = [f"{self.path}:{fact.at}: a variable has no value there: {fact.text}" for fact in self.facts
                    if fact.lacks]
         return [*lacking, *(f"{self.path}:{fact.at}: it matches {why_unused(fact, sketch)}" for fact in self.facts
-                            if not (fact.used or fact.is_guess))]
+                            if not fact.used)]
 
     def reason(self, fact: Fact) -> str:
-        where = fact.called(self.path)
-        return where if fact.is_guess else f"{FACT} {where}"
+        return f"{FACT} {fact.called(self.path)}"
 
 
 def why_unused(fact: Fact, sketch: Sketch) -> str:
@@ -241,7 +227,7 @@ def why_unused(fact: Fact, sketch: Sketch) -> str:
         return f"nobody's wait: {fact.text}{near_name(lost, [it.name for it in sketch.processes])}"
     if any(there.values(it, anywhere) is not None for it in sketch.processes):
         return f"no unknown process: {fact.text}"
-    open_ones = [it for it in sketch.processes if it.kind == UNKNOWN and not (it.is_spoilt or it.is_idle)]
+    open_ones = [it for it in sketch.processes if it.kind == UNKNOWN and not it.is_garbled and it.is_there()]
     at_frame = [it for it in open_ones if Place(there.frames).values(it, anywhere) is not None]
     named = [it for it in at_frame if Place(there.frames, there.names).values(it, anywhere) is not None]
     pattern, texts = there.frames[0].split(":")[0], {each.split(" (")[0] for it in open_ones for each in it.frames}
@@ -339,7 +325,7 @@ def fact_of(words: List[Word], at: int, text: str) -> Fact:
         kind, rest = ALSO, rest[2:]
     if kind == FREES and rest[:2] == ["none", "of"]:
         kind, rest = FREES_NONE, rest[2:]
-    fact = Fact(at, shown(text), place, kind, without_nobody(kind, rest))
+    fact = Fact(at, escaped(text), place, kind, without_nobody(kind, rest))
     fact.or_nobody = len(fact.words) < len(rest)
     if kind == "all" and rest[:1] == ["of"]:
         if len(rest) != 2:

@@ -8,13 +8,15 @@ import secrets
 import stat
 import sys
 import unicodedata
-from typing import Iterable, Iterator, List, Sequence, Tuple
+from typing import Iterable, Iterator, List, Optional, Sequence, Tuple
 
 from .start import SIGNALS
 
 UNSEEN = {"Cc", "Cf", "Cs", "Zl", "Zp"}  # categories of characters that a terminal obeys, or that nobody sees
 STREAMS = ("standard input", "standard output", "standard error")
 TAKEN = "it is read too, or something else is written there"
+MOST_OF_NAME, MOST_OF_TEXT, MOST_OF_LINE = 100, 800, 4000  # characters that people are shown; JSON keeps all
+END = 20  # of these, as many are the last of what is shortened
 
 
 class Refusal(Exception):
@@ -32,8 +34,18 @@ class Failure(Exception):
 # What people are shown
 
 
-def shown(text: str) -> str:
-    """Returns a text for people: what a terminal would obey, what nobody sees, and lone surrogates, as escapes."""
+def shown(text: str, most: int = MOST_OF_TEXT) -> str:
+    """Returns a text for people, of at most so many characters: its beginning and its end, if it has more."""
+    return escaped(text if len(text) <= most else f"{text[:most - END]}..{text[-END:]}")
+
+
+def short_name(name: str) -> str:
+    """Returns a name for people, as it stands among others and in sentences."""
+    return shown(name, MOST_OF_NAME)
+
+
+def escaped(text: str) -> str:
+    """Returns a text with what a terminal would obey, what nobody sees, and lone surrogates, as escapes."""
     if text.isprintable():
         return text
     return "".join(it.encode("unicode_escape").decode() if unicodedata.category(it) in UNSEEN else it for it in text)
@@ -41,7 +53,7 @@ def shown(text: str) -> str:
 
 def say(text: str) -> None:
     """Writes lines to standard error. If that fails, nothing else changes."""
-    lines = "".join(f"{shown(line)}\n" for line in text.split("\n"))
+    lines = "".join(f"{shown(line, MOST_OF_LINE)}\n" for line in text.split("\n"))
     try:
         sys.stderr.write(lines)
         sys.stderr.flush()
@@ -131,35 +143,41 @@ def known_files(names: Iterable[int | str]) -> Iterator[Tuple[int | str, os.stat
             yield name, os.stat(name)
 
 
-def write_texts(texts: Sequence[Tuple[str, str]]) -> None:
+def write_texts(texts: Sequence[Tuple[str, str]], folder: Optional[int] = None) -> None:
     """Writes several files, each a pair of path and text. Nothing is in place before all of them are written whole, and
-    nothing else stays: a signal waits for that. Raises Failure if one can't be written."""
+    nothing else stays: a signal waits for that. A path whose end is a link is that of the file behind the link. With
+    `folder`, an open one, paths are names in it, and a link there is replaced. Raises Failure if one can't be written.
+    """
     made: List[Tuple[str, str]] = []
     path = ""
     with SIGNALS.hold():
         try:
             for path, text in texts:
-                target = os.path.realpath(path)  # (a link stays one)
+                target = os.path.realpath(path) if folder is None else path
                 made.append((os.path.join(os.path.dirname(target), f".cmh-{secrets.token_hex(8)}"), target))
-                write_new(*made[-1], text.encode())
-            for name, target in made if not SIGNALS.number else ():
-                os.replace(name, target)
+                write_new(*made[-1], text.encode(), folder)
+            for name, path in made if not SIGNALS.number else ():
+                os.replace(name, path, src_dir_fd=folder, dst_dir_fd=folder)
         except (OSError, ValueError) as error:
             raise Failure(f"{shown(path)}: {getattr(error, 'strerror', None) or error}") from error
         finally:
             for name, _ in made:
                 with contextlib.suppress(OSError, ValueError):
-                    os.remove(name)
+                    os.remove(name, dir_fd=folder)
 
 
-def write_new(name: str, target: str, data: bytes) -> None:
-    """Writes a new file, with the mode of the one that it will replace."""
-    try:
-        mode = stat.S_IMODE(os.stat(target).st_mode)
-    except FileNotFoundError:
-        mode = None
-    handle = os.open(name, os.O_WRONLY | os.O_CREAT | os.O_EXCL, 0o666 if mode is None else mode)
+def write_new(name: str, target: str, data: bytes, folder: Optional[int]) -> None:
+    """Writes a new file, with the mode of the one that it will replace. In an open folder nobody else may read it."""
+    mode = mode_of(target) if folder is None else 0o600
+    handle = os.open(name, os.O_WRONLY | os.O_CREAT | os.O_EXCL, 0o666 if mode is None else mode, dir_fd=folder)
     with open(handle, "wb") as file:
         if mode is not None:
             os.fchmod(handle, mode)
         file.write(data)
+
+
+def mode_of(path: str) -> Optional[int]:
+    try:
+        return stat.S_IMODE(os.stat(path).st_mode)
+    except FileNotFoundError:
+        return None

@@ -1,20 +1,21 @@
 """What is known of a dump with both its answers, by index: the text, the JSON and the pictures are all made of this."""
 from __future__ import annotations
 
-from typing import Callable, Dict, Iterator, List, NamedTuple, Optional, Tuple
+from typing import Callable, Dict, Iterable, Iterator, List, NamedTuple, Optional, Tuple
 
 from .dump import Dump
-from .files import shown
-from .idle import proposals_of, quiet
-from .guesses import without_guesses
-from .proposals import Line, Proposal, lines_of
+from .files import short_name
+from .model import Sign
+from .proposals import Line, Proposal, Words, lines_of, propose
 from .reasons import Reason, Rests, counts_of
+from .doubts import Doubt
+from .rule import STATUSES, Decision, Headline
 from .roots import Roots, count_waiters, edges_among, ends, way, without_hubs
-from .sketch import ALL, ANY, BARE, ENDED, GUESS, LIMIT, RUNS, UNKNOWN, Process, premise
+from .sketch import ALL, ANY, BARE, ENDED, LIMIT, RUNS, UNKNOWN, Process, premise
 from .stuck import Answer, Waits
 
-STUCK, UNDECIDED, NOT_STUCK = "stuck", "undecided", "not_stuck"  # verdicts, beside ENDED
-STATUSES = {STUCK: 3, UNDECIDED: 5, NOT_STUCK: 0}
+# Verdicts, beside ENDED.
+STUCK, LIKELY, UNDECIDED, NOT_STUCK = "stuck", "likely", "undecided", "not_stuck"
 START = -1  # no process
 RUNNING, MESSAGE, COME = "runs", "message_in_transit", "all_have_come"  # why one goes on by itself
 # Systems of which nothing less can be restarted.
@@ -36,47 +37,44 @@ class Verdicts:
     """
 
     def __init__(self, waits: Waits, low: Answer, high: Answer) -> None:
+        self.headline = waits.decision.headline
         self.stuck = low.members()
         inside = set(self.stuck)
-        self.quiet = quiet(waits, low, high)
+        self.quiet = {at for at in range(waits.number) if waits.processes[at].sign is Sign.RESTS and at not in inside}
         self.undecided = [at for at in high.members() if at not in inside and at not in self.quiet]
         self.well = [at for at in range(waits.number) if not high.inside[at] or at in self.quiet]
 
-    def worst(self) -> str:
-        """Returns the verdict on the whole."""
-        return STUCK if self.stuck else UNDECIDED if self.undecided else NOT_STUCK
 
 
 def is_limited_still(process: Process) -> bool:
     """Whether one is taken to continue as its wait has a limit, and stood at it in all states."""
-    return process.stays and premise(LIMIT) in process.because
+    return process.sign in (Sign.SLEEPS, Sign.TICKS, Sign.POLLS) and bool(process.frames or process.operation)
 
 
 class Findings(Verdicts):
-    """The verdicts on a dump, its roots, and what the undecided ones hang on. `certain` are the verdicts without
-    guesses, `guesses` those on which anybody rests."""
+    """The likely answer of a dump, which has what is certain too: the verdicts, the roots, and what the undecided ones
+    hang on. `certain` are the verdicts that hang on no doubt, and `likely` has those who are likely to be stuck, and
+    not certain to be."""
 
     def __init__(self, dump: Dump) -> None:
-        super().__init__(dump.waits, dump.low, dump.high)
-        self.dump, self.waits, self.low, self.high = dump, dump.waits, dump.low, dump.high
+        self.original, self.dump = dump, dump.likely
+        super().__init__(self.dump.waits, self.dump.low, self.dump.high)
+        self.waits, self.low, self.high = self.dump.waits, self.dump.low, self.dump.high
+        self.certain = self if self.dump is dump else Verdicts(dump.waits, dump.low, dump.high)
+        self.headline = self.certain.headline
+        self.likely = {*self.stuck}.difference(self.certain.stuck)
         self.open = set(self.undecided)
         self.ended = [at for at in range(self.waits.number) if self.waits.kinds[at] == ENDED]
-        self.roots = Roots(self.waits, self.stuck)
-        self.rests = Rests(dump.sketch)
+        self.doubted = [set(doubt.waits) for doubt in dump.doubts]
+        self.roots = Roots(self.waits, self.stuck, {*self.certain.stuck},
+                           lambda members: len(self.doubts_of(members)))
+        self.rests = Rests(self.dump.sketch)
         self.left_over = self.waits.stuck_without(self.roots.root_of) if self.stuck else []
-        self.guesses = sorted((it for it in self.reasons() if it.kind == GUESS), key=lambda it: int(it.name))
-        self.certain = self.without_guesses() if self.guesses else self
-        self.if_guesses = {*self.stuck}.difference(self.certain.stuck) | {*self.well}.difference(self.certain.well)
 
     # The whole
 
-    def without_guesses(self) -> Verdicts:
-        waits = Waits(without_guesses(self.dump.sketch))
-        return Verdicts(waits, waits.answer(False), waits.answer(True))
-
     def status(self) -> int:
-        """Returns the status, which rests on no guess."""
-        return STATUSES[self.certain.worst()]
+        return STATUSES[self.headline]
 
     def reasons(self) -> List[Reason]:
         """Returns the reasons on which any process rests."""
@@ -86,15 +84,23 @@ class Findings(Verdicts):
         """Returns those that aren't stuck and wait for nobody, idle ones too."""
         return [at for at in self.well if self.waits.kinds[at] == RUNS or at in self.quiet]
 
-    def are_all_idle(self) -> bool:
-        """Whether each process that has not ended is idle. Idle ones may be left out, which a warning says."""
-        left = len(self.waits.processes) - len(self.ended)
-        is_left_out = any(line.startswith("idle ") for line in self.dump.sketch.warnings)
-        return len(self.quiet) == left and (left > 0 or is_left_out and not self.ended)
+    def is_hidden_by_sleepers(self) -> bool:
+        """Whether some would be likely to be stuck if those who sleep were seen to come back to their loops."""
+        subjects = [subject._replace(sign=Sign.TICKS) if subject.sign is Sign.SLEEPS else subject
+                    for subject in self.original.waits.subjects]
+        return self.headline is Headline.NOT_KNOWN and bool(Decision(subjects).likely)
 
-    def rests_on_guesses(self, some: List[int]) -> bool:
-        """Whether the verdict on some of these is another one without guesses."""
-        return not self.if_guesses.isdisjoint(some)
+    # Doubts
+
+    def is_certain(self, number: int) -> bool:
+        """Whether a root hangs on no doubt."""
+        return self.likely.isdisjoint(self.roots.roots[number])
+
+    def doubts_of(self, members: Iterable[int]) -> List[Doubt]:
+        """Returns the doubts on which it hangs that some are stuck."""
+        likely = self.original.likely_answer().likely
+        names = likely.with_hinges(self.waits.processes[at].name for at in members)
+        return [doubt for doubt, waits in zip(self.original.doubts, self.doubted) if not waits.isdisjoint(names)]
 
     # One process
 
@@ -106,7 +112,7 @@ class Findings(Verdicts):
 
     def verdict(self, at: int) -> str:
         if at in self.roots.above:
-            return STUCK
+            return LIKELY if at in self.likely else STUCK
         if self.waits.kinds[at] == ENDED:
             return ENDED
         return UNDECIDED if at in self.open else NOT_STUCK
@@ -144,7 +150,9 @@ class Findings(Verdicts):
         """Returns the members of a root in the order in which each waits for the next, if it is just one cycle of
         several: each waits for one member alone."""
         members, edges = self.roots.roots[number], self.roots.edges
-        is_cycle = len(members) > 1 and all(len(edges[at]) == 1 and edges[at][0] < self.waits.number for at in members)
+        inside = set(members)
+        is_cycle = len(members) > 1 and all(inside.intersection(self.waits.without_hubs(edges[at])) == {other}
+                                            for at, other in zip(members, [*members[1:], members[0]]))
         return members if is_cycle else []
 
     def shortest_cycle(self, number: int) -> List[int]:
@@ -162,14 +170,14 @@ class Findings(Verdicts):
         found = dict.fromkeys(self.waits.processes[at].site for at in members)
         return [site for site in found if site is not None], None in found
 
-    def units(self, members: List[int], called: Callable[[str], str] = shown) -> Tuple[List[str], bool]:
+    def units(self, members: List[int], called: Callable[[str], str] = short_name) -> Tuple[List[str], bool]:
         """Returns what can be restarted of some, and whether that isn't known of others: their sites, each as it is
         `called`; the whole; or those themselves."""
         system = self.dump.sketch.system
         if system in WHOLE:
             return [WHOLE[system]], False
         if system in ALONE:
-            return [shown(self.waits.processes[at].name) for at in members], False
+            return [short_name(self.waits.processes[at].name) for at in members], False
         sites, is_some_unsaid = self.sites(members)
         return list(map(called, sites)), is_some_unsaid
 
@@ -185,7 +193,7 @@ class Findings(Verdicts):
 
     def proposals(self) -> List[Proposal]:
         """Returns the facts that would decide the undecided ones."""
-        return proposals_of(self.dump.sketch, {self.waits.processes[at].name for at in self.quiet})
+        return propose(self.waits, {self.waits.processes[at].name for at in self.quiet})
 
     def ends(self) -> Dict[int, int]:
         """Returns for each that isn't stuck and waits, the one who may unblock it in the end."""
@@ -206,4 +214,4 @@ class Findings(Verdicts):
         """Returns the lines of facts that would decide those that stood with a limit at the same place in all states,
         with these."""
         some = [it for it in self.processes(self.running()) if is_limited_still(it)]
-        return lines_of(some, self.dump.sketch) if some else []
+        return lines_of(some, Words(self.waits.processes)) if some else []

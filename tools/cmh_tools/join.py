@@ -7,25 +7,31 @@ waits lasted that were the same in both: a wait has to show by a count that it w
 from __future__ import annotations
 
 import functools
+import re
 from dataclasses import replace
 from typing import Dict, List, Optional, Sequence
 
+from .connections import join_connections, merged, on_machine, renamed, servers_first, serves
 from .files import Refusal, shown
-from .guesses import renumbered, without_guess
-from .moments import STOOD, UNCOUNTED
-from .sketch import (ALL, ANY, DONE, ENDED, INNER, RUNS, SYSTEM, UNKNOWN, Process, Sketch, number_of_guess, premise,
-                     quote, reason_of)
+from .model import ANYBODY, Anybody, Part, Sign, Strength, Wakers, Who
+from .sketch import (ALL, ANY, DONE, INNER, RUNS, SYSTEM, UNKNOWN, WAITING, Process, Sketch, premise, quote, reason_of)
+from .snapshots import UNCOUNTED, doubt_wait
+
+
+LINE = re.compile(r" \(.+:\d+\)$")  # the end of a frame in a file of source
 
 
 def join_sketches(sketches: Sequence[Sketch], paths: Sequence[str]) -> Sketch:
     """Returns one sketch of several. Raises Refusal if they are of no one time, or not of one machine."""
-    check_machine(sketches, paths)
+    sketches, paths = servers_first(sketches, paths)
+    number = sum(bool(serves(sketch)) for sketch in sketches)
+    check_machine(sketches[number:], paths[number:])
     check_times(sketches, paths)
-    joined = functools.reduce(join_two, sketches)
+    joined = functools.reduce(join_two, [on_machine(sketch, sketches[-1].machine) for sketch in sketches])
+    join_connections(joined)
     for process in joined.processes:
-        if process.kind in (ANY, ALL) and process.count is None and premise(STOOD) not in process.because:
-            process.become_unknown(UNCOUNTED)
-            process.proposal = "none"
+        if process.count is None:
+            doubt_wait(process, UNCOUNTED)
     return joined
 
 
@@ -54,45 +60,48 @@ def join_two(first: Sketch, second: Sketch) -> Sketch:
     """Returns the sketch of two, in which the threads of both have the names of the first."""
     names = new_names(first, second)
     free = {**freeing_nobody(second, names), **freeing_nobody(first)}
-    second = renumbered(rename(second, names, new_premises(first, second)), first)
+    second = rename(second, names, new_premises(first, second))
     check_facts(first, second)
     others = {process.name: process for process in second.processes}
     mine = {process.name for process in first.processes}
-    processes = [join_process(it, others[it.name]) if it.name in others else it for it in first.processes]
+    known = serves(first)
+    processes = [join_process(it, others[it.name]) if it.name in others and it.name not in known else it
+                 for it in first.processes]
     processes += [it for it in second.processes if it.name not in mine]
     idle, readers = {*first.idle, *second.idle}, {*first.readers, *second.readers}
     inner = {*first.inner, *second.inner}
     for process in processes:
-        process.is_idle = process.is_idle or process.kind == UNKNOWN and process.thread in idle
+        is_calm = process.kind == UNKNOWN and process.thread in idle
+        process.sign = Sign.RESTS if is_calm else process.sign
         if process.thread in readers or process.thread in inner and process.kind == UNKNOWN:
             process.because = []
             why = SYSTEM if process.thread in readers else premise(INNER)
-            process.decide(ENDED, [why], reason=DONE)  # (it ends nobody's wait)
+            process.become(Sign.ENDED, DONE, [why])  # (it ends nobody's wait)
     processes = [without_bystanders(it, free) for it in processes] if free else processes
     pairs = list(dict.fromkeys([*first.in_transit, *second.in_transit]))
     return Sketch(processes, pairs, f"{first.system} and {second.system}", first.as_of,
                   list(dict.fromkeys([*first.warnings, *second.warnings])), {**first.premises, **second.premises},
                   [*first.facts, *(row for row in second.facts if row not in first.facts)],
-                  min(first.readings, second.readings), {**first.groups, **second.groups}, first.machine,
+                  min(first.readings, second.readings), {**first.groups, **second.groups},
+                  first.machine or second.machine,
                   [[min(a[0], b[0]), max(a[1], b[1])] for a, b in zip(first.times, second.times)], sorted(idle),
-                  sorted(readers), sorted(inner))
+                  sorted(readers), sorted(inner), merged(first.connections, second.connections))
 
 
 def freeing_nobody(sketch: Sketch, names: Optional[Dict[str, str]] = None) -> Dict[str, str]:
     """Returns those who end nobody's wait by a fact, by what they are called in both, with the fact as a reason."""
-    return {(names or {}).get(name, name): reason_of(row) for row in sketch.facts if not number_of_guess(row)
+    return {(names or {}).get(name, name): reason_of(row) for row in sketch.facts
             for name in row.get("took", {}).get("nobody", [])}
 
 
 def without_bystanders(process: Process, free: Dict[str, str]) -> Process:
-    """Returns a process whose lists have none who ends nobody's wait by a fact on another system."""
-    lists = [process.besides, *([process.whom] if process.kind == ANY else [])]
-    gone = dict.fromkeys(free[name] for some in lists for name in some if name in free)
-    if not gone:
+    """Returns a process among whose wakers nobody is who ends nobody's wait by a fact on another system."""
+    gone = dict.fromkeys(free[name] for part in process.parts for some in part for name in some.names() if name in free)
+    if not gone or len(process.parts) > 1:
         return process
-    whom = [name for name in process.whom if name not in free] if process.kind == ANY else process.whom
-    return replace(process, whom=whom, besides=[name for name in process.besides if name not in free],
-                   because=list(dict.fromkeys([*process.because, *gone])))
+    part = tuple(left for left in (some.without(free) for some in process.parts[0])
+                 if left.names() or isinstance(left.who, Anybody))
+    return replace(process, parts=[part], because=list(dict.fromkeys([*process.because, *gone])))
 
 
 def new_names(first: Sketch, second: Sketch) -> Dict[str, str]:
@@ -113,13 +122,18 @@ def new_premises(first: Sketch, second: Sketch) -> Dict[str, str]:
 
 def rename(sketch: Sketch, names: Dict[str, str], premises: Dict[str, str]) -> Sketch:
     reasons = {premise(name): premise(new) for name, new in premises.items()}
-    processes = [replace(it, name=names[it.name], whom=[names[name] for name in it.whom],
-                         besides=[names[name] for name in it.besides if name in names],
-                         spared=[names[name] for name in it.spared], bound=None,
-                         candidates=[names.get(word, word) for word in it.candidates],
+    lists: Dict[int, Who] = {id(ANYBODY): ANYBODY}
+
+    def of(some: Wakers) -> Wakers:
+        if id(some.who) not in lists:
+            lists[id(some.who)] = [names[name] for name in some.names()]
+        return some._replace(who=lists[id(some.who)], because=tuple(reasons.get(it, it) for it in some.because))
+
+    processes = [replace(it, name=names[it.name], parts=[tuple(map(of, part)) for part in it.parts],
                          because=[reasons.get(reason, reason) for reason in it.because]) for it in sketch.processes]
     return replace(sketch, processes=processes, in_transit=[(names[a], names[b]) for a, b in sketch.in_transit],
-                   premises={premises.get(name, name): text for name, text in sketch.premises.items()})
+                   premises={premises.get(name, name): text for name, text in sketch.premises.items()},
+                   connections=renamed(sketch.connections, names))
 
 
 def check_facts(first: Sketch, second: Sketch) -> None:
@@ -131,29 +145,58 @@ def check_facts(first: Sketch, second: Sketch) -> None:
 
 
 def join_process(one: Process, other: Process) -> Process:
-    """Returns a process by what both know of it. What one knows goes before what the other guesses."""
-    if one.is_guessed() != other.is_guessed() and UNKNOWN not in (one.kind, other.kind):
-        one, other = without_guess(one), without_guess(other)
-    kinds = (one.kind, other.kind)
-    spoilt = next((it for it in (one, other) if it.is_spoilt), None)
+    """Returns a process by what both know of it: who waits by one system, and goes on by the other, isn't
+    understood."""
+    odd = next((it for it in (one, other) if it.is_garbled), None)
     known, less = (one, other) if one.kind != UNKNOWN else (other, one)
     counts = [reason for reason in less.because if reason.startswith("premise ")]  # (others may last as it does)
-    made = replace(known, name=one.name, site=one.site, thread=one.thread,
+    made = replace(known, name=one.name, site=one.site, thread=one.thread, frames=frames_of(known, less),
                    because=list(dict.fromkeys([*known.because, *counts])),
-                   note="; ".join(dict.fromkeys(filter(None, [one.note, other.note]))),
-                   besides=list(dict.fromkeys([*one.besides, *other.besides])))
-    if spoilt is not None:
-        made.become_unknown(spoilt.reason)
-        made.is_spoilt, made.proposal = True, "none"
-    elif kinds == (UNKNOWN, UNKNOWN):
-        made.reason = "; ".join(dict.fromkeys([one.reason, other.reason]))
-    elif UNKNOWN not in kinds and (one.kind != other.kind or {*one.whom} != {*other.whom}):
-        made.become_unknown(f"the two differ: by one it {words_for(one)}, by the other it {words_for(other)}")
-        made.proposal = "none"
-    elif UNKNOWN not in kinds:
+                   note="; ".join(dict.fromkeys(filter(None, [one.note, other.note]))))
+    if odd is not None:
+        made.become_unknown(odd.reason)
+        made.is_garbled = True
+    elif less.kind == UNKNOWN:
+        join_unknown(made, known, less)
+    elif one.kind == other.kind == ANY and is_within(one, other):
+        made.parts = [(*one.parts[0], *against_in(other))]
         made.because = list(dict.fromkeys([*one.because, *other.because]))
-        made.stays = one.stays and other.stays
+    elif one.kind == other.kind == ANY and is_within(other, one):
+        made.parts = [(*other.parts[0], *against_in(one))]
+        made.because = list(dict.fromkeys([*one.because, *other.because]))
+    elif one.kind != other.kind or {*one.whom} != {*other.whom}:
+        made.become_unknown(f"the two differ: by one it {words_for(one)}, by the other it {words_for(other)}")
+        made.is_garbled = True
+    else:
+        made.because = list(dict.fromkeys([*one.because, *other.because]))
     return made
+
+
+def frames_of(known: Process, less: Process) -> List[str]:
+    """Returns the frames of the one that has lines of source among them: the kernel has none of a runtime's."""
+    has_lines = [any(LINE.search(text) for text in process.frames) for process in (known, less)]
+    return less.frames if has_lines == [False, True] else known.frames
+
+
+def join_unknown(made: Process, known: Process, less: Process) -> None:
+    """Adds to a process what the system says of it that knows less: who is against, and where nothing more is known its
+    wakers too."""
+    if known.kind == UNKNOWN:
+        made.reason = "; ".join(dict.fromkeys([known.reason, less.reason]))
+        made.sign = less.sign if known.sign is Sign.UNKNOWN else known.sign
+        made.parts = known.parts or less.parts
+    elif known.sign in WAITING:
+        against = against_in(less)
+        made.parts = [(*part, *against) for part in known.parts] if against else known.parts
+
+
+def is_within(less: Process, more: Process) -> bool:
+    """Whether one system names some of those alone who may end a wait by the other."""
+    return {*less.whom} < {*more.whom}
+
+
+def against_in(process: Process) -> Part:
+    return tuple(some for part in process.parts for some in part if some.strength is Strength.AGAINST)
 
 
 def words_for(process: Process) -> str:

@@ -9,20 +9,19 @@ from typing import Dict, Iterable, Iterator, List, NamedTuple, Optional, Sequenc
 
 from . import VERSION
 from .answer import Tree
-from .explain import IF_GUESSES, Explanation, number_of
-from .files import shown
+from .explain import Explanation, number_of
+from .files import MOST_OF_LINE, escaped, shown
 from .page_look import PAGE, SCRIPT, STYLE
 from .picture import headline, restarts
 from .proposals import legend
-from .reasons import called
 from .sketch import ALL, ANY, ENDED, RUNS, UNKNOWN
 from .steps import next_steps, ways_of
 
 ROWS, ROOTS, NAMES, STEPS, LINES = 5_000, 50, 5, 3, 100  # as many are shown, unless all are asked for
 LONG, LONG_LINK = 400, 80  # characters of a text in the table, and of a link
 HEADS = ("Process", "Answer", "Site", "What it does", "What it waits for", "Chain", "Rests on")
-ANSWERS = (("", "all"), ("stuck", "stuck"), ("inroot", "stuck, in a root"), ("undecided", "undecided"),
-           ("not_stuck", "not stuck"), ("ended", "has ended"))
+ANSWERS = (("", "all"), ("stuck", "stuck"), ("likely", "likely stuck"), ("inroot", "in a root"),
+           ("undecided", "undecided"), ("not_stuck", "not stuck"), ("ended", "has ended"))
 WORDS = {"system": "what the system keeps", "by hand": "the sketch", "an older version": "an older version"}
 NO_PICTURE = "There is no picture here: where this page was made, Graphviz isn't installed, or couldn't draw it. " \
     "The table has it all."
@@ -42,7 +41,7 @@ class Section(NamedTuple):
 
 def text(value: object) -> str:
     """Returns a text as it stands in a page."""
-    return html.escape(shown(str(value)))
+    return html.escape(shown(str(value), MOST_OF_LINE))
 
 
 def digest(body: str) -> str:
@@ -72,20 +71,18 @@ class Page:
     def all_reasons(self) -> Iterator[Tuple[str, str, Tree, int]]:
         rows = [("premise", "name", row) for row in self.tree["premises"]]
         rows += [("fact", "at", row) for row in self.tree["facts"]]
-        rows += [("guess", "guess", row) for row in self.tree["guesses"]]
         yield from ((*row, at) for at, row in enumerate(rows))
 
     def place(self, at: int) -> Tuple[int, int]:
         """Returns where a process stands in the table: in or behind which root, and then by its verdict."""
         row = self.rows[at]
-        if row["verdict"] == "stuck":
+        if row["verdict"] in ("stuck", "likely"):
             return 0 if row["root"] else 1, row["root"] or row["behind"][0]
         return {"undecided": 2, "not_stuck": 3}.get(row["verdict"], 4), row["kind"] != UNKNOWN
 
     def html(self) -> str:
         """Returns the text of the page."""
-        sections = [Section("guesses", text(self.this.if_words()[:-1]), "Guesses", self.guess_parts()),
-                    Section("roots", "Roots: where it has to be broken", "Roots", list(self.roots())),
+        sections = [Section("roots", "Roots: where it has to be broken", "Roots", list(self.roots())),
                     Section("picture", "Picture", "Picture", self.picture_parts()),
                     Section("undecided", "Undecided", "Undecided", list(self.undecided())),
                     Section("processes", "Processes", "Processes", self.table()),
@@ -105,14 +102,9 @@ class Page:
         """Returns what stands below the headline."""
         counts = self.tree["counts"]
         ended = f"; {counts['ended']:,} more ended" if counts["ended"] else ""
-        words = f"{number_of(counts['processes'])}: {counts['stuck']:,} stuck, {counts['undecided']:,} undecided, " \
-            f"{counts['not_stuck']:,} not stuck{ended}."
-        words = " ".join([words, *self.this.certain_lines()])
+        words = f"{number_of(counts['processes'])}: {counts['stuck']:,} stuck, {counts['likely']:,} likely stuck, " \
+            f"{counts['undecided']:,} undecided, {counts['not_stuck']:,} not stuck{ended}."
         return words + (f" This is {self.tree['as_of']}." if self.tree["as_of"] else "")
-
-    def guess_parts(self) -> List[str]:
-        return listed(f"{called('guess', str(row['guess']))}: <code>{text(row['text'])}</code> "
-                      f"({number_of(row['processes'])})" for row in self.tree["guesses"])
 
     # Roots
 
@@ -128,7 +120,7 @@ class Page:
     def root(self, row: Tree) -> str:
         number, members = row["root"], row["members"]
         words = f"{len(members):,} processes wait for each other" if members[1:] else "nobody can unblock it"
-        words += IF_GUESSES if row["if_guesses"] else ""
+        words += "" if row["is_certain"] else ", likely"
         restart = self.restarts[number - 1]
         several = self.links(members, " → ") + f" → {self.link(members[0])}" if row["is_cycle"] and \
             len(members) <= NAMES else self.links(members)
@@ -137,12 +129,23 @@ class Page:
         rests = [f"<p>It rests on {rests[0]}.</p>"] if len(rests) == 1 else ["<p>It rests on:</p>", *listed(rests)]
         return "\n".join([f'<div class="root" id="root{number}">', f"<h3>Root {number}: {words}</h3>",
                           f'<p class="restart">{text(restart[:1].upper() + restart[1:])}</p>', f"<p>{several}</p>",
-                          *behind, *rests, "</div>"])
+                          *self.doubts(row), *behind, *rests, "</div>"])
+
+    def doubts(self, row: Tree) -> List[str]:
+        """Returns the doubts of a root, and the words that say that they are none."""
+        members = [self.index[name] for name in row["members"]]
+        found = self.this.doubts_of(members)
+        if not found:
+            return []
+        items = [f"{doubt.number}: {text(self.this.doubt_words(doubt, members))}" for doubt in found]
+        numbers = ",".join(str(doubt.number) for doubt in found)
+        return ["<p>Unless</p>", *listed(items),
+                f"<p>If none of them is so: <code>cmh-stall FOLDER --true {numbers}</code></p>"]
 
     def reason_link(self, row: Tree) -> str:
         """Returns the link to a fact or a premise, with a comma behind it, or nothing."""
         at = self.reasons.get(f"{row['kind']} {row['name']}")
-        return "" if at is None else f'<a href="#r{at}">{text(called(row["kind"], row["name"]))}</a>, '
+        return "" if at is None else f'<a href="#r{at}">{text(row["name"])}</a>, '
 
     def link(self, name: str) -> str:
         """Returns a name with the link to its row, if that is there."""
@@ -171,7 +174,7 @@ class Page:
         yield from self.unknown_ones(rows)
         facts = self.this.proposals()
         if facts:
-            lines = [*(it.text() for it in facts[:LINES]), *legend(facts, self.this.dump.sketch)]
+            lines = [*(it.text() for it in facts[:LINES]), *legend(facts, self.this.waits.processes)]
             yield "<p>Facts that would decide them, to be completed:</p>"
             yield f"<pre>{text_of_lines(lines)}</pre>"
 
@@ -298,7 +301,7 @@ class Page:
     def rest(self, reason: str) -> str:
         at = self.reasons.get(reason)
         kind, _, name = reason.partition(" ")
-        words = text(WORDS.get(reason) or called(kind, name))
+        words = text(WORDS.get(reason) or name)
         return words if at is None else f'<a href="#r{at}">{words}</a>'
 
     # Reasons, and the state
@@ -308,13 +311,13 @@ class Page:
         for kind, key, row, at in self.all_reasons():
             words = text(row["text"])
             words = f"the premise that {words}" if kind == "premise" else f"<code>{words}</code>"
-            name = text(called(kind, str(row[key])))
+            name = text(row[key])
             items.append(f'<span id="r{at}">{name}</span>: {words} ({number_of(row["processes"])})')
         return listed(items)
 
     def state_parts(self) -> Iterator[str]:
         for name, lines in self.states:
-            yield f"<h3>{text(name)}</h3>\n<pre>{text_of_lines(lines.splitlines())}</pre>"
+            yield f"<h3>{text(name)}</h3>\n<pre>{html.escape(escaped_lines(lines))}</pre>"
 
 
 def hang(number: int, before: str, behind: str) -> str:
@@ -325,6 +328,11 @@ def hang(number: int, before: str, behind: str) -> str:
 def section(it: Section) -> str:
     body = "\n".join(it.parts)
     return f'<section aria-labelledby="{it.name}">\n<h2 id="{it.name}">{it.head}</h2>\n{body}\n</section>\n'
+
+
+def escaped_lines(lines: str) -> str:
+    """Returns the lines of a state, which stand there whole."""
+    return "\n".join(map(escaped, lines.splitlines()))
 
 
 def text_of_lines(lines: Iterable[str]) -> str:

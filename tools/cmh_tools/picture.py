@@ -8,7 +8,7 @@ from typing import Collection, Dict, FrozenSet, Iterator, List, NamedTuple, Opti
 
 from .arrow_words import by_first, far_words, reach_of, words_of
 from .explain import Explanation, number_of
-from .files import shown
+from .files import short_name, shown
 from .folding import (BEHIND, FREE, MORE, OPEN, OVER, ROOT, RUNNING, SHARED, SMALL, SORTS, UNDECIDED, Folding, Part,
                       Row)
 from .sketch import ALL, ANY, UNKNOWN
@@ -95,7 +95,8 @@ class Picture:
         members, behind = self.this.roots.roots[number], len(self.this.roots.behind[number])
         circle = f"{len(members):,} in a circle" if self.this.cycle(number) else f"{len(members):,} wait for each other"
         head = circle if members[1:] else "nobody can unblock it"
-        lines = [f"Root {number + 1}: {head}{f', {behind:,} behind it' if behind else ''}", self.around(number)]
+        likely = "" if self.this.is_certain(number) else ", likely"
+        lines = [f"Root {number + 1}{likely}: {head}{f', {behind:,} behind it' if behind else ''}", self.around(number)]
         return [*filter(None, lines), *([] if self.cure() else [self.restarts[number]])]
 
     def around(self, number: int) -> str:
@@ -292,7 +293,7 @@ class Picture:
 
 def called_site(site: str) -> str:
     """Returns what a site is called: a name alone could be anything, and several words say what it is."""
-    return shown(site) if " " in site else f"site {shown(site)}"
+    return short_name(site) if " " in site else f"site {short_name(site)}"
 
 
 def restarts(this: Explanation) -> List[str]:
@@ -301,7 +302,7 @@ def restarts(this: Explanation) -> List[str]:
     found: Dict[FrozenSet[str], List[int]] = {}
     words = [this.restart(members, called_site) for members in this.roots.roots]
     for number, members in enumerate(this.roots.roots):
-        units, is_some_unsaid = this.units(members)
+        units, is_some_unsaid = this.units(members, str)
         if units and not is_some_unsaid:
             found.setdefault(frozenset(units), []).append(number)
     for first, *others in found.values():
@@ -347,7 +348,7 @@ def answer_of(box: Box) -> int:
 
 def headline(this: Explanation) -> str:
     """Returns in a sentence or two who is stuck."""
-    return f"{this.if_words()} {stuck_words(this)}".lstrip()
+    return f"{this.headline.value}: {stuck_words(this)}"
 
 
 def stuck_words(this: Explanation) -> str:
@@ -359,7 +360,10 @@ def stuck_words(this: Explanation) -> str:
     behind = len(this.stuck) - inside
     where = "root 1" if roots == 1 else f"{roots:,} roots"
     more = f", and {behind:,} behind {'it' if roots == 1 else 'them'}" if behind else ""
-    words = f"{len(this.stuck):,} of {total} {are(this.stuck)} stuck: {inside:,} in {where}{more}."
+    certain = len(this.certain.stuck)
+    more_likely = f", {len(this.likely):,} of them likely" if certain and this.likely else ""
+    likely = f"{'' if certain else 'likely '}stuck{more_likely}"
+    words = f"{len(this.stuck):,} of {total} {are(this.stuck)} {likely}: {inside:,} in {where}{more}."
     return f"{words} {undecided}" if this.undecided else words
 
 

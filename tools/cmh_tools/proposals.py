@@ -9,8 +9,10 @@ from collections import Counter
 from typing import Collection, Dict, Iterable, List, NamedTuple, Sequence, Set, Tuple
 
 from .facts import FREES, OTHERS, STILL, is_variable, word_of
+from .model import Sign, Strength
 from .places import FRAME, is_like
-from .sketch import ANY, COMPLETE, REST, UNKNOWN, Process, Sketch
+from .sketch import COMPLETE, REST, UNKNOWN, UNREADABLE, Process
+from .stuck import Waits
 
 Line = Tuple[str, List[Process]]  # of facts, with those that it would decide
 # Arguments that name the other side of a wait, by what they are called.
@@ -24,10 +26,10 @@ LEFT_OUT = f"{REST} -> runs"
 HAS_ENDED = " -> ended"
 FORMS = ("# any: one of them is enough; all: each has to come; a guess: leave out who can't end the wait",
          "# -> runs: a timer, a user or the outside ends it; -> nobody: nothing does")
-OUTSIDE = "outside"  # the proposal for one that goes on by the outside, and is likely to end nobody's wait
-ASKED = ("any", "all", "runs", "outside", "nobody", "maybe")  # proposals that are lines on the place of one
-ALONE = {"runs": "runs", "outside": "runs", "nobody": "nobody"}  # words of facts without names
-FEW, MOST = 50, 20  # kinds of waits at one place whose names are compared, and words in a guess
+UNCOUNTED = "uncounted"
+REACHES = ("reaches", "same-process", "inside", "guess")  # hows of those who can, and needn't
+SUGGESTS = ("guess", "reaches", "listed", "ends", "comes")  # hows of those whom a line names beforehand
+FEW, MOST, MANY = 50, 20, 1000  # kinds of waits at one place whose names are compared, words in a line, and names
 
 
 class Proposal(NamedTuple):
@@ -56,53 +58,73 @@ class Proposal(NamedTuple):
         return f"{self.line}  # {f'{self.hint}: ' if self.hint else 'a guess, ' if self.is_guess else ''}{number}"
 
 
-def legend(found: Iterable[Proposal], sketch: Sketch) -> List[str]:
+def legend(found: Iterable[Proposal], processes: Iterable[Process]) -> List[str]:
     """Returns what the lines that are to be completed mean, as comments of facts."""
     if all(it.is_settled for it in found):
         return []
-    families = Counter(NUMBER.sub("*", it.name) for it in sketch.processes)
+    families = Counter(NUMBER.sub("*", it.name) for it in processes)
     name = max(families, key=lambda it: families[it])
     return [f"# {COMPLETE} stands for names, with spaces between them, as {word_of(name)}; {OTHERS}: all of them",
             *FORMS]
 
 
-def propose(sketch: Sketch, quiet: Collection[str] = ()) -> List[Proposal]:
+def propose(waits: Waits, quiet: Collection[str] = ()) -> List[Proposal]:
     """Returns a line of facts for each wait that isn't known, with those that it would decide. What only lacks a count
     of its waits needs one line for all. `quiet` has the names of those that need none."""
-    some = [it for it in sketch.processes if it.kind == UNKNOWN and it.name not in quiet]
-    asked = [it for it in some if it.frames and it.frames != [REST] and it.proposal in ASKED]
-    found = [Proposal(line, "", not EMPTY.search(line), names_of(them)) for line, them in lines_of(asked, sketch)]
+    settled = waits.decision.certain | waits.decision.likely | waits.decision.freed.keys()
+    some = [process for number, process in enumerate(waits.processes)
+            if process.name not in quiet and process.sign is not Sign.RESTS
+            and (process.kind == UNKNOWN or number not in settled and is_by_reach(process))]
+    asked = [it for it in some if it.frames and it.frames not in ([REST], [UNREADABLE], [it.name]) and is_asked(it)]
+    words = Words(waits.processes)
+    found = [Proposal(line, "", not EMPTY.search(line), names_of(them)) for line, them in lines_of(asked, words)]
     found += [Proposal(f"? holds {word_of(what)}", "whoever publishes that", False, names)
               for what, names in wanted_of(some).items()]
     found += [Proposal(f"{word_of(it.name)}{HAS_ENDED}", f"if there is none: it {it.reason}", False, [it.name])
-              for it in some if it.proposal == "ended"]
-    free: Dict[Tuple[str, ...], List[str]] = {}
-    for it in some:
-        if it.proposal == FREES:
-            free.setdefault(tuple(it.candidates), []).append(it.name)
-    found += [Proposal(freeing_nobody(names), "if that is so", False, them) for names, them in free.items()]
-    found += beside_others(sketch, {it.name for it in asked if it.proposal == OUTSIDE})
+              for it in some if it.frames == [it.name] and it.site is None and it.frames != [REST]]
+    found += freeing_lines(waits)
+    unread = [process.name for process in some if process.frames == [UNREADABLE]]
+    if unread:
+        who = "they have" if unread[1:] else "it has"
+        hint = f"if {who} nothing of what the others wait at"
+        found.append(Proposal(f"{UNREADABLE}{HAS_ENDED}", hint, False, unread))
     lacking = [it for it in some if it.frames == [REST]]
     if lacking:
         found.append(Proposal(LEFT_OUT, "if none of those that the state may lack matters", False, names_of(lacking)))
-    doubtful = [it for it in some if it.proposal == "still"]
+    doubtful = [it for it in some if has_how(it, UNCOUNTED)]
     if doubtful:
         found.append(Proposal(STILL, "if nothing moves, so that one place in all states is one wait", False,
                               names_of(doubtful)))
     return found
 
 
-def beside_others(sketch: Sketch, names: Set[str]) -> List[Proposal]:
-    """Returns a line for those of some names who may end a wait as well as others may, and likely end none."""
-    rows = [it for it in sketch.processes if names and it.kind == ANY and not names.isdisjoint(it.whom)
-            and not names.issuperset(it.whom)]
-    found = [name for name in dict.fromkeys(name for it in rows for name in it.whom) if name in names]
-    return [Proposal(freeing_nobody(found), "if that is so", False, names_of(rows))] if 0 < len(found) <= MOST else []
+def is_asked(process: Process) -> bool:
+    """Whether a line on the place of one would decide whom it waits for, if it waits."""
+    if process.is_garbled:
+        return False
+    is_open = has_how(process, "unshown") or has_how(process, "by-name") or is_by_reach(process)
+    return not process.parts or is_open and not any(some.what for part in process.parts for some in part)
 
 
-def ask_to_spare(process: Process, others: List[str]) -> None:
-    """Asks for the fact that some end nobody's wait, who may end that of a process besides."""
-    process.proposal, process.candidates = (FREES, others) if 0 < len(others) <= MOST else ("none", [])
+def is_by_reach(process: Process) -> bool:
+    """Whether the state says no more of who ends the wait of one than who can."""
+    return process.sign is Sign.BLOCKED and any(has_how(process, how) for how in REACHES)
+
+
+def has_how(process: Process, how: str) -> bool:
+    return any(some.how == how for part in process.parts for some in part)
+
+
+def freeing_lines(waits: Waits) -> List[Proposal]:
+    """Returns a line for those who may end the wait of some, likely end none, and alone keep these from being stuck."""
+    decision = waits.decision
+    lists: Dict[Tuple[str, ...], List[str]] = {}
+    for doubt in decision.doubts(decision.likely):
+        if doubt.who is not None and doubt.strength is not Strength.UNSEEN:
+            lists.setdefault(tuple(doubt.waits), []).append(doubt.who)
+    kept = {some: list(dict.fromkeys(names)) for some, names in lists.items()}
+    return [Proposal(freeing_nobody(names), "if that is so", False, list(some)) for some, names in kept.items()
+            if len(names) <= MOST]
 
 
 def freeing_nobody(names: Iterable[str], place: str = "*") -> str:
@@ -118,48 +140,47 @@ def wanted_of(processes: Iterable[Process]) -> Dict[str, List[str]]:
     """Returns what facts on holders are asked for, with the names of those that wait for each."""
     found: Dict[str, List[str]] = {}
     for it in processes:
-        for what in it.candidates if it.proposal == "holds" else ():
+        for what in (some.what for part in it.parts for some in part if some.what):
             found.setdefault(what, []).append(it.name)
     return found
 
 
-def lines_of(processes: Iterable[Process], sketch: Sketch) -> List[Line]:
+def lines_of(processes: Iterable[Process], words: Words) -> List[Line]:
     """Returns the lines of facts that some processes need, most needed first. The first line that matches counts, so
     one without an operation is last."""
-    names = {it.name for it in sketch.processes}
     places: Dict[Tuple[str, str], List[Process]] = {}
     for it in processes:
         places.setdefault((place_name(it), it.operation), []).append(it)
-    lines = [(not place[1], line) for place, some in places.items() for line in lines_at(some, names)]
+    lines = [(not place[1], line) for place, some in places.items() for line in lines_at(some, words)]
     return [line for _, line in sorted(lines, key=lambda it: (it[0], -len(it[1][1])))]
 
 
-def lines_at(some: List[Process], names: Set[str]) -> List[Line]:
-    """Returns the lines for those at one place: one, or one for each wait there. An idle one has its own, since it
-    stands at a line of a library that is the same for each pool."""
-    kinds = {(it.name if it.is_idle else "", it.proposal) for it in some}
-    shared = (partners_of(some, names) or relatives_of(some)) if len(kinds) == 1 else []
+def lines_at(some: List[Process], words: Words) -> List[Line]:
+    """Returns the lines for those at one place: one, or one for each wait there."""
+    shared = (partners_of(some, words.names) or words.relatives_of(some)) if len({is_for_all(it) for it in some}) == 1 \
+        else []
     if shared:
         return [(line_of(some, shared), some)]
     waits: Dict[object, List[Process]] = {}
     for it in some:
         at = tuple(what for what in it.objects if "=" not in what and not what.startswith(OF_A_CALL))
-        kind = it.name if it.is_idle else "", it.proposal
-        waits.setdefault((tuple(it.frames), at, tuple(it.candidates), kind), []).append(it)
+        waits.setdefault((tuple(it.frames), at, tuple(words.of(it)), is_for_all(it)), []).append(it)
     rows = list(waits.values())
     marks = tell_apart(rows) if len(rows) > 1 else [[]]
-    return [(line_of(row, row[0].candidates, mark), row) for row, mark in zip(rows, marks)]
+    return [(line_of(row, words.of(row[0]), mark), row) for row, mark in zip(rows, marks)]
+
+
+def is_for_all(process: Process) -> bool:
+    """Whether one is likely to need all of some."""
+    return process.is_collective or bool(process.parts) and process.is_for_all()
 
 
 def line_of(some: List[Process], words: Sequence[str], mark: Sequence[str] = ()) -> str:
     """Returns the line for some that wait alike. `mark` tells them from others at their place."""
     one = some[0]
-    of = ["of", word_of(one.name)] if one.is_idle and not mark else []
     operation = [word_of(one.operation)] if one.operation else []
-    guess = words or [COMPLETE]
-    proposal = ALONE.get(one.proposal) or ("all" if one.proposal == "all" else "any")
-    fact = [proposal] if one.proposal in ALONE else [proposal, *map(word_of, guess)]
-    return " ".join([word_of(place_name(one)), *mark, *of, *operation, "->", *fact])
+    fact = ["all" if is_for_all(one) else "any", *map(word_of, words or [COMPLETE])]
+    return " ".join([word_of(place_name(one)), *mark, *operation, "->", *fact])
 
 
 def place_name(process: Process) -> str:
@@ -172,12 +193,44 @@ def frame_name(text: str) -> str:
     return f"{found['function']}:{found['line']}" if found else text
 
 
-# Candidates
+# Whom the state suggests
+
+
+class Words:
+    """The words of facts for those whom the state suggests for each wait: patterns of names without their numbers,
+    where such a pattern takes no others. Too many are none."""
+
+    def __init__(self, processes: Iterable[Process]) -> None:
+        self.names = {process.name for process in processes}
+        self.taken: Dict[str, int] = {}  # how many names a pattern takes
+        self.known: Dict[Tuple[str, ...], List[str]] = {}
+
+    def of(self, process: Process) -> List[str]:
+        """Returns the words for the wait of one."""
+        lists = [some.names() for part in process.parts for some in part if some.how in SUGGESTS]
+        names = tuple(dict.fromkeys(name for some in lists for name in some)) if sum(map(len, lists)) <= MANY else ()
+        if names not in self.known:
+            found = self.patterns_for(names)
+            self.known[names] = [*found, COMPLETE] if 0 < len(found) <= MOST else []
+        return self.known[names]
+
+    def patterns_for(self, names: Sequence[str]) -> List[str]:
+        families = Counter(NUMBER.sub("*", name) for name in names)
+        for pattern in families.keys() - self.taken.keys():
+            self.taken[pattern] = sum(is_like(pattern, name) for name in self.names)
+        patterns = (NUMBER.sub("*", name) for name in names)
+        return list(dict.fromkeys(pattern if families[pattern] == self.taken[pattern] else name
+                                  for name, pattern in zip(names, patterns)))
+
+    def relatives_of(self, some: List[Process]) -> List[str]:
+        """Returns the words of some waits, if they are the same for all, and give each its own."""
+        first = self.of(some[0])
+        return first if all(self.of(it) == first for it in some) and all(map(is_variable, first)) else []
 
 
 def partners_of(some: List[Process], names: Set[str]) -> List[str]:
     """Returns the words for the other sides of some waits that are arguments there: 'rank-{to}'."""
-    if some[0].proposal == "all":
+    if is_for_all(some[0]):
         return []
     family = NUMBER.sub("", some[0].name)
     found = []
@@ -188,38 +241,8 @@ def partners_of(some: List[Process], names: Set[str]) -> List[str]:
     return found + [COMPLETE] * (TWO in some[0].operation and len(found) == 1)
 
 
-def relatives_of(some: List[Process]) -> List[str]:
-    """Returns the candidates of some waits, if they are the same words for all, which give each its own."""
-    first = some[0].candidates
-    return first if all(it.candidates == first for it in some) and all(map(is_variable, first)) else []
-
-
 def values_of(process: Process) -> Dict[str, str]:
     return dict(it.split("=", 1) for it in process.objects if "=" in it)
-
-
-def shorten_candidates(sketch: Sketch) -> None:
-    """Gives those that are unknown patterns for their candidates, names without their numbers, where such a pattern
-    takes no others. Too many are none."""
-    names = {process.name for process in sketch.processes}
-    taken: Dict[str, int] = {}
-    known: Dict[Tuple[str, ...], List[str]] = {}
-    for process in sketch.processes:
-        words = tuple(process.candidates) if process.kind == UNKNOWN else ()
-        if words and words not in known:
-            found = patterns_for(words, names, taken)
-            known[words] = found if len(found) <= MOST else []
-        process.candidates = known.get(words, [])
-
-
-def patterns_for(words: Sequence[str], names: Set[str], taken: Dict[str, int]) -> List[str]:
-    """Returns the patterns of names. `taken` keeps how many names a pattern takes. Other words stay."""
-    families = Counter(NUMBER.sub("*", word) for word in words if word in names)
-    for pattern in families.keys() - taken.keys():
-        taken[pattern] = sum(is_like(pattern, name) for name in names)
-    patterns = (NUMBER.sub("*", word) for word in words)
-    return list(dict.fromkeys(pattern if families[pattern] == taken.get(pattern) else word
-                              for word, pattern in zip(words, patterns)))
 
 
 # What tells waits apart

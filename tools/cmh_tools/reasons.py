@@ -1,12 +1,11 @@
 """What an answer rests on: facts, premises, what the system keeps; as data, and in words for its reader."""
 from __future__ import annotations
 
-from typing import Collection, Dict, Iterable, List, NamedTuple, Tuple
+from typing import Collection, Dict, Iterable, List, NamedTuple
 
 from .facts import is_variable
-from .files import shown
-from .sketch import (BARE, BY_HAND, ENDED, FACT, GUESS, OLDER, PREMISE, SYSTEM, Process, Sketch, distinct_lists, guess,
-                     number_of_guess, reason_of)
+from .files import MOST_OF_LINE, short_name, shown
+from .sketch import (BARE, BY_HAND, ENDED, FACT, OLDER, PREMISE, SYSTEM, Process, Sketch, lists_of_wakers, reason_of)
 
 SHOWN = 5
 WORDS = {SYSTEM: "what the system itself keeps", BY_HAND: "what stands in the sketch",
@@ -14,8 +13,8 @@ WORDS = {SYSTEM: "what the system itself keeps", BY_HAND: "what stands in the sk
 
 
 class Reason(NamedTuple):
-    """On what some processes rest: `name` is of a premise, or where a line of facts stands, or the number of a guess;
-    `text` is the sentence of the premise, or the line; `number` is how many rest on it."""
+    """On what some processes rest: `name` is of a premise, or where a line of facts stands; `text` is the sentence of
+    the premise, or the line; `number` is how many rest on it."""
 
     kind: str
     name: str
@@ -30,30 +29,27 @@ class Rests:
         self.sketch = sketch
         self.took = {reason_of(row): row["took"] for row in sketch.facts}
         self.facts = {reason_of(row): row["text"] for row in sketch.facts}
-        self.numbers = {guess(number): number for number in map(number_of_guess, sketch.facts)}
         self.ended = {it.name: it for it in sketch.processes if it.kind == ENDED and it.because != [SYSTEM]}
 
     def of(self, processes: Iterable[Process], known: Collection[Reason] = ()) -> List[Reason]:
         """Returns on what some processes rest, facts first, but for what is known already. Those that they wait for and
         that have ended by a fact count too."""
         some = list(processes)
-        named = dict.fromkeys(name for whom in distinct_lists(some) for name in whom if name in self.ended)
+        named = dict.fromkeys(name for whom in lists_of_wakers(some) for name in whom if name in self.ended)
         counts = counts_of([*some, *(self.ended[name] for name in named)])
         before = {(it.kind, it.name) for it in known}
         order = sorted(counts, key=self.place)
         found = [self.reason(it, counts[it]) for it in order]
         return [it for it in found if (it.kind, it.name) not in before]
 
-    def place(self, reason: str) -> Tuple[int, int]:
-        """Returns where a reason stands among others: guesses first, by their numbers, then facts, and the system last.
-        """
-        number = self.numbers.get(reason, 0)
-        return 0 if number else 1 if reason.startswith(FACT) else 3 if reason == SYSTEM else 2, number
+    def place(self, reason: str) -> int:
+        """Returns where a reason stands among others: facts first, and the system last."""
+        return 0 if reason.startswith(FACT) else 2 if reason == SYSTEM else 1
 
     def reason(self, text: str, number: int) -> Reason:
         """Returns a reason of a sketch, on which a number of processes rest."""
         word, _, name = text.partition(" ")
-        if word in (FACT, GUESS):
+        if word == FACT:
             return Reason(word, name, self.facts.get(text, ""), number)
         if word == PREMISE:
             return Reason(PREMISE, name, self.sketch.premises.get(name, name), number)
@@ -103,7 +99,7 @@ def taken(rests: Rests, reason: Reason, everything: bool) -> List[str]:
     """Returns a line for each pattern of a fact, with the processes that it took. Where it takes others for each that
     waits, these stand in the line of that one."""
     took = rests.took_by(reason)
-    return [f"      {shown(word)}: {some([shown(name) for name in names], everything)}" for word, names in took.items()
+    return [f"      {short_name(word)}: {some([*map(short_name, names)], everything)}" for word, names in took.items()
             if names != [word] and not is_variable(word)]
 
 
@@ -113,11 +109,6 @@ def some(names: List[str], everything: bool) -> str:
 
 
 def words(reason: Reason) -> str:
-    if reason.kind in (FACT, GUESS):
-        return f"{called(reason.kind, reason.name)}: {shown(reason.text)}"
+    if reason.kind == FACT:
+        return f"{shown(reason.name)}: {shown(reason.text, MOST_OF_LINE)}"
     return f"the premise that {shown(reason.text)}" if reason.kind == PREMISE else reason.text
-
-
-def called(kind: str, name: str) -> str:
-    """Returns what a reason with a name is called: where a line stands, or 'guess 1'."""
-    return f"{GUESS} {name}" if kind == GUESS else shown(name)

@@ -1,10 +1,71 @@
-"""A sketch in which nothing stands that a program or its user has named: for mailing."""
+"""A stall in which nothing stands that a program or its user has named: for mailing.
+
+What may stay is on the lists below: keys, our own words and those of the systems, and the names that stand here for
+others. All else is dropped or replaced, so what is added to a sketch or to notes is too, until it is on a list."""
 from __future__ import annotations
 
+import json
+import re
 from dataclasses import replace
-from typing import Dict, List, Optional
+from typing import Any, Dict, Iterator, List, Sequence, Tuple
 
-from .sketch import UNKNOWN, FactRow, Process, Sketch, number_of_guess
+from .dump import NO_SITE, RUNNING, STUCK, Dump
+from .making import known_premises
+from .model import HOWS, Anybody, Sign, Strength, Wakers, Who
+from .sketch import (BARE, BY_HAND, DONE, FACT, NEEDED, OLDER, PREMISE, REST, SYSTEM, WORK, FactRow, Process, Sketch,
+                     sketch_of, text_of_sketch, tree_of)
+
+HIDDEN = "not shown"
+KEYS = {
+    "processes", "lists", "in_transit", "system", "as_of", "premises", "facts", "readings",  # of a sketch
+    "name", "sign", "wait", "who", "how", "strength", "reason", "site", "frames", "operation", "objects", "because",
+    "spoilt", "collective", "at", "text", "took",  # of its processes and facts
+    "version", "sites", "state", "dependents",  # of a dump
+    "sketch", "names", "left_out", "folded",  # of its notes
+}
+# Names that stand for others, and what is made of them.
+NAME = re.compile(r"(?:(?:fact )?facts:|(?:premise )?premise-|operation-|site-|list[ -]|[pfo])\d+")
+AS_OF = ("as of the first of two states", "as of SIGQUIT, which ended the program")
+RUNS = (WORK, "a dead message will come to it", "a fact says so", "a message is ready for it",
+        "computes", "it came after the first state", "it computes", "it has moved", "it is about to begin",
+        "it is ready to continue", "it looks again and again", "it moved between two looks", "it only looks and sleeps",
+        "it sleeps", "it sleeps, or waits with a limit", "it tries a few times",
+        "it tries that for some minutes at most", "it waits with a limit", "its client computes", "its client sleeps",
+        "its timer comes", "sleeps", "somebody may connect", "waits for a client", "waits for a signal",
+        "waits for a timer", "waits for data", "waits for its time", "waits on a connection", "waits with a limit",
+        "what it waited for is done", "who is on another machine may send", "yields")
+TIMED = "timed "
+OPERATIONS = {
+    "erlang": """gen_server:call gen_statem:call gen_event:rpc GenServer.call Task.await Task.await_many receive
+        erpc:call global:set_lock mnesia:transaction timer:sleep Process.sleep gen_tcp:accept gen_tcp:recv
+        gen_udp:recv gen_server:loop proc_lib:stop supervisor:shutdown""",
+    "go": """sync.Mutex.Lock sync.RWMutex.Lock sync.RWMutex.RLock sync.WaitGroup.Wait sync.Cond.Wait select sleep
+        net/http.Get""",
+    "jvm": """synchronized Object.wait Thread.join Thread.sleep Condition.await Condition.awaitNanos
+        ReentrantLock.lock ReentrantLock.lockInterruptibly ReentrantReadWriteLock$ReadLock.lock
+        ReentrantReadWriteLock$WriteLock.lock Semaphore.acquire CountDownLatch.await CyclicBarrier.await
+        Phaser.arriveAndAwaitAdvance FutureTask.get CompletableFuture.get CompletableFuture.join
+        ArrayBlockingQueue.put ArrayBlockingQueue.take LinkedBlockingQueue.put LinkedBlockingQueue.take
+        ThreadPoolExecutor.awaitTermination TimeUnit.sleep ServerSocket.accept SelectorImpl.select
+        HttpURLConnection.getInputStream System.exit""",
+    "linux": """read write wait4 waitid futex recvfrom recvmsg sendto sendmsg flock fcntl select pselect6 poll ppoll
+        epoll_wait epoll_pwait accept accept4 connect openat pause clock_nanosleep nanosleep semop semtimedop
+        msgrcv msgsnd mq_timedreceive mq_timedsend rt_sigtimedwait rt_sigsuspend pthread_join pthread_mutex_lock
+        pthread_rwlock_rdlock pthread_rwlock_wrlock pthread_barrier_wait polls vfork stopped traced""",
+    "mpi": """MPI_Recv MPI_Send MPI_Ssend MPI_Sendrecv MPI_Probe MPI_Wait MPI_Waitall MPI_Waitany MPI_Waitsome MPI_Test
+        MPI_Iprobe MPI_Barrier MPI_Bcast MPI_Reduce MPI_Allreduce MPI_Gather MPI_Allgather MPI_Scatter MPI_Alltoall
+        MPI_Alltoallv MPI_Finalize MPI_Win_fence MPI_Win_lock MPI_Win_free MPI_File_write_at_all""",
+    "python": """Lock.acquire RLock.acquire Semaphore.acquire BoundedSemaphore.acquire Event.wait Condition.wait
+        Barrier.wait Queue.get Queue.put Queue.join SimpleQueue.get JoinableQueue.put JoinableQueue.join Thread.join
+        Process.join Future.result Connection.recv socket.accept time.sleep asyncio.sleep asyncio.wait await
+        asyncio.wait_for threading.wait threading.shutdown futures.wait""",
+    "rabbitmq": "consume handle reply publish take",
+}
+WORDS = {"", HIDDEN, BARE, BY_HAND, DONE, NEEDED, OLDER, REST, SYSTEM, NO_SITE, STUCK, RUNNING, "idle", "active",
+         *HOWS, *(sign.value for sign in Sign), *(strength.value for strength in Strength), *AS_OF, *RUNS,
+         "chan send", "chan receive", "IO wait", "MPI_Sendrecv sends",
+         "MPI_Sendrecv receives", "traced by", "no call",
+         *(it for words in OPERATIONS.values() for it in words.split())}
 
 
 class Shorts:
@@ -17,34 +78,88 @@ class Shorts:
     def of(self, text: str) -> str:
         return self.known.setdefault(text, f"{self.letter}{len(self.known) + 1}")
 
-    def all(self, texts: List[str]) -> List[str]:
+    def all(self, texts: Sequence[str]) -> List[str]:
         return [self.of(text) for text in texts]
 
 
+def words_of_premises() -> Iterator[str]:
+    """Yields the words of premises: their names, as reasons too, and sentences. Where systems are joined, a name may
+    stand behind that of its system."""
+    for system, name, sentence in known_premises():
+        yield from (system, sentence, name, f"{PREMISE} {name}", f"{system} {name}", f"{PREMISE} {system} {name}")
+
+
 class Redaction:
-    def __init__(self) -> None:
-        self.names, self.sites, self.frames, self.objects, self.facts = (
-            Shorts(letter) for letter in ("p", "site-", "f", "o", "facts:"))
+    """Gives what a sketch names other names, and replaces all words that aren't on a list."""
+
+    def __init__(self, system: str) -> None:
+        self.names, self.sites, self.frames, self.objects, self.facts, self.operations, self.premises = map(
+            Shorts, ("p", "site-", "f", "o", "facts:", "operation-", "premise-"))
+        self.lists: Dict[int, Who] = {}  # by their ids, so that waits share them again
+        self.words = {*WORDS, *words_of_premises()}
+        self.words.update([system] if {*system.split(" and ")} <= self.words else [])
 
     def process(self, it: Process) -> Process:
-        """Returns a process with what the recorder's own words say of it: what it waits in, for whom, and why."""
-        site: Optional[str] = None if it.site is None else self.sites.of(it.site)
-        return replace(it, name=self.names.of(it.name), whom=self.names.all(it.whom), site=site, note="",
-                       frames=self.frames.all(it.frames), objects=self.objects.all(it.objects), count=None, thread="",
-                       reason="not shown" if it.kind == UNKNOWN else it.reason, besides=self.names.all(it.besides),
-                       spared=self.names.all(it.spared), because=list(map(self.because, it.because)), candidates=[],
-                       scope="")
+        """Returns a process with what the parser's own words say of it: what it waits in, for whom, and why."""
+        return replace(it, name=self.names.of(it.name), parts=[tuple(map(self.wakers, part)) for part in it.parts],
+                       note="", thread="", meeting="", site=None if it.site is None else self.sites.of(it.site),
+                       count=None, frames=it.frames if it.frames == [REST] else self.frames.all(it.frames),
+                       operation=self.operation(it.operation), objects=self.objects.all(it.objects),
+                       because=list(map(self.because, it.because)))
+
+    def wakers(self, some: Wakers) -> Wakers:
+        """Returns the wakers by their short names, with the table's own words for how they end a wait."""
+        if id(some.who) not in self.lists:
+            self.lists[id(some.who)] = some.who if isinstance(some.who, Anybody) else self.names.all(some.who)
+        return some._replace(who=self.lists[id(some.who)], because=(), what="")
+
+    def operation(self, text: str) -> str:
+        timed, name = (TIMED, text[len(TIMED):]) if text.startswith(TIMED) else ("", text)
+        return timed + (name if not name or name in self.words else self.operations.of(name))
 
     def because(self, reason: str) -> str:
-        return f"fact {self.facts.of(reason[5:])}" if reason.startswith("fact ") else reason
+        word, _, rest = reason.partition(" ")
+        if word == FACT:
+            return f"{FACT} {self.facts.of(rest)}"
+        return f"{PREMISE} {self.premise(rest)}" if word == PREMISE else reason
+
+    def premise(self, name: str) -> str:
+        return name if name in self.words else self.premises.of(name)
 
     def fact(self, row: FactRow) -> FactRow:
-        return {"at": row["at"] if number_of_guess(row) else self.facts.of(row["at"]), "text": "not shown", "took": {}}
+        return {"at": self.facts.of(row["at"]), "text": HIDDEN, "took": {}}
+
+    def sketch(self, it: Sketch) -> Sketch:
+        """Returns a sketch in which only what is on the lists stands."""
+        premises = {self.premise(name): sentence for name, sentence in it.premises.items()}
+        pairs = [(self.names.of(a), self.names.of(b)) for a, b in it.in_transit]
+        made = Sketch(list(map(self.process, it.processes)), pairs, it.system, it.as_of, [], premises,
+                      list(map(self.fact, it.facts)), it.readings)
+        return sketch_of(self.listed(tree_of(made)), "the copy")
+
+    def is_own(self, text: str) -> bool:
+        """Whether a text is on a list, or a name that stands for another."""
+        text = text[len(TIMED):] if text.startswith(TIMED) else text
+        return text in self.words or NAME.fullmatch(text) is not None
+
+    def listed(self, tree: Any) -> Any:
+        """Returns a tree of JSON with the keys that may stay, in which other texts are replaced."""
+        if isinstance(tree, dict):
+            return {key: self.listed(value) for key, value in tree.items() if key in KEYS or self.is_own(key)}
+        if isinstance(tree, list):
+            return [self.listed(value) for value in tree]
+        return HIDDEN if isinstance(tree, str) and not self.is_own(tree) else tree
 
 
 def redact(sketch: Sketch) -> Sketch:
-    made = Redaction()
-    processes = list(map(made.process, sketch.processes))
-    pairs = [(made.names.of(a), made.names.of(b)) for a, b in sketch.in_transit]
-    facts = list(map(made.fact, sketch.facts))
-    return Sketch(processes, pairs, sketch.system, sketch.as_of, [], sketch.premises, facts, sketch.readings)
+    return Redaction(sketch.system).sketch(sketch)
+
+
+def redacted_texts(sketch: Sketch) -> Iterator[Tuple[str, str]]:
+    """Yields the name and the text of each file of a redacted copy: of the sketch, the dump, and its notes."""
+    redaction = Redaction(sketch.system)
+    made = redaction.sketch(sketch)
+    dump = Dump(made)
+    yield "sketch.json", text_of_sketch(made) + "\n"
+    for name, text in (("dump.json", dump.text(dump.low)), ("dump.notes.json", dump.notes())):
+        yield name, json.dumps(redaction.listed(json.loads(text)), indent=1) + "\n"

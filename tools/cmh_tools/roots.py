@@ -1,11 +1,11 @@
 """The roots of a stall: the components of the stuck ones that no edge leaves, and who is stuck behind which of them.
 
-An edge leads from each stuck one to each stuck one of its list, for waits of both kinds, or through a hub. So a root
-isn't made by a pick: nobody outside of it can unblock it.
+An edge leads from each stuck one to each stuck one of its list, for waits of both kinds, or through a hub, but not to
+those who may end its wait only in another way, as by a timer that nobody has started. So a root isn't made by a pick.
 """
 from __future__ import annotations
 
-from typing import Container, Dict, Iterable, Iterator, List, Optional, Set, Tuple
+from typing import AbstractSet, Callable, Container, Dict, Iterable, Iterator, List, Optional, Set, Tuple
 
 from .stuck import Answer, Waits
 
@@ -15,13 +15,18 @@ Edges = Dict[int, List[int]]  # from each one to others of its list
 
 
 class Roots:
-    """`roots` are lists of members, along their waits, with most others behind them alone first. `behind[r]` are those
+    """`roots` are lists of members, along their waits: those first that `doubts` gives the least number, and of these
+    with most others behind them alone. `behind[r]` are those
     stuck behind root r alone, `shared` those behind more than one. `above[p]` are the roots of p, at most MOST_ROOTS,
+    where that of one that is `sure` is a root of such alone,
     `root_of[p]` is the one that it is a member of, and `among` has who is looked at."""
 
-    def __init__(self, waits: Waits, among: List[int]) -> None:
-        self.waits, self.among = waits, set(among)
+    def __init__(self, waits: Waits, among: List[int], sure: AbstractSet[int] = frozenset(),
+                 doubts: Callable[[List[int]], int] = lambda members: 0) -> None:
+        self.waits, self.among, self.doubts = waits, set(among), doubts
         self.edges = edges_among(waits, among)
+        for at in sure if len(sure) < len(among) else ():
+            self.edges[at] = self.sure_edges(at, sure)
         found = components(self.edges)
         of = {at: number for number, members in enumerate(found) for at in members}
         above: Dict[int, Tuple[int, ...]] = {}
@@ -30,6 +35,13 @@ class Roots:
             over = sorted({root for it in out for root in above[it]}) if out else [number]
             above[number] = tuple(over[:MOST_ROOTS])
         self.arrange(found, of, above)
+
+    def sure_edges(self, at: int, sure: AbstractSet[int]) -> List[int]:
+        """Returns the edges of a sure one to sure ones. Through a hub it may reach others too, if it waits for all."""
+        edges = self.edges[at]
+        if all(it in sure or it >= self.waits.number and sure >= set(self.edges[it]) for it in edges):
+            return edges
+        return [it for it in self.waits.without_hubs(edges) if it in sure]
 
     def arrange(self, found: List[List[int]], of: Dict[int, int], above: Dict[int, Tuple[int, ...]]) -> None:
         """Numbers the roots, and sorts the others behind them."""
@@ -43,7 +55,8 @@ class Roots:
                 self.shared.append(at)
             elif over != (of[at],):
                 behind[over[0]].append(at)
-        tops.sort(key=lambda number: (-len(behind[number]), min(found[number])))
+        tops.sort(key=lambda number: (self.doubts(without_hubs(self.waits, found[number])), -len(behind[number]),
+                                      min(found[number])))
         place = {number: at for at, number in enumerate(tops)}
         self.roots = [without_hubs(self.waits, along(self.edges, found[number])) for number in tops]
         self.behind = [behind[number] for number in tops]
@@ -60,7 +73,7 @@ def edges_among(waits: Waits, some: List[int]) -> Edges:
     among = set(some)
     hubs = {at: [it for it in waits.left[at] if it in among] for at in range(waits.number, len(waits.left))}
     among.update(at for at, others in hubs.items() if others)
-    edges = {at: [it for it in waits.left[at] if it in among] for at in some}
+    edges = {at: [it for it in waits.left_of(at) if it in among] for at in some}
     edges.update((at, others) for at, others in hubs.items() if others)
     return edges
 

@@ -7,7 +7,7 @@ import os
 import re
 from typing import Dict, Iterator, List, Tuple
 
-from .captures import answers, link_of
+from .captures import answers, link_of, stat_of
 
 RANK = re.compile(rb"(?:OMPI_COMM_WORLD|PMIX?|MV2_COMM_WORLD)_RANK=|SLURM_PROCID=")
 GO = b"\xff Go buildinf:"
@@ -15,7 +15,7 @@ Row = Tuple[str, str]
 
 
 def proposals() -> List[Row]:
-    """Returns for each process that a recorder sees inside of what it is, and the command that takes its state."""
+    """Returns for each process that a parser sees inside of what it is, and the command that takes its state."""
     found: Dict[str, Row] = {}
     for pid in sorted(filter(str.isdigit, os.listdir("/proc")), key=int):
         for what, command in rows_of(pid):
@@ -35,6 +35,10 @@ def rows_of(pid: str) -> Iterator[Row]:
         for option, node in zip(words, words[1:]):
             if option in ("-sname", "-name"):
                 yield f"erlang {pid}", f"cmh-stall erlang {full_name(node)}"
+    elif name == "postgres" and os.path.basename(link_of(f"/proc/{stat_of(pid, 1)}/exe")) != name:
+        yield f"postgres {pid}", "cmh-stall postgres"
+    elif name in ("mariadbd", "mysqld"):
+        yield f"{name} {pid}", "cmh-stall mariadb"
     elif RANK.search(bytes_of(f"/proc/{pid}/environ")):
         yield f"rank of {name} {pid}", f"cmh-stall mpi {name}"
     elif name.startswith("python"):

@@ -1,6 +1,7 @@
-"""The sketch of a stalled system: who is there, what each one waits for, and where in its source it stands.
+"""The wait-for graph of a stalled system, which people know as a sketch: who is there, what each one waits for, and
+where in its source it stands.
 
-A recorder makes a sketch of a system's raw state, and people may write one by hand, as JSON:
+A parser makes it of a system's raw state, and people may write one by hand, as JSON:
 
     {"processes": [
       {"name": "web 1", "waits_for_any": ["checkout"], "note": "POST /pay, pay.py:31"},
@@ -10,126 +11,92 @@ A recorder makes a sketch of a system's raw state, and people may write one by h
       {"name": "loader", "ended": "done"}],
      "in_transit": [["mail", "checkout"]]}
 
-Each process has just one of the keys of KINDS. A list of `lists`, an object, has a name, and may stand by it. `frames`,
-`operation`, `objects` and `count` tell one wait from the next; recorders write them, and whoever writes by hand may
-leave them out.
+Each process has just one of the keys of KINDS, or else 'sign', with 'wait' for whoever may end its wait and how, as
+`model` has it. A list of `lists`, an object, has a name, and may stand by it. `frames`, `operation`, `objects` and
+`count` tell one wait from the next; parsers write them, and whoever writes by hand may leave them out.
 
-Each wait, and each that runs, says on what it rests (`because`): the system keeps the list itself; a premise, a rule
-that something could break; a fact; or who wrote the sketch by hand says so. One without a reason is refused here, so a
-recorder can't invent it.
-"""
+Each wait, and each that runs, says on what it rests (`because`): the system keeps the list itself; an assumption, a
+rule that something could break; a fact; or who wrote the sketch by hand says so. One without a reason is refused here,
+so a parser can't invent it. """
 from __future__ import annotations
 
 import difflib
 import itertools
 import json
 import math
-import re
 from collections import Counter
 from dataclasses import dataclass, field
 from typing import Any, Dict, Iterable, List, Optional, Sequence, Set, Tuple, TypedDict
 
 from .files import Refusal, shown
+from .model import ANYBODY, COMES, HOWS, Anybody, Part, Sign, Strength, Wakers, Who, all_of, any_of, wakers
 
 RUNS, ANY, ALL, UNKNOWN, ENDED = KINDS = ("runs", "waits_for_any", "waits_for_all", "unknown", "ended")
 DONE, NEEDED = "done", "needed"
-WORK = "waits for work"  # why an idle worker of a pool is unknown
-COMPLETE = "?"  # among candidates: there may be others, so that people have to complete them
+WORK = "waits for work"  # why an idle worker of a pool rests
+COMPLETE = "?"  # in a line of facts: for people to complete
+UNREADABLE = "unreadable"  # the frame of one that couldn't be read
 REST = "left-out"  # the name and the frame of those that a state may lack, by which facts decide them
-SYSTEM, BY_HAND, OLDER = "system", "by hand", "an older version"  # reasons, beside premises, facts and guesses
+SYSTEM, BY_HAND, OLDER = "system", "by hand", "an older version"  # reasons, beside assumptions and facts
 BARE = "dump"  # the system of a dump that was written by hand
-FACT, PREMISE, GUESS = "fact", "premise", "guess"  # before what a reason of these kinds is called
-NUMBERED = re.compile(rf"{GUESS} (\d+)")
-LIMIT = "limit"  # the premise that a wait with a limit ends
-INNER = "inner"  # the premise that threads of a runtime, such as one that finalizes, end nobody's wait
+FACT, PREMISE = "fact", "premise"  # before what a reason of these kinds is called
+LIMIT = "limit"  # the assumption that a wait with a limit ends
+INNER = "inner"  # the assumption that threads of a runtime, such as one that finalizes, end nobody's wait
 MANY = 65_536  # names in all lists; with more, equal lists are one
-TEXTS = ("site", "note", "operation", "thread", "scope")
-LISTS = ("frames", "objects", "because", "besides", "candidates", "spared")
-FLAGS = {"idle": "is_idle", "stays": "stays", "spoilt": "is_spoilt"}
-PROPOSALS = ("any", "all", "holds", "still", "ended", "runs", "outside", "nobody", "maybe", "frees", "none")
-KEYS = {"name", *KINDS, *TEXTS, *LISTS, *FLAGS, "count", "proposal"}
+GOING = (Sign.GOES_ON, Sign.TICKS, Sign.SLEEPS, Sign.POLLS)  # signs of those that go on by themselves
+WAITING = (Sign.BLOCKED, Sign.RESTS)
+TEXTS = ("site", "note", "operation", "thread", "meeting", "remedy")
+LISTS = ("frames", "objects", "because")
+SIGNS = {sign.value: sign for sign in Sign}
+STRENGTHS = {strength.value: strength for strength in Strength}
+WAKER_KEYS = {"who", "how", "strength", "because", "what"}
+FLAGS = {"spoilt": "is_garbled", "collective": "is_collective"}
+KEYS = {"name", *KINDS, *TEXTS, *LISTS, *FLAGS, "count", "sign", "wait", "reason"}
+# Keys of older notes, which say nothing any more, but for who may end a wait besides.
+OLD_KEYS = {"scope", "candidates", "spared", "besides", "proposal", "idle", "stays"}
+ALL_KEYS = KEYS | OLD_KEYS
 TOP_KEYS = {"processes", "lists", "in_transit", "system", "as_of", "warnings", "premises", "facts", "readings",
-            "machine", "times", "idle", "readers", "inner"}
+            "machine", "times", "idle", "readers", "inner", "connections"}
 
 
 @dataclass
 class Process:
     """One who runs and sends: a service, an actor, a rank, a thread, a task. No queue, channel or lock is one.
 
-    `kind` is one of KINDS. `whom` has the names that it waits for, of ANY and ALL alone, each once; several processes
-    may share the list, so it isn't changed. An empty list of ANY says that nobody can end its wait. `reason` is for
-    UNKNOWN why it isn't known, for RUNS what keeps it going in a few words ('waits for work', or nothing), for ENDED it
-    is DONE (it did all that others wait for) or NEEDED (it did not).
+    `sign` is what the looks show of it, and `parts` its wait, of those that wait alone. Several processes may share a
+    list of wakers, so none is changed. `reason` is in words why it goes on, rests, or isn't understood; of one that has
+    ended DONE (it did all that others wait for) or NEEDED. `because` has the reasons for its sign and its wait: SYSTEM,
+    an assumption, a fact, BY_HAND.
+
     `note` says what it does, at which line of source. `frames` are those of the job's own, topmost first, each as
     `frame` writes it; `operation` is the call that it waits in ('put', 'chan send', 'MPI_Recv'); `objects` what it
     waits at (a lock's address, the name of whom it called), and values for facts ('to=3', 'creator=main/1'); `count`
-    what the system counts (reductions, context switches), as text. Two states show the same wait if these four are the
-    same. `proposal` is the fact that people are asked for where it is unknown: 'any', 'all' of an operation that needs
-    all, 'holds' if nobody is known to hold what ends it, 'still' if only a count of its waits is missing, 'ended' of
-    one that stands for others who may not be there, 'runs' of one that is likely to go on by itself, 'outside' of one
-    that is likely to wait for the outside, as to be stopped, and to end nobody's wait, 'nobody' if nobody is likely to
-    end its wait, 'maybe' of one that may not wait at all, so that nothing is guessed, or 'none'. Of one that runs
-    'frees' says that it is likely to end nobody's wait, 'nobody' that it ends none but those that have it alone in
-    their lists, and 'none' that it may end some.
-    `candidates` are words of facts that the state suggests for it: names, groups, or of 'holds' what is to be held.
-    `ends` is of one that facts on who holds what may decide: what may end its wait, by name, each with a regular
-    expression for what is held. Each of them needs a holder, since one without may be anybody's: then it waits for any
-    of `likely`, if that has names, where the others of these, which are false there, stand besides. `besides` has those
-    that may end its wait in another way, as by failing or by a kill, whatever it waits for, and `starters` by the name
-    of another process those that may start more like it, which would end the wait too. `is_collective` says that its
-    operation needs all of a group to come to it, and `meeting` tells at which one it is, or for which of several all
-    have to come, from others of that operation, where that may differ. `is_idle` says of one that it waits for work, as
-    a worker of a pool or an acceptor does, or for ever by intent: that tells of no stall.
+    what the system counts (reductions, context switches), as text. Two looks show the same wait if these four are the
+    same. `thread` is the thread of the kernel that it is all the time, as PID/TID. `remedy` is a command that ends it,
+    of one that people end in another way than by a restart of its site.
 
-    `because` has the reasons of its kind, but of UNKNOWN: SYSTEM, a premise, a fact, BY_HAND. `stays` says of one that
-    runs that it stood at the same place in all readings. `is_open` says that its list was found by a search of what
-    the state prints, so that one who isn't printed may belong to it. `doubt` says why it isn't known that all readings
-    show one wait, if it isn't; then neither the system nor a fact on its list decides it. `moment` says how it was
-    read, if not as others of its system. `is_spoilt` says that no fact on its place decides it, as where its text in a
-    state isn't understood. `thread` is the thread of the kernel that it is all the time, as PID/TID. `choice` says of
-    one that waits for one of its list, or for all of it, why that isn't known, and who may end its wait besides.
-    `may_rest` says of a wait that those stand at too who have nothing to do, or of one who only ticks. `is_likely` says
-    of one that stands for others that these are likely to be there.
-    `scope` is the beginning of the names of those who alone can end its wait, if that is known, as of the threads of
-    one process of the system: what stands before the '/'. `bound` has of one that is unknown all who may end its wait,
-    by the premises `bound_by`, though some of them may not: it is stuck if all of these are. It is None where anybody
-    may. `at_rest` says of such a one that it may have nothing to do.
-    """
+    `is_collective` says that its operation needs all of a group to come to it, and `meeting` at which one it is, or for
+    which of several all have to come, where that may differ from others of that operation. `moment` says how it was
+    read, if not as others of its system. `is_garbled` says that its text in a look isn't understood, so that no fact on
+    its place decides it. """
 
     name: str
-    kind: str
-    whom: List[str] = field(default_factory=list)
+    sign: Sign
+    parts: List[Part] = field(default_factory=list)
     reason: str = ""
+    because: List[str] = field(default_factory=list)
     site: Optional[str] = None
     note: str = ""
     frames: List[str] = field(default_factory=list)
     operation: str = ""
     objects: List[str] = field(default_factory=list)
     count: Optional[str] = None
-    proposal: str = "any"
-    is_idle: bool = False
-    is_collective: bool = False
-    meeting: str = ""
-    because: List[str] = field(default_factory=list)
-    stays: bool = False
-    is_open: bool = False
-    doubt: str = ""
-    moment: str = ""
-    is_spoilt: bool = False
-    candidates: List[str] = field(default_factory=list)
-    ends: Dict[str, str] = field(default_factory=dict)
-    besides: List[str] = field(default_factory=list)
-    spared: List[str] = field(default_factory=list)
-    starters: Dict[str, List[str]] = field(default_factory=dict)
-    likely: Dict[str, bool] = field(default_factory=dict)
     thread: str = ""
-    scope: str = ""
-    bound: Optional[List[str]] = None
-    bound_by: List[str] = field(default_factory=list)
-    choice: Optional[Tuple[str, List[str]]] = None
-    may_rest: bool = False
-    is_likely: bool = False
-    at_rest: bool = False
+    meeting: str = ""
+    remedy: str = ""
+    is_collective: bool = False
+    moment: str = ""
+    is_garbled: bool = False
 
     def copy(self) -> Process:
         """Returns one whose parts are the same. `dataclasses.replace` takes ten times as long."""
@@ -137,58 +104,99 @@ class Process:
         made.__dict__.update(self.__dict__)
         return made
 
-    def become_unknown(self, reason: str) -> None:
-        """Takes back what was said of its wait."""
-        self.kind, self.whom, self.reason, self.because = UNKNOWN, [], reason, []
+    @property
+    def kind(self) -> str:
+        """Which of KINDS it is where all wakers count: UNKNOWN if somebody may end its wait who isn't seen."""
+        if self.sign in GOING:
+            return RUNS
+        if self.sign is Sign.ENDED:
+            return ENDED
+        if self.sign is Sign.UNKNOWN or all(map(is_open, self.parts)):
+            return UNKNOWN
+        return ALL if self.is_for_all() else ANY
 
-    def decide(self, kind: str, because: Iterable[str], whom: Sequence[str] = (), reason: str = "") -> None:
-        """Sets its kind, with the reason for it. `whom` has each name once."""
-        self.kind, self.whom, self.reason = kind, whom if isinstance(whom, list) else list(whom), reason
-        self.candidates = []
+    def is_for_all(self) -> bool:
+        """Whether all of some have to come, or one who comes to an end does."""
+        return len(self.parts) > 1 or any(some.how == COMES for some in self.parts[0])
+
+    def is_open(self) -> bool:
+        """Whether somebody may end a part of its wait who isn't in the state."""
+        return any(map(is_open, self.parts))
+
+    @property
+    def whom(self) -> Sequence[str]:
+        """The names of those that it waits for, by all parts of its wait, but for those who are against. One list of
+        wakers is itself, so that those who share it have the same."""
+        lists = [some.names() for part in self.parts for some in part if some.strength is not Strength.AGAINST]
+        lists = [names for names in lists if names]
+        return lists[0] if len(lists) == 1 else list(dict.fromkeys(name for names in lists for name in names))
+
+    def against(self) -> List[str]:
+        """The names of those that may end its wait in another way."""
+        return list(dict.fromkeys(name for part in self.parts for some in part for name in some.names()
+                                  if some.strength is Strength.AGAINST))
+
+    def become_unknown(self, reason: str) -> None:
+        """Takes back what was said of its wait, or of why it goes on."""
+        self.sign, self.parts, self.reason, self.because = Sign.UNKNOWN, [], reason, []
+
+    def wait_for(self, parts: List[Part], because: Iterable[str]) -> None:
+        """Sets who may end its wait, with the reasons for that."""
+        self.sign = self.sign if self.sign in WAITING else Sign.BLOCKED
+        self.parts, self.reason = parts, ""
         self.because = list(dict.fromkeys([*self.because, *because]))
 
-    def is_there(self) -> bool:
-        """Whether it is one of the system that doesn't wait for work."""
-        return not (self.is_idle or self.kind == ENDED or self.proposal == "ended" or self.frames == [REST])
+    def become(self, sign: Sign, reason: str, because: Iterable[str]) -> None:
+        """Sets a sign of one that doesn't wait, with the reasons for it."""
+        self.sign, self.parts, self.reason = sign, [], reason
+        self.because = list(dict.fromkeys([*self.because, *because]))
 
-    def is_guessed(self) -> bool:
-        """Whether it rests on a guess."""
-        return any(map(NUMBERED.fullmatch, self.because))
+    def why_unknown(self) -> str:
+        """Returns why it isn't known who ends its wait: the reason, or how somebody may who isn't in the state."""
+        hows = dict.fromkeys(some.how for part in self.parts for some in part if isinstance(some.who, Anybody))
+        return self.reason or "; ".join(f"somebody {HOWS[how][1]}" for how in hows)
+
+    def is_there(self) -> bool:
+        """Whether it is one of the system that has something to do."""
+        return self.sign not in (Sign.RESTS, Sign.ENDED) and self.frames != [REST]
+
+
+def is_open(part: Part) -> bool:
+    """Whether anybody may end a part of a wait who isn't in the state."""
+    for some in part:  # (a loop takes half as long as `any`, and each process is asked often)
+        if isinstance(some.who, Anybody):
+            return True
+    return False
 
 
 def premise(name: str) -> str:
-    """Returns the reason that a premise is, by its name in the table of the recorder."""
+    """Returns the reason that an assumption is, by its name in the table of the parser."""
     return f"{PREMISE} {name}"
 
 
-def guess(number: int) -> str:
-    """Returns the reason that a guess is, which also says where its row of facts stands."""
-    return f"{GUESS} {number}"
+def goes_on(name: str, why: str, because: Iterable[str], sign: Sign = Sign.GOES_ON, **more: Any) -> Process:
+    """One that goes on by itself: it computes, or a limit ends its wait. `why` is a few words, or nothing."""
+    return Process(name, sign, reason=why, because=list(because), **more)
 
 
-def runs(name: str, why: str, because: Iterable[str], **more: Any) -> Process:
-    """One that goes on by itself: it computes, sleeps, or waits with a limit. `why` is a few words, or nothing."""
-    return Process(name, RUNS, reason=why, because=list(because), **more)
+def blocked(name: str, parts: List[Part], because: Iterable[str], **more: Any) -> Process:
+    """One that waits without a limit, where no one stands who has nothing to do."""
+    return Process(name, Sign.BLOCKED, parts, because=list(because), **more)
 
 
-def waits_for_any(name: str, whom: List[str], because: Iterable[str], **more: Any) -> Process:
-    """One that goes on as soon as any one of `whom` sends to it."""
-    return Process(name, ANY, whom, because=list(because), **more)
-
-
-def waits_for_all(name: str, whom: List[str], because: Iterable[str], **more: Any) -> Process:
-    """One that goes on once each of `whom` has come. The list isn't empty."""
-    return Process(name, ALL, whom, because=list(because), **more)
+def rests(name: str, why: str, parts: List[Part], because: Iterable[str], **more: Any) -> Process:
+    """One that waits where one stands who has nothing to do. `why` is a few words: 'waits for work'."""
+    return Process(name, Sign.RESTS, parts, reason=why, because=list(because), **more)
 
 
 def unknown(name: str, reason: str, **more: Any) -> Process:
-    """One of which isn't known whether it goes on, and by whom. `reason` says why."""
-    return Process(name, UNKNOWN, reason=reason, **more)
+    """One of which isn't understood what it waits at."""
+    return Process(name, Sign.UNKNOWN, reason=reason, **more)
 
 
-def spoilt(name: str, reason: str, **more: Any) -> Process:
-    """One whose text in the state isn't understood: unknown, whatever another state says of it."""
-    return Process(name, UNKNOWN, reason=reason, is_spoilt=True, proposal="none", **more)
+def garbled(name: str, reason: str, **more: Any) -> Process:
+    """One whose text in the state isn't understood: unknown, whatever another state or a fact says of it."""
+    return Process(name, Sign.UNKNOWN, reason=reason, is_garbled=True, **more)
 
 
 def frame(function: str, file: str | None = "", line: int | str | None = None) -> str:
@@ -205,28 +213,23 @@ class FactRow(TypedDict, total=False):
     decided: List[str]
 
 
-def number_of_guess(row: FactRow) -> int:
-    """Returns the number of a guess, or 0 for a line of the user's."""
-    found = NUMBERED.fullmatch(row["at"])
-    return int(found[1]) if found else 0
-
-
 def reason_of(row: FactRow) -> str:
-    """Returns the reason that a line of facts is, or a guess."""
-    return row["at"] if number_of_guess(row) else f"{FACT} {row['at']}"
+    """Returns the reason that a line of facts is."""
+    return f"{FACT} {row['at']}"
 
 
 @dataclass
 class Sketch:
     """The processes in their order, and the messages that are in transit, each as (sender, receiver).
 
-    `system` names the recorder, `as_of` says of which moment it is if that needs a word, and `warnings` are lines for
+    `system` names the parser, `as_of` says of which moment it is if that needs a word, and `warnings` are lines for
     people about what wasn't understood. `premises` has a sentence for each premise that a reason names, `facts` a row
     for each line of facts that was used, and `readings` is how often the system was read. `groups` has the names that
     a word of facts stands for, as 'monitored:pool'. `machine` says on which machine and in which container the numbers
     of its threads stand, `times` when each reading began and ended, in seconds of its clock, `idle` has the threads of
     idle ones that are left out, `readers` those that end nobody's wait, as they print a state or collect garbage, and
-    `inner` those of a runtime of which the premise INNER says it.
+    `inner` those of a runtime of which the premise INNER says it. `connections` has by the key of a connection to a
+    server which session serves it ('serves'), who has its client's end ('has'), and who waits there ('awaits').
     """
 
     processes: List[Process]
@@ -243,6 +246,7 @@ class Sketch:
     idle: List[str] = field(default_factory=list)
     readers: List[str] = field(default_factory=list)
     inner: List[str] = field(default_factory=list)
+    connections: Dict[str, Dict[str, List[str]]] = field(default_factory=dict)
 
     def check(self) -> None:
         """Raises Refusal if a name stands twice or names nobody, a list of ALL is empty, or a reason is missing."""
@@ -253,9 +257,7 @@ class Sketch:
             names.add(process.name)
         sound: Set[int] = set()
         for process in self.processes:
-            if not process.whom or id(process.whom) not in sound:
-                check_whom(process, names)
-                sound.add(id(process.whom))
+            check_wakers(process, names, sound)
             check_reasons(process, self.premises)
         for at, pair in enumerate(self.in_transit):
             for name in pair:
@@ -264,22 +266,23 @@ class Sketch:
                     raise Refusal(f"'in_transit', entry {at + 1}: nobody is called {quote(name)}{more}")
 
 
-def distinct_lists(processes: Iterable[Process]) -> Iterable[List[str]]:
-    """Returns each list once that processes wait for."""
-    return {id(process.whom): process.whom for process in processes}.values()
+def lists_of_wakers(processes: Iterable[Process]) -> Iterable[Sequence[str]]:
+    """Returns each list of wakers once."""
+    return {id(some.who): some.names() for process in processes for part in process.parts for some in part}.values()
 
 
-def are_long(processes: Sequence[Process]) -> bool:
-    """Whether all lists together have so many names that those that are equal are made one."""
-    return sum(len(process.whom) for process in processes) > MANY
-
-
-def shared_lists(processes: Sequence[Process]) -> Dict[int, List[str]]:
-    """Returns, by their ids, the lists that several processes share, if all lists together are long."""
-    if not are_long(processes):
+def shared_lists(processes: Sequence[Process]) -> Dict[int, Sequence[str]]:
+    """Returns, by their ids, the lists of wakers that several waits share, if all lists together are long."""
+    counts: Dict[int, int] = {}
+    lists: Dict[int, Sequence[str]] = {}
+    for some in (some for process in processes for part in process.parts for some in part):
+        key = id(some.who)
+        if key not in counts:
+            counts[key], lists[key] = 0, some.names()
+        counts[key] += 1
+    if sum(counts[key] * len(names) for key, names in lists.items()) <= MANY:
         return {}
-    counts = Counter(id(process.whom) for process in processes)
-    return {key: whom for whom in distinct_lists(processes) for key in [id(whom)] if counts[key] > 1 < len(whom)}
+    return {key: names for key, names in lists.items() if counts[key] > 1 and len(names) > 1}
 
 
 def quote(text: str) -> str:
@@ -295,14 +298,14 @@ def near_name(name: str, names: Iterable[str]) -> str:
     return f"; is {quote(found[0])} meant?" if found else ""
 
 
-def check_whom(process: Process, names: Set[str]) -> None:
-    if process.kind == ALL and not process.whom:
-        raise Refusal(f"process {quote(process.name)}: '{ALL}' is empty: a process that waits for nothing 'runs', "
-                      f"and one with a wait that nothing can end has an empty '{ANY}'")
-    for name in process.whom:
-        if name not in names:
-            raise Refusal(f"process {quote(process.name)}: '{process.kind}' names {quote(name)}, and no process "
-                          f"has that name{near_name(name, names)}")
+def check_wakers(process: Process, names: Set[str], sound: Set[int]) -> None:
+    """Raises Refusal if one of those that may end a wait is nobody. `sound` has the lists that were looked at."""
+    for some in (some for part in process.parts for some in part):
+        lost = next((name for name in some.names() if name not in names), None) if id(some.who) not in sound else None
+        if lost is not None:
+            raise Refusal(f"process {quote(process.name)}: '{process.kind}' names {quote(lost)}, and no process "
+                          f"has that name{near_name(lost, names)}")
+        sound.add(id(some.who))
 
 
 def check_reasons(process: Process, premises: Dict[str, str]) -> None:
@@ -310,7 +313,7 @@ def check_reasons(process: Process, premises: Dict[str, str]) -> None:
         raise Refusal(f"process {quote(process.name)}: '{process.kind}' has no reason ('because')")
     for reason in process.because:
         word, _, rest = reason.partition(" ")
-        is_named = word == PREMISE and rest in premises or word == FACT and rest or NUMBERED.fullmatch(reason)
+        is_named = word == PREMISE and rest in premises or word == FACT and rest
         if not is_named and reason not in (SYSTEM, BY_HAND, OLDER):
             raise Refusal(f"process {quote(process.name)}: {quote(reason)} is no reason, or a premise without words")
 
@@ -354,7 +357,7 @@ def sketch_of(tree: Any, where: str, because: str = BY_HAND) -> Sketch:
         lists = lists_of(tree)
         processes = [process_of(row, at, lists) for at, row in enumerate(rows, 1)]
         for process in processes:
-            if process.kind != UNKNOWN and not process.because:
+            if process.sign is not Sign.UNKNOWN and not process.because:
                 process.because = [because]
         sketch = Sketch(processes, [pair_of(pair, at) for at, pair in enumerate(tree.get("in_transit") or [], 1)])
         for key in ("system", "as_of", "machine"):
@@ -362,6 +365,7 @@ def sketch_of(tree: Any, where: str, because: str = BY_HAND) -> Sketch:
         for key in ("warnings", "idle", "readers", "inner"):
             setattr(sketch, key, texts_of(tree, key, "the sketch"))
         sketch.premises, sketch.facts = premises_of(tree), facts_of(tree)
+        sketch.connections = connections_of(tree)
         sketch.readings, sketch.times = number_of_readings(tree), times_of(tree)
         sketch.check()
     except Refusal as refusal:
@@ -417,6 +421,15 @@ def premises_of(tree: Dict[str, Any]) -> Dict[str, str]:
     return found
 
 
+def connections_of(tree: Dict[str, Any]) -> Dict[str, Dict[str, List[str]]]:
+    """Returns who serves, has or awaits which connection."""
+    tree = tree.get("connections", {})
+    rows = list(tree.values()) if isinstance(tree, dict) else [None]
+    if not all(isinstance(row, dict) and all(map(is_texts, row.values())) for row in rows):
+        raise Refusal("the sketch: 'connections' is no object of objects with lists of texts")
+    return dict(tree)
+
+
 def facts_of(tree: Dict[str, Any]) -> List[FactRow]:
     """Returns the rows of the facts that were used."""
     found = tree.get("facts", [])
@@ -459,15 +472,24 @@ def process_of(row: Any, at: int, lists: Dict[str, List[str]]) -> Process:
     """Returns the process of a row, the `at`-th. `lists` has the lists that have a name."""
     name = row.get("name") if isinstance(row, dict) else None
     who = f"process {quote(name)}" if isinstance(name, str) else f"process {at}"
-    check_keys(row, KEYS, who)
+    check_keys(row, ALL_KEYS, who)
     if not isinstance(name, str):
         raise Refusal(f"{who} has no 'name', or one that is no text")
-    kinds = [kind for kind in KINDS if kind in row]
+    kinds = [kind for kind in (*KINDS, "sign") if kind in row]
     if len(kinds) != 1:
         has = " and ".join(map(quote, kinds)) if kinds else "none"
         raise Refusal(f"{who} has {has}: just one of {', '.join(map(quote, KINDS))} is needed")
-    process = Process(name, kinds[0])
-    set_kind(process, row, who, lists)
+    process = Process(name, Sign.UNKNOWN)
+    set_texts(process, row, who)
+    if kinds == ["sign"]:
+        set_sign(process, row, who, lists)
+    else:
+        set_kind(process, kinds[0], row, who, lists)
+    return process
+
+
+def set_texts(process: Process, row: Dict[str, Any], who: str) -> None:
+    """Sets what is told of a process beside its wait."""
     for key in row:
         if key in TEXTS:
             setattr(process, key, text_of(row, key, who) or "")
@@ -475,16 +497,38 @@ def process_of(row: Any, at: int, lists: Dict[str, List[str]]) -> Process:
             setattr(process, key, texts_of(row, key, who))
         elif key == "count":
             process.count = count_of(row[key], who)
-        elif key == "proposal":
-            if row[key] not in PROPOSALS:
-                raise Refusal(f"{who}: 'proposal' is none of {', '.join(PROPOSALS)}")
-            process.proposal = row[key]
         elif key in FLAGS:
             if row[key] is not True:
                 raise Refusal(f"{who}: '{key}' isn't true")
             setattr(process, FLAGS[key], True)
     process.site = process.site or None
-    return process
+
+
+def set_sign(process: Process, row: Dict[str, Any], who: str, lists: Dict[str, List[str]]) -> None:
+    """Sets the sign of a process, and who may end its wait and how."""
+    if row["sign"] not in SIGNS:
+        raise Refusal(f"{who}: 'sign' is none of {', '.join(SIGNS)}")
+    process.sign, process.reason = SIGNS[row["sign"]], text_of(row, "reason", who) or ""
+    wait = row.get("wait", [])
+    if not isinstance(wait, list) or not all(isinstance(part, list) for part in wait):
+        raise Refusal(f"{who}: 'wait' is no list of lists")
+    where = f"{who}, 'wait'"
+    process.parts = [tuple([wakers_of(some, where, lists) for some in part]) for part in wait]
+
+
+def wakers_of(row: Any, where: str, lists: Dict[str, List[str]]) -> Wakers:
+    """Returns the wakers of a row: who they are, how they end a wait, how much that says, and on what it rests."""
+    check_keys(row, WAKER_KEYS, where)
+    how, strength, names = row.get("how"), row.get("strength"), row.get("who")
+    if how not in HOWS or strength not in STRENGTHS:
+        raise Refusal(f"{where}: {quote(str(how))} is no way to end a wait, or {quote(str(strength))} is no strength")
+    found: Who = ANYBODY
+    if isinstance(names, str) and names in lists:
+        found = lists[names]
+    elif names is not None:
+        found = list(dict.fromkeys(texts_of(row, "who", where)))
+    because = tuple(texts_of(row, "because", where)) if "because" in row else ()
+    return Wakers(found, STRENGTHS[strength], how, because, text_of(row, "what", where) or "")
 
 
 def count_of(value: object, who: str) -> Optional[str]:
@@ -493,25 +537,43 @@ def count_of(value: object, who: str) -> Optional[str]:
     return None if value is None else str(value)
 
 
-def set_kind(process: Process, row: Dict[str, Any], who: str, lists: Dict[str, List[str]]) -> None:
-    """Sets whom a process waits for, and the reason."""
-    value, kind = row[process.kind], process.kind
-    if kind in (ANY, ALL) and isinstance(value, str) and value in lists:
-        process.whom = lists[value]
-    elif kind in (ANY, ALL):
-        process.whom = list(dict.fromkeys(texts_of(row, kind, who)))
+def set_kind(process: Process, kind: str, row: Dict[str, Any], who: str, lists: Dict[str, List[str]]) -> None:
+    """Sets the sign, the wait and the reason of one that was written by hand, or by an older version."""
+    value = row[kind]
+    if kind in (ANY, ALL):
+        names = lists[value] if isinstance(value, str) and value in lists else \
+            list(dict.fromkeys(texts_of(row, kind, who)))
+        set_wait(process, kind, names, texts_of(row, "besides", who), who)
     elif kind == RUNS:
         if value is not True and not isinstance(value, str):
             raise Refusal(f"{who}: 'runs' is neither true nor a text")
+        process.sign = Sign.SLEEPS if premise(LIMIT) in process.because else Sign.GOES_ON
         process.reason = "" if value is True else value
     elif kind == UNKNOWN:
         if not isinstance(value, str) or not value.strip():
             raise Refusal(f"{who}: 'unknown' needs a reason, as a text")
         process.reason = value
+        process.sign = Sign.RESTS if row.get("idle") else Sign.UNKNOWN
     elif value not in (DONE, NEEDED, "still needed"):
         raise Refusal(f"{who}: 'ended' is neither '{DONE}' nor '{NEEDED}'")
     else:
-        process.reason = DONE if value == DONE else NEEDED
+        process.sign, process.reason = Sign.ENDED, DONE if value == DONE else NEEDED
+
+
+def set_wait(process: Process, kind: str, names: List[str], besides: List[str], who: str) -> None:
+    """Sets whom one waits for, any of them or all, and who may end its wait besides."""
+    more = (wakers("kills", besides),) if besides else ()
+    if kind == ALL and not names:
+        raise Refusal(f"{who}: '{ALL}' is empty: a process that waits for nothing 'runs', and one with a wait that "
+                      f"nothing can end has an empty '{ANY}'")
+    process.sign = Sign.BLOCKED
+    process.parts = all_of(names, COMES, beside=more) if kind == ALL else any_of(*of_names(names), *more)
+
+
+def of_names(names: List[str]) -> List[Wakers]:
+    """Returns the wakers that a list is which stands in a sketch: the one who is needed, or able ones."""
+    strength = Strength.NAMED if len(names) == 1 else Strength.ABLE
+    return [Wakers(names, strength, "written")] if names else []
 
 
 # Writing
@@ -524,9 +586,9 @@ def tree_of(sketch: Sketch) -> Dict[str, Any]:
     numbers = {key: f"list {number}" for number, key in enumerate(lists, 1)}
     tree["processes"] = [row_of(process, numbers) for process in sketch.processes]
     if lists:
-        tree["lists"] = {numbers[key]: whom for key, whom in lists.items()}
+        tree["lists"] = {numbers[key]: list(names) for key, names in lists.items()}
     tree["in_transit"] = [list(pair) for pair in sketch.in_transit]
-    rest = ("warnings", "premises", "facts", "times", "idle", "readers", "inner")
+    rest = ("warnings", "premises", "facts", "times", "idle", "readers", "inner", "connections")
     tree.update({key: getattr(sketch, key) for key in rest if getattr(sketch, key)})
     if sketch.readings != 1:
         tree["readings"] = sketch.readings
@@ -543,14 +605,24 @@ def text_of_sketch(sketch: Sketch) -> str:
 
 def row_of(process: Process, lists: Dict[int, str]) -> Dict[str, object]:
     """Returns the row of a process. `lists` has, by their ids, the names of lists that stand by theirs."""
-    whom = lists.get(id(process.whom), process.whom)
-    value = {ANY: whom, ALL: whom, RUNS: process.reason or True}.get(process.kind, process.reason)
-    row: Dict[str, object] = {"name": process.name, process.kind: value}
-    for key in (*TEXTS, *LISTS, "count"):
+    row: Dict[str, object] = {"name": process.name, "sign": process.sign.value}
+    if process.parts:
+        row["wait"] = [[row_of_wakers(some, lists) for some in part] for part in process.parts]
+    for key in ("reason", *TEXTS, *LISTS, "count"):
         value = getattr(process, key)
         if value:
             row[key] = value
-    if process.kind == UNKNOWN and process.proposal != "any" or process.proposal == "frees":
-        row["proposal"] = process.proposal
     row.update({key: True for key, name in FLAGS.items() if getattr(process, name)})
+    return row
+
+
+def row_of_wakers(some: Wakers, lists: Dict[int, str]) -> Dict[str, object]:
+    row: Dict[str, object] = {}
+    if not isinstance(some.who, Anybody):
+        row["who"] = lists[id(some.who)] if id(some.who) in lists else list(some.who)
+    row["how"], row["strength"] = some.how, some.strength.value
+    if some.because:
+        row["because"] = list(some.because)
+    if some.what:
+        row["what"] = some.what
     return row

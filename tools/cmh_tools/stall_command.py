@@ -5,39 +5,49 @@ import argparse
 import contextlib
 import json
 import os
+import shlex
 import shutil
-import subprocess
-import sys
+import tempfile
 import time
-from typing import Any, Dict, Iterator, List, Sequence
+from typing import Any, Dict, Iterator, List, Optional, Sequence
 
-from .captures import HEAP, SYSTEMS, Capture, captures_for, check_needs, take, with_stacks
-from .command import Parser, notes_path, run
-from .dump_command import GUESSES
+from .captures import (HEAP, SYSTEMS, Capture, captures_for, check_needs, fault_of, take, with_sockets,
+                       with_stacks)
+from .command import Parser, dump_of_notes, is_notes, known_doubts, notes_path, run
+from .dump import Dump
+from .dump_command import NO_GUESSES, texts_of
 from .explain import Explanation
-from .explain_command import load
-from .files import Failure, Refusal, read_text, say, shown, write_out, write_texts
-from .redact import redact
+from .explain_command import index_of, load_noted
+from .facts import Facts, read_facts
+from .files import Failure, Refusal, decoded, say, shown, write_out
+from .folder import Folder, make_folder
+from .making import sketch_for
+from .proposals import Proposal, propose
+from .redact import redacted_texts
+from .rule import STATUSES, Headline
 from .running import proposals as what_runs
-from .sketch import number_of_guess, read_json, sketch_of, text_of_sketch
+from .saying import numbers_of, say_true
+from .screen import BESIDE, More, screen
+from .sketch import Sketch, quote, read_json, sketch_of
 from .start import SIGNALS
 from .terminal import style_of_output
 
 RECORD = "stall.json"  # what a folder has, by which it is explained again
-STUCK, UNDECIDED = 3, 5
+NO_STACKS = '"with_stacks": false'  # in a state of Linux
 ALONE = ("erlang", "go", "rabbitmq")  # whose states don't say of which threads of a machine they are
 MOST_NAMES = 200  # names that stand in a file of facts, for people to choose from
-USAGE = """cmh-stall SYSTEM TARGET.. [--seconds S] [--with SYSTEM TARGET..] [--guesses] [-o FOLDER]
+USAGE = """cmh-stall SYSTEM TARGET.. [--seconds S] [--with SYSTEM TARGET..] [-o FOLDER]
        cmh-stall linux PID.. --stacks
        cmh-stall go PID --kill
        cmh-stall jvm PID --heap --yes
-       cmh-stall FOLDER [--guesses | --redact]
+       cmh-stall FOLDER [--true 1,3] [--all | --why NAME]
+       cmh-stall FOLDER --redact
        cmh-stall"""
 ABOUT = """Takes the state of a system that hangs twice, and says who is stuck. All that it saw is kept in a new folder.
 SYSTEM TARGET is one of: linux PID.., jvm PID, go HOST:PORT, python PID.., erlang NODE.. [MODULE..], mpi PROGRAM,
-rabbitmq. linux with --stacks and jvm with --heap show more, and stop more meanwhile.
-With a FOLDER that it made, it says the answer again, with the facts that you have written there. Alone, it says what
-runs here, and the command for each."""
+rabbitmq, postgres [CONNINFO], mariadb [HOST]. linux with --stacks and jvm with --heap show more, and stop more
+meanwhile. With a FOLDER that it made, it says the answer again, with the facts that you have written there. Alone, it
+says what runs here, and the command for each."""
 MORE = """status: 0 no process is stuck, 3 some process is stuck, 5 none is stuck for certain and some are undecided,
 1 the state is refused, 2 the command line is, 4 out of memory, an I/O error, or the state couldn't be taken"""
 
@@ -56,7 +66,10 @@ def parser() -> Parser:
                     help="of jvm PID: dump the heap too, for tasks, readers of a lock and joins; says what that stops")
     it.add_argument("--yes", action="store_true", help="of --heap: do it")
     it.add_argument("--cookie-file", metavar="FILE", help="of erlang: the file with the cookie of the nodes")
-    it.add_argument("--guesses", action="store_true", help=GUESSES)
+    it.add_argument("--guesses", action="store_true", help=argparse.SUPPRESS)
+    it.add_argument("--true", metavar="NUMBERS", help="of a folder: say that these doubts are none, as 1,3, and answer")
+    it.add_argument("--all", action="store_true", help="show all that is known, in place of the first screen")
+    it.add_argument("--why", metavar="NAME", help="of a folder: show the chain from one to what its answer rests on")
     it.add_argument("-o", "--output", metavar="FOLDER", help="the new folder (stall-SYSTEM-TIME)")
     it.add_argument("--redact", action="store_true",
                     help="of a folder: write a copy of dump and answer without names and arguments, for mailing")
@@ -84,16 +97,29 @@ def main(words: Sequence[str]) -> int:
         if asked.stacks and all(some[0] != "linux" for some in [asked.words, *asked.others]):
             it.error("--stacks is of Linux: linux PID --stacks")
         parts = [part for some in [asked.words, *asked.others] for part in captured(it, some, asked)]
-        parts = [with_stacks(part) for part in parts] if asked.stacks else parts
+        parts = with_sockets([with_stacks(part) for part in parts] if asked.stacks else parts)
         alone = next((part.system for part in parts if parts[1:] and part.system in ALONE), "")
         if alone:
             it.error(f"a state of {alone} doesn't say of which threads of the machine it is, so it isn't joined")
         return stall(parts, asked)
-    if asked.others or asked.output or asked.words[1:] or not os.path.isfile(f"{asked.words[0]}/{RECORD}"):
+    if asked.others or asked.output or asked.words[1:] or not os.path.lexists(f"{asked.words[0]}/{RECORD}"):
         it.error(f"{asked.words[0]} is neither one of {', '.join(SYSTEMS)} nor a folder that cmh-stall has made")
-    if asked.redact and asked.guesses:
-        it.error("--redact copies an answer that is there: give --guesses first, by itself")
-    return redact_folder(asked.words[0]) if asked.redact else explain(asked.words[0], asked.guesses)
+    check_folder_words(it, asked)
+    numbers = numbers_of(asked.true) if asked.true is not None else []
+    with Folder(asked.words[0]) as folder:
+        if asked.redact:
+            return redact_folder(folder)
+        if numbers:
+            say_in(folder, numbers)
+        return explain(folder, asked)
+
+
+def check_folder_words(it: Parser, asked: argparse.Namespace) -> None:
+    """Ends the command where what is asked of a folder doesn't go together."""
+    if asked.redact and (asked.true is not None or asked.all or asked.why is not None):
+        it.error("--redact copies an answer that is there: it stands alone")
+    if asked.all and asked.why is not None:
+        it.error("--all and --why are two answers: name one")
 
 
 def show_what_runs() -> int:
@@ -117,8 +143,9 @@ def captured(it: Parser, words: List[str], asked: argparse.Namespace) -> List[Ca
     system, *targets = words
     if system not in SYSTEMS:
         it.error(f"{system} is none of {', '.join(SYSTEMS)}")
-    if not targets and system != "rabbitmq":
-        it.error(f"{system}: whom to take isn't said")
+    fault = fault_of(system, targets)
+    if fault:
+        it.error(f"{system}: {fault}")
     return captures_for(system, targets, asked.kill, asked.heap)
 
 
@@ -127,174 +154,237 @@ def stall(parts: List[Capture], asked: argparse.Namespace) -> int:
     for part in parts:
         check_needs(part)
         say(f"{part.system} {' '.join(part.targets)}: {part.how or SYSTEMS[part.system].says}")
-    folder = asked.output or f"stall-{parts[0].system}-{time.strftime('%Y%m%d-%H%M%S')}"
-    with new_folder(folder):
-        env = {"HOME": home_with(asked.cookie_file, folder)} if asked.cookie_file else {}
-        texts = {name: text for some in take(parts, asked.seconds, env) for name, text in some.items()}
-        shutil.rmtree(f"{folder}/home", ignore_errors=True)
+    with new_folder(asked.output or f"stall-{parts[0].system}-{time.strftime('%Y%m%d-%H%M%S')}") as folder:
+        with home_with(asked.cookie_file) as env:
+            texts = {name: text for some in take(parts, asked.seconds, env) for name, text in some.items()}
         record = {"version": 1, "parts": [{"system": it.system, "targets": it.targets, "states": it.names(),
                                            **({"beside": it.beside} if it.beside else {})} for it in parts]}
-        write_texts([*((f"{folder}/{name}", text) for name, text in texts.items()),
-                     (f"{folder}/{RECORD}", json.dumps(record, indent=1) + "\n")])
-    status = explain(folder, asked.guesses)
-    if status == STUCK:
-        say(f"This answer is kept in {shown(folder)}, with all that was seen")
+        texts[RECORD] = json.dumps(record, indent=1) + "\n"
+        folder.write([(folder.at(name), text) for name, text in texts.items()])
+        status = explain(folder, asked)
+    if status:
+        say(f"This answer is kept in {shown(folder.path)}, with all that was seen")
     return status
 
 
-def make_folder(path: str) -> None:
+@contextlib.contextmanager
+def new_folder(path: str) -> Iterator[Folder]:
+    """Makes a folder, which goes again if it doesn't come to hold what is to be kept, also by a signal."""
+    folder: Optional[Folder] = None
     try:
-        os.mkdir(path, 0o700)
-    except OSError as error:
-        raise Failure(f"{shown(path)}: {error.strerror}") from error
+        with SIGNALS.hold():
+            folder = make_folder(path)
+        yield folder
+    finally:
+        if folder is not None:
+            end_folder(folder)
+
+
+def end_folder(folder: Folder) -> None:
+    if not folder.has(folder.at(RECORD)):
+        folder.remove()
+    folder.close()
 
 
 @contextlib.contextmanager
-def new_folder(path: str) -> Iterator[None]:
-    """Makes a folder, which goes again if it doesn't come to hold what is to be kept, also by a signal."""
-    is_made = False
-    try:
-        with SIGNALS.hold():
-            make_folder(path)
-            is_made = True
-        yield
-    finally:
-        if is_made and not os.path.exists(f"{path}/{RECORD}"):
-            shutil.rmtree(path, ignore_errors=True)
-
-
-def home_with(cookie: str, folder: str) -> str:
-    """Makes a home in which Erlang finds its cookie: one on a command line is seen by all users."""
-    home = os.path.abspath(f"{folder}/home")
-    try:
-        os.mkdir(home, 0o700)
-        shutil.copyfile(cookie, f"{home}/.erlang.cookie")
-        os.chmod(f"{home}/.erlang.cookie", 0o400)
-    except OSError as error:
-        raise Failure(f"{shown(cookie)}: {error.strerror}") from error
-    return home
+def home_with(cookie: Optional[str]) -> Iterator[Dict[str, str]]:
+    """Makes a home in which Erlang finds its cookie, and yields the variable for it: a cookie on a command line is seen
+    by all users. Without one nothing is made."""
+    if not cookie:
+        yield {}
+        return
+    with tempfile.TemporaryDirectory(prefix="cmh-") as home:
+        try:
+            shutil.copyfile(cookie, f"{home}/.erlang.cookie")
+            os.chmod(f"{home}/.erlang.cookie", 0o400)
+        except OSError as error:
+            raise Failure(f"{shown(cookie)}: {error.strerror}") from error
+        yield {"HOME": home}
 
 
 # From what is kept
 
 
-def explain(folder: str, with_guesses: bool) -> int:
+def explain(folder: Folder, asked: argparse.Namespace) -> int:
     """Makes the dump of the states in a folder, and says the answer."""
     parts = parts_of(folder)
-    dumps = [f"{folder}/dump.json"] if len(parts) == 1 else [f"{folder}/{it['system']}.json" for it in parts]
-    paths = [f"{folder}/facts"] if len(parts) == 1 else [f"{folder}/facts-{it['system']}" for it in parts]
-    if parts[1:] and os.path.exists(f"{folder}/facts"):
-        say(f"warning: {shown(folder)}/facts isn't read: each system has its own, {' and '.join(map(shown, paths))}")
-    for part, dump, facts in zip(parts, dumps, paths):
-        states = [f"{folder}/{name}" for name in part["states"]]
-        known = ["--facts", facts] if os.path.exists(facts) else []
-        known += ["--guesses"] if with_guesses else []
-        call("cmh-dump", part["system"], *states, *known, "-o", dump)
-        write_facts(facts, notes_of(dump))
-    if len(parts) > 1:
-        call("cmh-dump", "join", *map(notes_path, dumps), "-o", f"{folder}/dump.json")
-    explanation = answer(folder)
-    steps = [*more_ways(parts, explanation.status(), read_text(f"{folder}/answer"))]
-    if explanation.status() == UNDECIDED:
-        steps.append(next_step(shown(folder), [shown(it) for it in paths if os.path.exists(it)], explanation))
+    is_one = len(parts) == 1
+    if not is_one:
+        for part in parts:
+            made = Dump(sketch_of_part(folder, part, facts_of(folder, facts_path(folder, part["system"]))))
+            proposals = keep_dump(folder, made, folder.at(f"{part['system']}.json"))
+            write_facts(folder, facts_path(folder, part["system"]), made.sketch, proposals)
+    path = facts_path(folder)
+    made = Dump(sketch_of_parts(folder, parts, facts_of(folder, path)), numbers_in(folder))
+    proposals = keep_dump(folder, made, folder.at("dump.json"))
+    if is_one:
+        write_facts(folder, path, made.sketch, proposals)
+    explanation = answer(folder, asked)
+    if asked.guesses:
+        say(NO_GUESSES)
+    steps = [*more_ways(parts, explanation, folder), *next_step(folder, parts, explanation)]
     if steps:
         say("\n".join(steps))
     return explanation.status()
 
 
-def more_ways(parts: List[Dict[str, Any]], status: int, text: str) -> Iterator[str]:
+def facts_path(folder: Folder, system: str = "") -> str:
+    """Returns where the facts of a folder are: those of its answer, or of one of several systems alone."""
+    return folder.at(f"facts-{system}" if system else "facts")
+
+
+def sketch_of_part(folder: Folder, part: Dict[str, Any], facts: Facts) -> Sketch:
+    return sketch_for(part["system"], list(map(folder.at, part["states"])), facts, folder.read_text)
+
+
+def sketch_of_parts(folder: Folder, parts: List[Dict[str, Any]], facts: Facts) -> Sketch:
+    """Returns the sketch of all systems of a folder together. The dumps of each are there if they are several."""
+    if len(parts) == 1:
+        return sketch_of_part(folder, parts[0], facts)
+    dumps = [folder.at(f"{part['system']}.json") for part in parts]
+    return sketch_for("join", list(map(notes_path, dumps)), facts, folder.read_text)
+
+
+def numbers_in(folder: Folder) -> List[str]:
+    """Returns the keys of the doubts that the answer of a folder has numbered, in the order of these. Notes that can't
+    be read are written anew, and have numbered none."""
+    path = notes_path(folder.at("dump.json"))
+    with contextlib.suppress(Refusal, Failure):
+        return known_doubts(read_json(folder.read_text(path), path), path)
+    return []
+
+
+def say_in(folder: Folder, numbers: List[int]) -> None:
+    """Says in the facts of a folder that some doubts of its answer are none."""
+    path = folder.at("dump.json")
+    parts, notes = parts_of(folder), notes_path(path)
+    if not folder.has(path):
+        raise Failure(f"--true: {shown(folder.path)} has no answer yet", 2)
+    dump, _ = dump_of_notes(read_json(folder.read_text(path), path), path, notes, folder.read_text)
+    say_true(folder, facts_path(folder), numbers, dump,
+             lambda facts: Dump(sketch_of_parts(folder, parts, facts), dump.known))
+
+
+def facts_of(folder: Folder, path: str) -> Facts:
+    """Returns the facts that people have written into a folder."""
+    return read_facts(decoded(folder.read_bytes(path), path), path) if folder.has(path) else Facts()
+
+
+def keep_dump(folder: Folder, dump: Dump, path: str) -> List[Proposal]:
+    """Writes a dump and its notes into a folder, as cmh-dump does. Returns the facts that are asked for."""
+    asked = propose(dump.waits)
+    folder.write(texts_of(dump, path, asked))
+    for line in dump.sketch.warnings:
+        say(f"warning: {line}")
+    return asked
+
+
+def more_ways(parts: List[Dict[str, Any]], explanation: Explanation, folder: Folder) -> Iterator[str]:
     """Yields the commands that would take more of a system than was taken, where that may change the answer."""
+    status = explanation.status()
+    is_open = status not in (0, STATUSES[Headline.DEADLOCK])
+    at_futex = is_open and any(process.operation == "futex" for process in explanation.waits.processes)
     for part in parts:
-        system, words = part["system"], " ".join(map(shown, part["targets"]))
+        system, words = part["system"], command_words(part["targets"])
         if part["beside"] and status:
-            more = " ".join(map(shown, part["beside"]))
+            more = command_words(part["beside"])
             yield f"What wasn't read: {more}, which {words} has started. All of them: cmh-stall python {words} {more}"
-        if system == "jvm" and part["targets"] and "--heap" not in part["targets"] and status == UNDECIDED:
+        if explanation.is_hidden_by_sleepers() and part["targets"]:
+            yield f"Who sleeps may only tick, which a longer look shows: cmh-stall {system} {words} --seconds 60"
+        if system == "jvm" and part["targets"] and "--heap" not in part["targets"] and is_open:
             yield f"The heap shows more, and stops the JVM for longer: cmh-stall jvm {words} --heap"
-        if system == "linux" and part["targets"] and "`--stacks`" in text:
+        if system == "linux" and part["targets"] and at_futex and lacks_stacks(part, folder):
             yield ("Stacks show more, and hold each process at a futex for a moment: cmh-stall linux "
                    f"{words} --stacks")
 
 
-def next_step(folder: str, paths: List[str], explanation: Explanation) -> str:
-    """Returns what to do where something is undecided, by the files of facts that are there."""
-    where = " and ".join(paths)
-    if explanation.guesses:
-        return f"What rests on guesses: see which lines of {where} hold, and then: cmh-stall {folder}"
-    if not paths or not explanation.proposals():
-        return ("What is undecided: the state asks for no fact that would decide it. Look at the unknown ones "
-                f"themselves, in {folder}/answer")
-    return (f"What is undecided: complete the facts in {where}, and then: cmh-stall {folder}; or, by guesses: "
-            f"cmh-stall {folder} --guesses")
+def lacks_stacks(part: Dict[str, Any], folder: Folder) -> bool:
+    return any(NO_STACKS in folder.read_text(folder.at(name)) for name in part["states"])
 
 
-def parts_of(folder: str) -> List[Dict[str, Any]]:
-    path = f"{folder}/{RECORD}"
-    tree = read_json(read_text(path), path)
+def command_words(words: Sequence[str]) -> str:
+    """Returns words that a folder's record has, as people may paste them into a shell."""
+    return " ".join(shlex.quote(shown(it)) for it in words)
+
+
+def next_step(folder: Folder, parts: List[Dict[str, Any]], explanation: Explanation) -> Iterator[str]:
+    """Yields what to do where something is undecided, and nobody is stuck."""
+    if explanation.headline not in (Headline.NOT_KNOWN, Headline.IDLE):
+        return
+    paths = [facts_path(folder)] if len(parts) == 1 else [facts_path(folder, part["system"]) for part in parts]
+    where = " and ".join(shown(path) for path in paths if folder.has(path))
+    if where and explanation.proposals():
+        yield f"What is undecided: complete the facts in {where}, and then: cmh-stall {shown(folder.path)}"
+    elif explanation.headline is Headline.NOT_KNOWN:
+        yield "What is undecided: the state asks for no fact that would decide it."
+
+
+def parts_of(folder: Folder) -> List[Dict[str, Any]]:
+    """Returns what the record of a folder says of each system that was taken."""
+    path = folder.at(RECORD)
+    tree = read_json(folder.read_text(path), path)
     try:
         parts = [{"system": str(it["system"]), "states": list(map(str, it["states"])),
                   **{key: list(map(str, it.get(key, []))) for key in ("targets", "beside")}} for it in tree["parts"]]
-    except (TypeError, KeyError) as error:
+    except (TypeError, KeyError, AttributeError) as error:
         raise Refusal(f"{shown(path)}: cmh-stall has written something else there") from error
     if not parts or tree.get("version") != 1:
         raise Refusal(f"{shown(path)}: it isn't of a version that is known")
+    for part in parts:
+        check_part(folder, part)
     return parts
 
 
-def call(tool: str, *words: str) -> None:
-    """Runs another tool. Raises Failure with its own words."""
-    path = os.path.join(os.path.dirname(os.path.realpath(sys.argv[0])), tool)
-    ran = subprocess.run([sys.executable, path, *words], stdin=subprocess.DEVNULL, capture_output=True, check=False)
-    err = ran.stderr.decode(errors="backslashreplace").rstrip("\n")
-    if ran.returncode:
-        raise Failure(err or f"{tool}: status {ran.returncode}", ran.returncode if ran.returncode in (1, 2) else 4)
-    if err:
-        say(err)
+def check_part(folder: Folder, part: Dict[str, Any]) -> None:
+    """Raises Refusal if a record names no system, or what is no file in its folder."""
+    path = shown(folder.at(RECORD))
+    if part["system"] not in SYSTEMS:
+        raise Refusal(f"{path}: {quote(part['system'])} is none of {', '.join(SYSTEMS)}")
+    if not part["states"]:
+        raise Refusal(f"{path}: it names no state of {part['system']}")
+    for name in part["states"]:
+        folder.name_of(folder.at(name))
 
 
-def answer(folder: str) -> Explanation:
-    """Keeps the answer to the dump of a folder there, and prints it, with colours on a terminal."""
-    try:
-        dump, _ = load(f"{folder}/dump.json", False)
-    except Refusal as refusal:
-        raise Failure(f"cmh-explain: {refusal}", 1) from refusal
-    except Failure as failure:
-        raise Failure(f"cmh-explain: {failure}", failure.status) from failure
-    explanation = Explanation(dump)
-    write_texts([(f"{folder}/answer", explanation.text())])
+def answer(folder: Folder, asked: Optional[argparse.Namespace] = None) -> Explanation:
+    """Keeps the first screen of the answer to the dump of a folder there, and prints that, or what is asked of it, with
+    colours on a terminal. A copy, of which nothing is asked, has no name of its folder."""
+    path, called = folder.at("dump.json"), shlex.quote(folder.path)
+    dump, _ = load_noted(folder.read_bytes(path), path, notes_path(path), folder.read_text)
+    has_all = asked is not None and (asked.all or asked.why is not None)
+    explanation = Explanation(dump, has_all)
+    more = More(f"cmh-stall {called} --all", "--why", f"cmh-stall {called} --true") if asked else BESIDE
+    at = None if asked is None or asked.why is None else index_of(dump, asked.why)
+    folder.write([(folder.at("answer"), screen(explanation, more))])
     explanation.style = style_of_output()
-    write_out(explanation.text())
+    text = screen(explanation, more) if not has_all else explanation.text() if at is None else explanation.why(at)
+    write_out(text)
     return explanation
 
 
-def notes_of(dump: str) -> Any:
-    path = notes_path(dump)
-    return read_json(read_text(path), path)
-
-
-def write_facts(path: str, notes: Any) -> None:
+def write_facts(folder: Folder, path: str, sketch: Sketch, asked: Sequence[Proposal]) -> None:
     """Writes a file of facts for people to complete, if there is none: each proposal as a comment, and the names."""
-    guessed = [f"{row['text']}  # a guess" for row in notes["sketch"].get("facts", []) if number_of_guess(row)]
-    lines = [f"# {line}" for line in [*guessed, *notes.get("proposals", [])]]
-    if os.path.exists(path) or not lines:
+    lines = [f"# {proposal.text()}" for proposal in asked]
+    if folder.has(path) or not lines:
         return
-    names = [shown(row["name"]) for row in notes["sketch"]["processes"]]
+    names = [shown(it.name) for it in sketch.processes]
     more = [f"# and {len(names) - MOST_NAMES:,} more"] if names[MOST_NAMES:] else []
     text = ["# Complete a line, and take away the # before it. DUMPS.md says how facts are written.", *lines,
             "# The names:", *(f"#   {name}" for name in names[:MOST_NAMES]), *more]
-    write_texts([(path, "".join(f"{line}\n" for line in text))])
+    folder.write([(path, "".join(f"{line}\n" for line in text))])
 
 
-def redact_folder(folder: str) -> int:
+def redact_folder(folder: Folder) -> int:
     """Writes a copy of the sketch, the dump and the answer, without what the user's program has named."""
-    dump = f"{folder}/dump.json"
-    sketch = sketch_of(notes_of(dump)["sketch"], notes_path(dump))
-    new = f"{folder}/redacted"
-    os.makedirs(new, 0o700, exist_ok=True)
-    write_texts([(f"{new}/sketch.json", text_of_sketch(redact(sketch)) + "\n")])
-    call("cmh-dump", "sketch", f"{new}/sketch.json", "-o", f"{new}/dump.json")
-    status = answer(new).status()
-    say(f"The copy is in {shown(new)}")
+    path = notes_path(folder.at("dump.json"))
+    notes = read_json(folder.read_text(path), path)
+    if not is_notes(notes):
+        raise Refusal(f"{shown(path)}: it has no 'sketch', so these are no notes of cmh-dump")
+    sketch = sketch_of(notes["sketch"], path)
+    with folder.folder("redacted") as new:
+        new.write([(new.at(name), text) for name, text in redacted_texts(sketch)])
+        status = answer(new).status()
+    say(f"The copy is in {shown(new.path)}")
     return status
 
 

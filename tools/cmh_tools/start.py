@@ -51,6 +51,8 @@ def start(name: str, module: str) -> NoReturn:
         status: int = importlib.import_module(f"{PACKAGE}.{module}").command(sys.argv[1:])
     except ModuleNotFoundError as error:
         end(f"{name}: {lack(error.name)}")
+    except Exception as error:  # (before the command can say so itself)
+        end(f"{name}: this is a fault of {name}, and nothing is said: {type(error).__name__}: {error}")
     finally:
         SIGNALS.is_held = True  # (what has to be said is said)
     sys.exit(status)

@@ -20,10 +20,15 @@ ATTRIBUTES = {"class", "transform", "fill", "stroke", "stroke-width", "stroke-da
               "rx", "ry", "x", "y", "text-anchor", "font-family", "font-size", "font-weight"}
 
 
-def svg(picture: Picture) -> str:
-    """Returns the text of a picture as SVG. Raises Failure if Graphviz isn't there, or fails."""
+def check_graphviz() -> None:
+    """Raises Failure if Graphviz isn't there."""
     if not shutil.which("dot"):
         raise Failure(NO_GRAPHVIZ)
+
+
+def svg(picture: Picture) -> str:
+    """Returns the text of a picture as SVG. Raises Failure if Graphviz isn't there, or fails."""
+    check_graphviz()
     try:
         tree = ElementTree.fromstring(laid_out(dot(picture)))
     except ElementTree.ParseError as error:

@@ -17,7 +17,7 @@ WIDTH, NARROWEST = 100, 40
 ARROW, PLAIN_ARROW = "→", "->"
 PAGER, NOT_RUN = "less", (126, 127)  # the statuses of a shell that can't run a command
 EXTRA = "  "  # how much further the rest of a line that is moved in stands
-CODES: Dict[str, str] = {"stuck": "1;31", "undecided": "33", "not_stuck": "32"}  # red, yellow, green
+CODES: Dict[str, str] = {"stuck": "1;31", "likely": "31", "undecided": "33", "not_stuck": "32"}  # red, yellow, green
 
 
 class Style(NamedTuple):

@@ -1,0 +1,175 @@
+"""The likely answer, and on what it hangs: the doubts. Each is somebody whom the rule sets aside and who may free one
+of the likely ones, with a number, and with the lines of facts that say that it is none. Whoever takes the lines of all
+doubts as facts has the same answer for certain."""
+from __future__ import annotations
+
+from dataclasses import replace
+from typing import AbstractSet, Dict, Iterable, Iterator, List, NamedTuple, Optional, Sequence, Set, Tuple
+
+from . import rule
+from .facts import OTHERS, STILL, word_of
+from .model import HOWS, Part, Sign, Strength
+from .proposals import HAS_ENDED, LEFT_OUT, MOST, NUMBER, freeing_nobody, place_name
+from .rule import Decision
+from .sketch import UNREADABLE, Process, Sketch
+from .stuck import Waits
+
+# In which order doubts are told: those first that most often hold.
+ORDER = (Sign.TICKS, Sign.SLEEPS, Sign.POLLS, Sign.GOES_ON, Sign.RESTS, Sign.UNKNOWN, None, Sign.BLOCKED)
+UNSEEN = {
+    "unread": "somebody who can't be read",
+    "unshown": "somebody whom the state doesn't show",
+    "left-out": "somebody whom the state leaves out",
+    "by-name": "somebody who opens it by its name",
+    "outside": "somebody outside of what was read",
+    "to-come": "somebody who is still to come",
+}
+UNCOUNTED = "{} went on between the looks, and waits anew, which nothing counts"
+SIGNS = {
+    Sign.TICKS: "came back to its loop and freed nobody",
+    Sign.SLEEPS: "sleeps",
+    Sign.POLLS: "polls",
+    Sign.GOES_ON: "goes on",
+    Sign.UNKNOWN: "isn't understood",
+    Sign.BLOCKED: "waits itself",
+    Sign.ENDED: "has ended",
+}
+
+
+class Doubt(NamedTuple):
+    """Those who were set aside in one way. `who` has their names, or nobody's where it isn't in the state; `waits` has
+    those whom they may free, and `lines` the facts that say that they free none of them. `key` tells it from others as
+    long as a folder keeps the answer, and so does `number`."""
+
+    number: int
+    key: str
+    who: Sequence[str]
+    how: str
+    sign: Optional[Sign]
+    waits: Sequence[str]
+    lines: Sequence[str]
+
+
+class Likely:
+    """The likely answer of some waits. `known` has the keys of doubts in the order of their numbers, also of those that
+    are none any more, and new ones are added."""
+
+    def __init__(self, waits: Waits, known: Sequence[str] = ()) -> None:
+        self.waits, self.decision, self.keys = waits, waits.decision, list(known)
+        self.processes = {process.name: process for process in waits.processes}
+        self.numbers = {waits.processes[at].name: at for at in sorted(self.decision.likely - self.decision.certain)}
+
+    # The sketch without doubts
+
+    def sketch(self, sketch: Sketch) -> Sketch:
+        """Returns the sketch in which those are stuck for certain who are likely to be."""
+        return replace(sketch, processes=[self.without_doubts(process) if process.name in self.numbers else process
+                                          for process in sketch.processes])
+
+    def without_doubts(self, process: Process) -> Process:
+        """Returns one that is likely to be stuck without the wakers that were set aside."""
+        made = process.copy()
+        holding = set(map(id, self.decision.holding_parts(self.numbers[process.name])))
+        made.parts = [part_left(part, self.decision) if id(part) in holding else part for part in process.parts]
+        return made
+
+    # The doubts
+
+    def doubts(self, members: AbstractSet[str]) -> List[Doubt]:
+        """Returns the doubts: those on members of roots first, and of these those that most often hold."""
+        groups: Dict[str, List[rule.Doubt]] = {}
+        for aside in self.decision.doubts(self.numbers.values()):
+            groups.setdefault(self.key_of(aside), []).append(aside)
+        on_roots = {key for key, asides in groups.items()
+                    if any(not members.isdisjoint(aside.waits) for aside in asides)}
+        order = sorted(groups, key=lambda key: (key not in on_roots, *self.place(groups[key][0])))
+        known = set(self.keys)
+        self.keys += [key for key in order if key not in known]
+        return [self.doubt_of(key, groups[key]) for key in order]
+
+    def with_hinges(self, names: Iterable[str]) -> Set[str]:
+        """Returns some likely ones with all other likely ones on whom it hangs that they are stuck: these were set
+        aside, and may free them where they are free themselves."""
+        hinges = {name for name in names if name in self.numbers}
+        todo = list(hinges)
+        seen: Set[int] = set()
+        while todo:
+            parts = self.decision.holding_parts(self.numbers[todo.pop()])
+            lists = {id(wakers.who): wakers.names() for part in parts for wakers in part if id(wakers.who) not in seen}
+            seen.update(lists)
+            new = {name for some in lists.values() for name in some if name in self.numbers} - hinges
+            hinges |= new
+            todo += new
+        return hinges
+
+    def sign_of(self, aside: rule.Doubt) -> Optional[Sign]:
+        is_seen = aside.who is not None and aside.strength is not Strength.UNSEEN
+        return self.decision.signs.get(aside.who or "") if is_seen else None
+
+    def key_of(self, aside: rule.Doubt) -> str:
+        """Returns what those share of whom one sentence is said: processes of one family and sign, or a way to end a
+        wait that isn't seen."""
+        sign, family = self.sign_of(aside), NUMBER.sub("*", aside.who or "")
+        return f"{aside.how} {family}".strip() if sign is None else f"{family} {sign.value}"
+
+    def place(self, aside: rule.Doubt) -> Tuple[bool, int]:
+        return aside.strength is Strength.UNSEEN, ORDER.index(self.sign_of(aside))
+
+    def doubt_of(self, key: str, asides: List[rule.Doubt]) -> Doubt:
+        first = asides[0]
+        is_seen = self.sign_of(first) is not None
+        who = list(dict.fromkeys(aside.who for aside in asides if aside.who is not None))
+        lists = {id(aside.waits): aside.waits for aside in asides}
+        waits = list(dict.fromkeys(name for names in lists.values() for name in names))
+        lines = list(freeing_lines(who)) if is_seen else list(dict.fromkeys(self.lines_on(first, waits)))
+        return Doubt(self.keys.index(key) + 1, key, who, first.how, self.sign_of(first), waits, lines)
+
+    def lines_on(self, aside: rule.Doubt, waits: Iterable[str]) -> List[str]:
+        """Returns the lines of facts that say that nobody who isn't seen ends some waits in one way."""
+        if aside.how == "uncounted":
+            return [STILL]
+        if aside.how == "unread" and aside.who is not None:
+            return [f"{UNREADABLE}{HAS_ENDED}"]
+        if aside.how == "left-out":
+            return [LEFT_OUT]
+        return [self.line_on(self.processes[name]) for name in waits]
+
+    def line_on(self, process: Process) -> str:
+        """Returns the line that those who are left of its wakers are all who may end the wait of a process."""
+        left = [list(dict.fromkeys(name for wakers in part for name in self.decision.left_of(wakers, part)))
+                for part in process.parts]
+        names = list(dict.fromkeys(name for part in left for name in part))
+        words = [OTHERS] if len(names) > MOST else names
+        kind = "all" if len(left) > 1 else "any"
+        place = [word_of(place_name(process)), "of", word_of(process.name)]
+        return " ".join([*place, *([word_of(process.operation)] if process.operation else []), "->", kind,
+                         *map(word_of, words)])
+
+
+def part_left(part: Part, decision: Decision) -> Part:
+    left = [wakers._replace(who=decision.left_of(wakers, part)) for wakers in part]
+    return tuple(wakers for wakers in left if wakers.names())
+
+
+def freeing_lines(names: Sequence[str]) -> Iterator[str]:
+    """Yields the lines that some end nobody's wait."""
+    for start in range(0, len(names), MOST):
+        yield freeing_nobody(names[start:start + MOST])
+
+
+# In words
+
+
+def sentence(one: Doubt, who: str, whom: str, reason: str = "") -> str:
+    """Returns what a doubt says, as what may be so: 'beat, which sleeps, frees a'. `who` and `whom` are names in words,
+    and `reason` why one rests."""
+    if one.how == "uncounted":
+        return UNCOUNTED.format(whom)
+    if one.sign is None:
+        subject = who or UNSEEN.get(one.how, UNSEEN["unshown"])
+    else:
+        is_against = HOWS[one.how][0] is Strength.AGAINST
+        rests = "has nothing to do" if not reason or ": " in reason else reason
+        clause = HOWS[one.how][1] if is_against else SIGNS.get(one.sign) or rests
+        subject = f"{who}, which {clause},"
+    return f"{subject} frees {whom}"

@@ -1,0 +1,146 @@
+"""The model of a wait: who may end it and how, and which sign of life each process gives. Parsers fill it in, facts
+change it, and `rule` alone decides by it.
+
+A wait is a list of parts. It goes on once each part has had one of its wakers, so it is stuck if in one part all are.
+It has one part where any one waker is enough, and one for each that is still needed where all are. A part without
+wakers is one that nobody can end.
+"""
+from __future__ import annotations
+
+from enum import Enum
+from typing import Dict, Iterable, Iterator, List, NamedTuple, Sequence, Tuple, Union
+
+
+class Sign(Enum):
+    """What the looks at a process show of it. One that waits for a lock, a permit, a join, an answer, or for room in a
+    full queue never rests: it is blocked."""
+
+    GOES_ON = "goes on"  # between the looks it computed, used processor time, or moved to another place
+    TICKS = "ticks"  # with a limit, in the loop of its own thread or task, and a count says that it has come back to it
+    SLEEPS = "sleeps"  # with a limit, and no count says so
+    POLLS = "polls"  # with a limit, below a call that it is in, and a count says that it has come back to it
+    RESTS = "rests"  # without a limit, where one stands who has nothing to do
+    BLOCKED = "is blocked"  # without a limit, elsewhere
+    UNKNOWN = "is unknown"  # what it waits at isn't understood
+    ENDED = "has ended"
+
+
+class Strength(Enum):
+    """How much a waker says about a wait."""
+
+    NAMED = "named"  # the system names it as the one whose act is needed
+    ABLE = "able"  # it can reach what is waited at
+    AGAINST = "against"  # it may end the wait in another way, as the state shows
+    UNSEEN = "unseen"  # it isn't in the state; so the rule takes whoever is named and isn't there
+
+
+class Anybody:
+    """Who may be anybody, in the place of a list of names."""
+
+    def __repr__(self) -> str:
+        return "ANYBODY"
+
+
+ANYBODY = Anybody()
+COMES = "comes"  # how one of all ends its part: also by an end that is done, which is no message
+Who = Union[Sequence[str], Anybody]
+
+# Each word for how a waker may end a wait, with the strength that it has and what it says to the reader of an answer,
+# behind the name of the waker.
+HOWS: Dict[str, Tuple[Strength, str]] = {
+    "owns": (Strength.NAMED, "has what it waits for"),
+    "called": (Strength.NAMED, "was called, and has to answer"),
+    "other-end": (Strength.NAMED, "has the other end"),
+    "ends": (Strength.NAMED, "has to end first"),
+    "partner": (Strength.NAMED, "is the partner of its call"),
+    "accepts": (Strength.NAMED, "has to accept its connection"),
+    "comes": (Strength.NAMED, "hasn't come to where all have to"),
+    "ahead": (Strength.NAMED, "waits for it too, and comes first"),
+    "listed": (Strength.ABLE, "is one of those whom the system lists"),
+    "reaches": (Strength.ABLE, "can reach what it waits at"),
+    "same-process": (Strength.ABLE, "is in the process that alone can end the wait"),
+    "inside": (Strength.ABLE, "stands inside of what it waits at"),
+    "subscribes": (Strength.ABLE, "may send what it waits for"),
+    "guess": (Strength.ABLE, "is likely to be the one, by the form of the state"),
+    "cancels": (Strength.AGAINST, "may cancel or fail its wait"),
+    "kills": (Strength.AGAINST, "may end it, or whom it waits for"),
+    "closes": (Strength.AGAINST, "may close what it waits at"),
+    "releases": (Strength.AGAINST, "may give back what another one has"),
+    "handles": (Strength.AGAINST, "handles a signal, and may end the wait there"),
+    "finalizes": (Strength.AGAINST, "finalizes objects, and may end the wait there"),
+    "repeats": (Strength.AGAINST, "is a timer that is repeated, and may end the wait"),
+    "breaks": (Strength.AGAINST, "looks for waits in a circle, and breaks one off"),
+    "expires": (Strength.AGAINST, "is a limit of the server's, and breaks the wait off"),
+    "limit": (Strength.AGAINST, "is a limit far away that ends the wait"),
+    "returns": (Strength.AGAINST, "may give back a message that it has"),
+    "begins": (Strength.ABLE, "may begin to send what it waits for"),
+    "starts": (Strength.AGAINST, "may start one more who ends the wait"),
+    "unshown": (Strength.UNSEEN, "may end the wait: the state doesn't show who does"),
+    "unread": (Strength.UNSEEN, "couldn't be read"),
+    "left-out": (Strength.UNSEEN, "isn't in the state"),
+    "by-name": (Strength.UNSEEN, "may open it by its name"),
+    "client": (Strength.UNSEEN, "is its client, and isn't in the state"),
+    "outside": (Strength.UNSEEN, "is outside of what was read"),
+    "to-come": (Strength.UNSEEN, "may still come"),
+    "uncounted": (Strength.UNSEEN, "may have ended the wait between the looks: nothing counts that"),
+    "said": (Strength.ABLE, "ends the wait by the facts"),
+    "written": (Strength.ABLE, "stands in the sketch"),
+}
+
+
+class Wakers(NamedTuple):
+    """Those who may end a part of a wait in one way. `who` may be shared by many waits, so it isn't changed. `because`
+    has the reasons: the system, an assumption, a line of facts. `what` is what one has to hold or publish for it, if a
+    fact may say who does, as the key of a queue: in a key `*` stands for a word, and `#` for any number of words."""
+
+    who: Who
+    strength: Strength
+    how: str
+    because: Tuple[str, ...] = ()
+    what: str = ""
+
+    def names(self) -> Sequence[str]:
+        """Returns those who are known by name, in the state or not."""
+        return () if isinstance(self.who, Anybody) else self.who
+
+    def without(self, gone: Iterable[str]) -> Wakers:
+        """Returns the others of them, and the same list where nobody of it is gone. Anybody stays anybody."""
+        left_out = set(gone)
+        if isinstance(self.who, Anybody) or left_out.isdisjoint(self.who):
+            return self
+        return self._replace(who=[name for name in self.who if name not in left_out])
+
+
+Part = Tuple[Wakers, ...]
+
+
+def wakers(how: str, who: Who, *because: str) -> Wakers:
+    """Those who may end a wait in the way that a word of HOWS says."""
+    return Wakers(who, HOWS[how][0], how, because)
+
+
+def of_list(who: Sequence[str], *because: str) -> Wakers:
+    """Those of a list of which any is enough: the one who is needed, or able ones if there are several."""
+    if len(who) == 1:
+        return Wakers(who, Strength.NAMED, "listed", because)
+    return wakers("listed", who, *because)
+
+
+def unseen(how: str, *because: str) -> Wakers:
+    """Somebody who isn't in the state."""
+    return wakers(how, ANYBODY, *because)
+
+
+def any_of(*part: Wakers) -> List[Part]:
+    """The parts of a wait that any of these ends."""
+    return [part]
+
+
+def all_of(names: Iterable[str], how: str, *because: str, beside: Part = ()) -> List[Part]:
+    """The parts of a wait for all of these names, each of which those `beside` may end too."""
+    return [(wakers(how, [name], *because), *beside) for name in names]
+
+
+def of_strength(part: Part, *strengths: Strength) -> Iterator[Wakers]:
+    """Yields the wakers of these strengths."""
+    return (group for group in part if group.strength in strengths)

@@ -1,0 +1,245 @@
+"""What all parsers share: from the readings of a system to its sketch.
+
+A parser derives from Parser and fills in `read`, `processes` and `process_of`: what it sees of each process, with whom
+it waits for and how each of these may end the wait. It decides nothing: `rule` does. A wait has a reason: the system
+keeps the list itself (SYSTEM), or an assumption says so. What in a state breaks an assumption makes the process
+unknown, here and for every parser alike; so does whatever keeps two readings from showing one wait.
+"""
+from __future__ import annotations
+
+import itertools
+import re
+from collections import Counter
+from functools import lru_cache
+from typing import Any, Callable, Dict, Iterable, Iterator, List, NamedTuple, Optional, Sequence, Tuple, Type
+
+from ..assumptions import sentence_of
+from ..files import Refusal, shown
+from ..model import Wakers, unseen, wakers
+from ..sketch import Process, Sketch, quote
+from ..snapshots import APART, CUT, ONCE, OVERLAP, PARTS, WHOLE, Reading, compare, doubt_wait, left_out, overlap, \
+    snapshots_of
+from . import State
+
+KEPT = 65536  # lists of reasons whose assumptions are kept
+COUNT = range(1 << 63)  # the shape of a number that counts something
+
+
+class Break(NamedTuple):
+    """What in a state breaks an assumption: `shown_by` looks at one process of a snapshot, and returns in words what
+    breaks it there, or nothing. Where it `is_of_process`, no fact on its wait makes up for it."""
+
+    shown_by: Callable[[Any, Any], str]
+    is_of_process: bool = False
+
+
+class Snapshot:
+    """The readings of all sources at one time. A source that was not read then is left out. A parser that finds more
+    for all processes in `prepare` derives its own from it, which says what that is."""
+
+    def __init__(self, readings: Sequence[Optional[Reading]]) -> None:
+        self.readings = [reading for reading in readings if reading is not None]
+        whole = len(self.readings) == len(readings)
+        extents = {reading.extent for reading in self.readings} | (set() if whole else {PARTS})
+        self.extent = next((extent for extent in (PARTS, CUT, WHOLE) if extent in extents), WHOLE)
+
+    def rows(self) -> List[Any]:
+        return [row for reading in self.readings for row in reading.rows]
+
+    def lacks(self) -> bool:
+        """Whether processes may be missing."""
+        return any(reading.missing for reading in self.readings)
+
+    def time(self) -> List[float]:
+        """Returns when the first of its readings began and the last ended, or nothing if one doesn't say."""
+        times = [reading.time for reading in self.readings if reading.time is not None]
+        whole = times and len(times) == len(self.readings)
+        return [min(begin for begin, _ in times), max(end for _, end in times)] if whole else []
+
+
+class Reach:
+    """Who can reach what: by each object, those who may end a wait at it, in which way and why. A parser adds a row for
+    each reference, descriptor, frame or subscription that it sees, and those who wait at one object share its lists."""
+
+    def __init__(self) -> None:
+        self.rows: Dict[Any, Dict[Tuple[str, Tuple[str, ...]], Dict[str, None]]] = {}
+        self.found: Dict[Any, Tuple[Wakers, ...]] = {}
+
+    def add(self, thing: Any, who: Iterable[str], how: str, *because: str) -> None:
+        """Says that some can reach a thing, in a way that is a word of HOWS."""
+        self.rows.setdefault(thing, {}).setdefault((how, because), {}).update(dict.fromkeys(who))
+        self.found.pop(thing, None)
+
+    def of(self, thing: Any) -> Tuple[Wakers, ...]:
+        """Returns those who may end a wait at a thing."""
+        if thing not in self.found:
+            self.found[thing] = tuple(wakers(how, list(names), *because)
+                                      for (how, because), names in self.rows.get(thing, {}).items())
+        return self.found[thing]
+
+
+class Parser:
+    """Makes the sketch of the states of one system. `MOMENT` says how its processes are read: ONCE, WOKEN or APART;
+    `IDLE` what those who have nothing to do are called; `SNAPSHOT_CLASS` is the class of its snapshots, and `BREAKS`
+    has the assumptions that a state can show broken."""
+
+    NAME, IDLE = "", "processes"
+    MOMENT = ONCE
+    SNAPSHOT_CLASS: Type[Snapshot] = Snapshot
+    BREAKS: Dict[str, Break] = {}
+
+    def read(self, state: State) -> Sequence[Reading]:
+        """Returns the readings of a text, each source's own in the order of time."""
+        raise NotImplementedError
+
+    def begin(self, readings: List[Reading]) -> None:
+        """Looks at all readings before any is used, as for names that stand for the same process in each."""
+
+    def prepare(self, snapshot: Any) -> None:
+        """Looks at all readings of one time, as for who reaches what."""
+
+    def processes(self, snapshot: Any) -> Iterable[Any]:
+        """Returns what there is of each process at one time, as `process_of` takes it: the rows, if nothing else is
+        said."""
+        rows: List[Any] = snapshot.rows()
+        return rows
+
+    def process_of(self, subject: Any, snapshot: Any) -> Process:
+        """Returns the process: with its sign, its wait and the reasons for these."""
+        raise NotImplementedError
+
+    def finish(self, sketch: Sketch, snapshots: List[Any]) -> None:
+        """Adds what the whole sketch needs besides, as warnings and groups."""
+
+    # What all parsers do alike
+
+    def record(self, states: List[State]) -> Sketch:
+        """Returns the sketch of some states, as of the first, before facts. Each text is dropped once it is read, for
+        some have hundreds of megabytes."""
+        readings: List[Reading] = []
+        for state in states:
+            readings += self.read(state)
+            state.text = ""
+        self.begin(readings)
+        snapshots = [self.SNAPSHOT_CLASS(some) for some in snapshots_of(readings)]
+        sketches = [self.sketch_of(snapshot) for snapshot in snapshots]
+        if self.MOMENT == APART and overlap(readings):
+            for process in sketches[0].processes:
+                doubt_wait(process, OVERLAP)
+        sketch = compare(sketches, [snapshot.extent for snapshot in snapshots], self.MOMENT)
+        machines = {reading.machine for reading in readings}
+        sketch.machine = machines.pop() if len(machines) == 1 else ""
+        times = [snapshot.time() for snapshot in snapshots]
+        sketch.times = times if all(times) else []
+        self.finish(sketch, snapshots)
+        add_left_out(sketch, left_out(readings))
+        (name, number), = Counter(process.name for process in sketch.processes).most_common(1) or [("", 0)]
+        if number > 1:
+            where = ", ".join(dict.fromkeys(shown(state.path) for state in states))
+            raise Refusal(f"{where}: two processes are called {quote(name)}: give the states of one job, each once")
+        return sketch
+
+    def sketch_of(self, snapshot: Snapshot) -> Sketch:
+        """Returns the sketch of one time."""
+        self.prepare(snapshot)
+        sketch = Sketch([], system=self.NAME)
+        for subject in self.processes(snapshot):
+            process = self.process_of(subject, snapshot)
+            for name in assumptions_in(tuple(reasons_of(process))):
+                sketch.premises[name] = sentence_of(name)
+                broken = self.BREAKS[name].shown_by(subject, snapshot) if name in self.BREAKS else ""
+                if broken:
+                    break_wait(process, broken, self.BREAKS[name].is_of_process)
+            sketch.processes.append(process)
+        return sketch
+
+
+def break_wait(process: Process, why: str, is_of_process: bool) -> None:
+    """Says of one that an assumption on it is broken: anybody may end its wait, or it isn't understood at all."""
+    if is_of_process:
+        process.become_unknown(why)
+        process.is_garbled = True
+    elif process.parts:
+        process.reason = why
+        process.parts = [(*part, unseen("unshown", why)) for part in process.parts]
+    else:
+        process.become_unknown(why)
+
+
+def reasons_of(process: Process) -> Iterator[str]:
+    """Yields the reasons for a process, and for each of its wakers."""
+    yield from process.because
+    for part in process.parts:
+        for some in part:
+            yield from some.because
+
+
+OPEN = ("reaches", "same-process", "inside", "subscribes", "guess")  # found by a search of what is printed
+
+
+def add_left_out(sketch: Sketch, missing: List[Process]) -> None:
+    """Adds those whom a state may lack: to the sketch, and to each wait whose wakers were found by a search."""
+    sketch.processes += missing
+    more = (wakers("left-out", [process.name for process in missing]),)
+    for process in sketch.processes if missing else ():
+        process.parts = [(*part, *more) if any(some.how in OPEN for some in part) else part for part in process.parts]
+
+
+@lru_cache(maxsize=KEPT)
+def assumptions_in(because: Tuple[str, ...]) -> List[str]:
+    """The names of the assumptions among some reasons. Many processes have the same, so nobody changes this list."""
+    return list(dict.fromkeys(reason.split(" ", 1)[1] for reason in because if reason.startswith("premise ")))
+
+
+def misfits(value: Any, shape: Any, path: str = "") -> Iterator[str]:
+    """Yields where in a value of JSON something hasn't its shape, as '.threads.0.tid'. A shape is a type, an expression
+    that a text matches, a range that has a number, [SHAPE] of each entry, [SHAPE, SHAPE ..] of just these, [SHAPE,
+    SHAPE, ...] of the first and any more of the second, {str: SHAPE} of each value, also with an expression for the
+    keys, {KEY: SHAPE}, where a KEY that ends in '?' may be missing, or a tuple of shapes, each of which will do."""
+    if isinstance(shape, tuple):
+        yield from [] if any(fits(value, it) for it in shape) else [path]
+    elif isinstance(shape, (list, dict)) and has_length(value, shape):
+        for key, part, wanted in parts_of(value, shape):
+            yield from misfits(part, wanted, f"{path}.{key}")
+    elif value is ... or shape is not object and type(value) is not shape and not is_one_of(value, shape):
+        yield path
+
+
+def fits(value: Any, shape: Any) -> bool:
+    return next(misfits(value, shape), None) is None
+
+
+def has_length(value: Any, shape: Any) -> bool:
+    """Whether a value is a list or an object, as its shape is, and a list has as many entries as that wants."""
+    if type(value) is not type(shape) or isinstance(shape, dict) or len(shape) == 1:
+        return type(value) is type(shape)
+    return len(value) >= len(shape) - 2 if ... in shape else len(value) == len(shape)
+
+
+def is_one_of(value: Any, shape: Any) -> bool:
+    """Whether a text matches an expression, or a number is within a range."""
+    if isinstance(shape, range):
+        return type(value) is int and value in shape
+    return isinstance(shape, re.Pattern) and isinstance(value, str) and shape.fullmatch(value) is not None
+
+
+def parts_of(value: Any, shape: Any) -> Iterator[Tuple[Any, Any, Any]]:
+    """Yields the parts of a list or an object, each with its key and its shape. One that is missing is `...`."""
+    if isinstance(shape, list):
+        more = itertools.chain(shape[:-2], itertools.repeat(shape[-2])) if ... in shape else itertools.cycle(shape)
+        yield from zip(itertools.count(), value, more)
+    elif str in shape:
+        yield from ((key, part, shape[str]) for key, part in value.items())
+    elif isinstance(next(iter(shape), ""), re.Pattern):
+        (keys, wanted), = shape.items()
+        yield from ((key, part if keys.fullmatch(key) else ..., wanted) for key, part in value.items())
+    else:
+        for key, wanted in shape.items():
+            name = key.rstrip("?")
+            if name in value or name == key:
+                yield name, value.get(name, ...), wanted
+
+
+def one_line(text: str, width: int = 200) -> str:
+    """Returns the beginning of a text on one line."""
+    return re.sub(r"\s+", " ", text.strip())[:width]

@@ -1,0 +1,313 @@
+"""The parser for Go: what SIGQUIT prints with GOTRACEBACK=all, or texts of pprof's `goroutine?debug=2`.
+
+Known by itself is which goroutine computes or sleeps, and which waits at a nil channel, in an empty `select`, or is
+`(leaked)`, as Go 1.26 finds once its profile `goroutineleak` is asked for: nobody ends that wait. The other ends of
+channels and the holders of locks stand in no dump, so all other goroutines are able to end the other waits, first those
+in whose frames the channel or lock stands. The program's world is stopped while its goroutines are read, and whoever is
+woken is runnable at once, so one state shows one moment. Not so where the operating system wakes: what has come to a
+socket or a child that has ended may wait to be seen.
+
+A name is FUNCTION/NUMBER, with the function that was started, wherever the goroutine stands in it. Facts may name
+`{self}`, `{creator}` and the group `children:NAME`, where the text says which goroutine created which. A list that a
+pattern finds isn't whole while more of it may be started: by a goroutine that isn't stuck, by a timer (`go_starters`).
+"""
+from __future__ import annotations
+
+import re
+from typing import Dict, List, Optional, Set, Tuple
+
+from ..files import Refusal
+from ..model import COMES, Part, Sign, Wakers, all_of, any_of, unseen, wakers
+from ..sketch import LIMIT, SYSTEM, Process, Sketch, blocked, garbled, goes_on, premise, rests, unknown
+from ..snapshots import APART, CUT, ONCE, Reading
+from . import State
+from .base import Parser, Reach, Snapshot
+from .go_frames import (CONNECTION, NEEDS_ALL, WATCHER, Place, entry_of, is_at_another, is_jobs, is_of_runtime, is_own,
+                        lacks_wait, takes_state)
+from .go_starters import MAIN, UNSEEN, Starters, unseen_starter
+from .go_text import ADDRESS, TAKER, Dump, Goroutine, read_dumps
+
+SITE = "the Go program"
+# States in which a goroutine goes on by itself, or the runtime sees to it.
+RUNNING = frozenset(("running", "runnable", "preempted", "copystack", "GC assist marking", "GC assist wait",
+                     "garbage collection", "garbage collection scan", "wait for GC cycle", "panicwait", "dumping heap",
+                     "debug call", "stopping the world", "flushing proc caches", "GC mark termination"))
+NOBODY = frozenset(("chan receive (nil chan)", "chan send (nil chan)", "select (no cases)"))
+OF_THE_SYSTEM = frozenset(("IO wait", "syscall"))
+RECEIVES = frozenset(("chan receive", "select", "sync.Cond.Wait"))  # operations at which one rests in its own loop
+END_OF_MAIN = "waits in the empty select of main"
+YIELD = "runtime.Gosched"
+READER, WRITER = "sync.RWMutex.RLock", "sync.RWMutex.Lock"
+SIGNALS = "os/signal.signal_recv"  # of the goroutine that is there once the program asks for a signal
+NAMED = 3  # names in a reason
+MOST = 200  # more who have what one waits at in a frame tell nothing of it
+SHORT = 2 * 10 ** 9  # nanoseconds: who sleeps no longer has come back to its sleep from one state to the next
+SLEEP = re.compile(r"0x[0-9a-f]+")
+RECORD = "channels and locks by cmh_go"  # where a record of an older version begins, of which nothing is read
+ENDERS = {
+    READER: "a writer ends this wait, which holds the lock or waits in Lock, and no reader; the state doesn't show "
+            "which",
+    WRITER: "who holds the lock now ends this wait, and nobody who waits for it; the state doesn't show who that is"}
+ANOTHER = "another wait"  # beside the objects of one that has left its place between two states
+INTENT = "empty-select"
+LIBRARYS = (CONNECTION, WATCHER)  # how those are idle that run code of a library alone
+
+
+class Goroutines(Snapshot):
+    """The goroutines at one time: where each one stands, by its number; who has the address of a channel or lock in a
+    frame, and doesn't wait at it; all of them; and whether all were stopped when they were read."""
+
+    places: Dict[str, Place]
+    reach: Reach
+    everybody: Wakers
+    is_stopped: bool
+    has_signals: bool
+
+
+class GoParser(Parser):
+    """The goroutines of one program, but for those of the runtime."""
+
+    NAME, IDLE, MOMENT = "go", "goroutines", ONCE
+    SNAPSHOT_CLASS = Goroutines
+
+    def __init__(self) -> None:
+        self.dumps: List[Dump] = []
+        self.warnings: List[str] = []
+        self.names: Dict[str, str] = {}
+        self.again: Dict[int, str] = {}  # by the ids of goroutines, what tells their place from that of before
+        self.looks: Dict[int, int] = {}  # by the ids of goroutines, in which state they are
+        self.parents: Set[str] = set()
+
+    def read(self, state: State) -> List[Reading]:
+        start = 0 if state.text.startswith(RECORD) else state.text.find(f"\n{RECORD}") + 1
+        text = state.text[:start] if state.text.startswith(RECORD, start) else state.text
+        dumps = read_dumps(state.path, text)
+        self.dumps += dumps
+        return [self.reading_of(dump) for dump in dumps]
+
+    def reading_of(self, dump: Dump) -> Reading:
+        """Returns the reading of a dump. A text may be cut off after any goroutine, and nothing shows that."""
+        for goroutine in dump.goroutines:
+            if any(map(is_at_another, [*goroutine.frames, goroutine.creator])):
+                why = "lines are missing below this one, since a function and its file don't fit"
+                goroutine.doubt(f"{goroutine.at}: {why}")
+            if lacks_wait(goroutine):
+                goroutine.doubt(f"{goroutine.at}: no frame below this line is a call that waits so")
+        shown_ones = [goroutine for goroutine in dump.goroutines if not is_of_runtime(goroutine)]
+        takers = [goroutine for goroutine in shown_ones if takes_state(goroutine)]
+        self.warnings += dump.warnings
+        self.warnings += [f"goroutine {taker.number}, which takes the state, is left out" for taker in takers]
+        rows = [goroutine for goroutine in shown_ones if goroutine not in takers] if takers else shown_ones
+        return Reading(dump.path, self.NAME, rows, missing_of(dump, shown_ones), CUT)
+
+    def begin(self, readings: List[Reading]) -> None:
+        """Names the goroutines, and sees which have left their place between two states."""
+        for earlier in self.dumps[:-1]:
+            if earlier.is_last:
+                raise Refusal(f"{earlier.path}: SIGQUIT ends the program, so no state of it comes after this one")
+        for later in self.dumps[1:]:
+            check_same(self.dumps[0], later)
+        before: Dict[str, Goroutine] = {}
+        for look, dump in enumerate(self.dumps):
+            for goroutine in dump.goroutines:
+                self.names.setdefault(goroutine.number, f"{entry_of(goroutine)}/{goroutine.number}")
+                earlier_one = before.get(goroutine.number)
+                if earlier_one is not None and has_left(earlier_one, goroutine):
+                    self.again[id(goroutine)] = ANOTHER
+                before[goroutine.number] = goroutine
+                self.looks[id(goroutine)] = look
+        self.parents = {goroutine.parent for dump in self.dumps for goroutine in dump.goroutines if goroutine.parent}
+
+    def prepare(self, snapshot: Goroutines) -> None:
+        """Finds in whose frames each address stands, and whether all goroutines were stopped when they were read."""
+        rows: List[Goroutine] = snapshot.rows()
+        snapshot.places = {goroutine.number: Place(goroutine) for goroutine in rows}
+        snapshot.is_stopped = not any(goroutine.is_elsewhere for goroutine in rows)
+        snapshot.has_signals = any(frame.function == SIGNALS for goroutine in rows for frame in goroutine.frames)
+        snapshot.everybody = wakers("same-process", [self.names[goroutine.number] for goroutine in rows
+                                                     if snapshot.places[goroutine.number].idle not in LIBRARYS])
+        snapshot.reach = Reach()
+        for goroutine in rows:
+            here = snapshot.places[goroutine.number].objects
+            for address in dict.fromkeys(ADDRESS.findall(" ".join(frame.arguments for frame in goroutine.frames))):
+                if address not in here:
+                    snapshot.reach.add(address, [self.names[goroutine.number]], "inside")
+
+    def process_of(self, subject: Goroutine, snapshot: Goroutines) -> Process:
+        goroutine, name = subject, self.names[subject.number]
+        if goroutine.fault:
+            return garbled(name, goroutine.fault, site=SITE)
+        place = snapshot.places[goroutine.number]
+        process = self.wait_at(goroutine, place, name, snapshot)
+        process.site, process.frames = SITE, place.frames
+        process.operation = process.operation or place.operation
+        process.meeting = next(iter(place.objects), name) if place.operation in NEEDS_ALL else ""
+        process.objects = [*place.objects, *self.values(goroutine), *filter(None, [self.again.get(id(goroutine))])]
+        since = f", for {goroutine.minutes} minutes" if goroutine.minutes else ""
+        where = f" at {place.frames[0]}" if place.frames else ""
+        process.note = f"{place.operation}{where}{since}"
+        if goroutine.state in OF_THE_SYSTEM or not snapshot.is_stopped:
+            process.moment = APART
+        return process
+
+    def values(self, goroutine: Goroutine) -> List[str]:
+        """What facts may name of a goroutine, the same in all states."""
+        itself = [f"self={self.names[goroutine.number]}"] if goroutine.number in self.parents else []
+        return itself + ([f"creator={self.names[goroutine.parent]}"] if goroutine.parent in self.names else [])
+
+    def wait_at(self, goroutine: Goroutine, place: Place, name: str, snapshot: Goroutines) -> Process:
+        """Returns what a goroutine waits for, as a process with its sign and wait alone."""
+        state = goroutine.state
+        if place.idle in LIBRARYS and not goroutine.is_leaked:
+            return rests(name, place.idle, any_of(unseen("outside")), [SYSTEM])
+        if state in RUNNING and place.called == YIELD:
+            return goes_on(name, "yields", [premise(LIMIT)], Sign.SLEEPS, operation=f"timed {YIELD}")
+        if state in RUNNING and any(frame.function == TAKER for frame in goroutine.frames):
+            return rests(name, "prints the state", any_of(unseen("outside")), [SYSTEM])
+        if state in RUNNING:
+            return goes_on(name, place.idle or ("computes" if state.startswith("run") else state), [SYSTEM])
+        if state == "sleep":
+            return self.sleeper(goroutine, place, name)
+        if state in NOBODY or goroutine.is_leaked:
+            return wait_for_nobody(goroutine, name)
+        if place.idle:
+            return rests(name, place.idle, any_of(unseen("outside")), [SYSTEM])
+        if not state:
+            return unknown(name, "it has no state")
+        if state in OF_THE_SYSTEM:
+            return unknown(name, f"{state}: the other end may be in the dump, and the state doesn't show it",
+                           parts=any_of(unseen("outside")))
+        return self.waiter(goroutine, place, name, snapshot)
+
+    def sleeper(self, goroutine: Goroutine, place: Place, name: str) -> Process:
+        """One that sleeps. One that sleeps for a short time in the function that it was started with has come back to
+        that sleep from one state to the next."""
+        found = next((frame.arguments for frame in goroutine.frames if frame.function == "time.Sleep"), "")
+        is_short = SLEEP.fullmatch(found) is not None and 0 < int(found, 16) <= SHORT
+        sign = Sign.TICKS if is_in_own_loop(goroutine) else Sign.SLEEPS
+        count = self.look_of(goroutine) if is_short else None
+        return goes_on(name, place.idle or "sleeps", [premise(LIMIT)], sign, operation="timed sleep", count=count)
+
+    def look_of(self, goroutine: Goroutine) -> str:
+        """Returns the number of the state that a goroutine is in, as a count of one that comes back from state to
+        state."""
+        return f"state {self.looks[id(goroutine)] + 1}"
+
+    def waiter(self, goroutine: Goroutine, place: Place, name: str, snapshot: Goroutines) -> Process:
+        """One that waits for another goroutine, and the text doesn't show for which."""
+        inside = self.inside(place, name, snapshot)
+        names = list(dict.fromkeys(other for some in inside for other in some.names()))
+        why = f"{goroutine.state}: {ENDERS.get(place.operation, DOESNT_SHOW)}{also_at(names)}"
+        parts: List[Part] = any_of(*inside, snapshot.everybody, unseen("unshown"))
+        children = self.children(goroutine, place, snapshot)
+        if children:
+            parts = all_of(children, COMES, beside=(snapshot.everybody, unseen("unshown")))
+        may_rest = is_in_own_loop(goroutine) if goroutine.number != MAIN else \
+            snapshot.has_signals and len(place.frames) == 1
+        if place.operation in RECEIVES and may_rest:
+            return rests(name, why, parts, [SYSTEM])
+        return blocked(name, parts, [SYSTEM], reason=why)
+
+    def inside(self, place: Place, name: str, snapshot: Goroutines) -> Tuple[Wakers, ...]:
+        """Returns those in whose frames stands what one waits at."""
+        found = [some for address in place.objects for some in snapshot.reach.of(address)]
+        if sum(len(some.names()) for some in found) > MOST:
+            return ()
+        return tuple(left for left in (some.without([name]) for some in found) if left.names())
+
+    def children(self, goroutine: Goroutine, place: Place, snapshot: Goroutines) -> List[str]:
+        """Returns those whom one that waits for all of some has started, if the text says who has started whom."""
+        if place.operation not in NEEDS_ALL or place.operation == WRITER:  # (of whose readers some hold no lock)
+            return []
+        return [self.names[other.number] for other in snapshot.rows() if other.parent == goroutine.number
+                and not (other.state in NOBODY or other.is_leaked or snapshot.places[other.number].idle)]
+
+    def finish(self, sketch: Sketch, snapshots: List[Goroutines]) -> None:
+        """Adds the warnings, for each creator the group of those that it has created, and for each goroutine that of
+        those who may start more like it."""
+        sketch.warnings = list(dict.fromkeys([*self.warnings, *sketch.warnings]))
+        if self.dumps[0].is_last:
+            sketch.as_of = "as of SIGQUIT, which ended the program"
+        rows: List[Goroutine] = snapshots[0].rows()
+        starters = Starters(rows, snapshots[0].places, self.names)
+        over = {self.names[goroutine.number] for goroutine in rows if goroutine.state in NOBODY or goroutine.is_leaked}
+        for goroutine in rows:
+            sketch.groups[f"starters:{self.names[goroutine.number]}"] = [
+                name for name in starters.of(goroutine) if name not in over]
+            if goroutine.parent in self.names:
+                sketch.groups.setdefault(f"children:{self.names[goroutine.parent]}", []).append(
+                    self.names[goroutine.number])
+        if any(UNSEEN in starters.of(goroutine) for goroutine in rows):
+            sketch.processes.append(unseen_starter())
+
+
+DOESNT_SHOW = "the state doesn't show what ends this wait"
+
+
+def is_in_own_loop(goroutine: Goroutine) -> bool:
+    """Whether a goroutine stands in the function that it was started with, in none that it has called."""
+    return len([frame for frame in goroutine.frames if is_own(frame)]) == 1
+
+
+def missing_of(dump: Dump, shown: List[Goroutine]) -> str:
+    """Returns why goroutines, or frames of them that facts may ask for, aren't in a dump, if they may not be."""
+    if dump.is_last and len(shown) == 1:
+        return f"{dump.path} has one goroutine alone, as without GOTRACEBACK=all"
+    odd = next((it.fault for it in shown if it.fault), dump.lost)
+    if odd:
+        return f"{odd}, so one may be missing, or what it holds"
+    elided = [it for it in shown if not it.is_whole]
+    if elided:
+        return f"{elided[0].at}: frames of goroutine {elided[0].number} are elided, which may hold what others wait for"
+    return ""
+
+
+def also_at(names: List[str]) -> str:
+    """Returns in whose frames stands too what a goroutine waits at, for a reader who looks for a fact."""
+    if not names:
+        return ""
+    more = f" and {len(names) - NAMED} more" if names[NAMED:] else ""
+    return f"; it stands in the frames of {', '.join(names[:NAMED])}{more} too, and others may have it"
+
+
+def wait_for_nobody(goroutine: Goroutine, name: str) -> Process:
+    """One at a nil channel or in an empty `select`. Main, or what main calls, rests in that, as a service does."""
+    if goroutine.state == "select (no cases)" and goroutine.number == MAIN:
+        return rests(name, END_OF_MAIN, any_of(unseen("outside")), [SYSTEM, premise(INTENT)])
+    return blocked(name, any_of(), [SYSTEM])
+
+
+# Two states
+
+
+def has_left(first: Goroutine, later: Goroutine) -> bool:
+    """Whether a goroutine has begun another wait, or stands elsewhere in the same line. The minutes of a wait only
+    grow; one that sleeps in a loop comes back to the same sleep."""
+    is_new = later.minutes < first.minutes and later.state != "sleep"
+    return is_new or stack_of(first) != stack_of(later)
+
+
+def stack_of(goroutine: Goroutine) -> List[Tuple[str, Optional[int], str]]:
+    return [(it.function, it.line, it.offset) for it in goroutine.frames]
+
+
+def check_same(first: Dump, later: Dump) -> None:
+    """Raises Refusal if a goroutine has another origin in the later of two dumps, so that they are of two programs: a
+    program gives no number twice."""
+    before = {it.number: origin_of(it) for it in first.goroutines}
+    for it in later.goroutines:
+        here, there = origin_of(it), before.get(it.number)
+        if here and there and here != there:
+            raise Refusal(f"{it.at}: goroutine {it.number} is from {here}, and in {first.path} from {there}: two "
+                          "states of one program are expected")
+
+
+def origin_of(goroutine: Goroutine) -> str:
+    """Returns where a goroutine was created, or for main where main.main is, as text, or nothing."""
+    creator, last = goroutine.creator, next(filter(is_jobs, reversed(goroutine.frames)), None)
+    if goroutine.fault:
+        return ""
+    if creator.function and creator.path:
+        return f"{creator.function} ({creator.path}:{creator.line})"
+    is_main = goroutine.number == "1" and last is not None and last.function == "main.main"
+    return f"main.main ({last.path})" if is_main and last is not None else ""

@@ -1,0 +1,184 @@
+"""What the frames of a Go program's goroutines mean: which are the job's own, which are of the runtime or of a library,
+and which are those of an idle goroutine. `go` says by it what a goroutine waits for."""
+from __future__ import annotations
+
+import re
+from functools import lru_cache
+from typing import List
+
+from ..sketch import frame
+from .go_text import ADDRESS, TAKER, Frame, Goroutine
+
+STANDARD = frozenset(
+    "archive arena bufio bytes cmp compress container context crypto database debug embed encoding errors expvar flag "
+    "fmt go hash html image index internal io iter log maps math mime net os path plugin reflect regexp runtime slices "
+    "sort strconv strings structs sync syscall testing text time unicode unique unsafe vendor weak".split()
+)
+LIBRARY = re.compile(
+    r"golang\.org/x/|google\.golang\.org/|go\.(?:uber|opencensus|opentelemetry)\.(?:org|io)/|k8s\.io/(?:klog|client-go)"
+    r"|github\.com/(?:golang|gin-gonic|labstack|gorilla|lib/pq|go-sql-driver|jackc|redis|go-redis|sirupsen|prometheus)/"
+)
+# States of the runtime's own goroutines.
+OF_THE_RUNTIME = frozenset(("idle", "force gc (idle)", "GC sweep wait", "GC scavenge wait", "finalizer wait",
+                            "cleanup wait", "GC worker (idle)", "GC worker (active)", "timer goroutine (idle)",
+                            "trace reader (blocked)"))
+# The operation of a state or of a function, where that is another word.
+OPERATIONS = {
+    "chan receive (nil chan)": "chan receive", "chan send (nil chan)": "chan send", "select (no cases)": "select",
+    "sync.Mutex.lockSlow": "sync.Mutex.Lock", "sync.runtime_SemacquireMutex": "sync.Mutex.Lock",
+    "sync.runtime_Semacquire": "sync.WaitGroup.Wait"}
+METHOD = re.compile(r"[(*)]")
+# Idle frames: a goroutine with one of them before the first of the job's own waits for work, and tells of no stall. But
+# for one that accepts connections, it has none of the job's own, and waits for no lock.
+ACCEPTOR, CONNECTION, WATCHER = "waits for a connection", "waits on a connection", "waits for what it watches"
+IDLE = [(re.compile(pattern), label) for pattern, label in (
+    (r"net\.\(\*(?:TCP|Unix)Listener\)\.Accept\w*|internal/poll\.\(\*FD\)\.Accept", ACCEPTOR),
+    (r"net/http\.\(\*persistConn\)\.(?:read|write)Loop|net/http\.\(\*connReader\)\.\w*ackgroundRead.*", CONNECTION),
+    (r"net/http\.\(\*conn\)\.readRequest", CONNECTION),
+    (r"net/http\.\(\*http2(?:ClientConn|clientConnReadLoop|serverConn)\)\.\w+", CONNECTION),
+    (r"google\.golang\.org/grpc/internal/transport\.\(\*(?:http2\w+|loopyWriter|controlBuffer)\)\.\w+", CONNECTION),
+    (r"database/sql\.\(\*DB\)\.connection(?:Opener|Cleaner|Resetter)|os/signal\.(?:loop|signal_recv)", WATCHER),
+    (r"os/signal\.NotifyContext\.func\d+|context\.(?:\(\*cancelCtx\)\.)?propagateCancel\.func\d+", WATCHER),
+    (r"go\.opencensus\.io/stats/view\.\(\*worker\)\.start|k8s\.io/klog\S*flushDaemon|.*/glog\.\S*flushDaemon", WATCHER),
+)]
+# The one state in which it waits for work, where in others it serves a request of the job: a body has to be read, say.
+IDLE_IN = {"net/http.(*persistConn).readLoop": "IO wait", "net/http.(*persistConn).writeLoop": "select"}
+AT_A_LOCK = re.compile(r"semacquire|sync\.(?!Cond\b).*")
+WAITS_IN_SYNC = re.compile(r"semacquire|sync\..*")
+# Whoever waits in a state of `sync` stands in one of these.
+WAITS_OF_SYNC = re.compile(r"(?:internal/)?sync\.\(\*(?:Mutex\)\.(?:Lock|lockSlow)|RWMutex\)\.R?Lock"
+                           r"|(?:WaitGroup|Cond)\)\.Wait)|internal/poll\..*")
+WRAPPER = re.compile(r".*(?:\.gowrap\d+|·dwrap·\d+)")
+CHANNEL = re.compile(r"runtime\.chan(?:send|recv)")
+LOCK = re.compile(r"sync\.\(\*(?:Mutex|RWMutex|WaitGroup|Cond|Once)\)\.\w+|internal/sync\.\(\*Mutex\)\.\w+")
+CONDITION, WAITS_AT_IT = "sync.(*Cond).Wait", "sync.runtime_notifyListWait"
+NEEDS_ALL = frozenset(("sync.WaitGroup.Wait", "sync.RWMutex.Lock", "golang.org/x/sync/errgroup.Group.Wait"))
+OUTERMOST = ("runtime.goexit", "runtime.main")
+KEPT = 65536  # functions whose meaning is kept
+
+
+def entry_of(goroutine: Goroutine) -> str:
+    """Returns the function that a goroutine was started with: the outermost, or that of the job's own which a library
+    has started, and none that the compiler makes of the call of a `go` statement. So it is the same wherever it
+    stands."""
+    frames = [it for it in goroutine.frames if it.function not in OUTERMOST]
+    if not frames or not goroutine.is_whole:
+        return goroutine.created_by or "goroutine"
+    own = list(filter(is_own, frames)) or frames
+    last = own[-1]
+    return own[-2].function if len(own) > 1 and WRAPPER.fullmatch(last.function) else last.function
+
+
+def is_jobs(it: Frame) -> bool:
+    """Whether a frame is none of the standard library."""
+    return not is_standard(it.function, it.path)
+
+
+@lru_cache(maxsize=KEPT)
+def is_standard(function: str, path: str) -> bool:
+    if package_of(function).split("/")[0] not in STANDARD:
+        return function == "panic"
+    return path in ("", "<autogenerated>") or path.rpartition("/src/")[2].split("/")[0] in STANDARD
+
+
+def is_at_another(it: Frame) -> bool:
+    """Whether a frame of the standard library stands at a file of another package, since lines between are lost. A
+    package of the job may have such a name too, and then its folder has it."""
+    package = package_of(it.function)
+    if package.split("/")[0] not in STANDARD or it.path in ("", "<autogenerated>") or is_standard(it.function, it.path):
+        return False
+    return it.path.split("/")[-2:-1] != [package.split("/")[-1]]
+
+
+def lacks_wait(goroutine: Goroutine) -> bool:
+    """Whether a goroutine waits in `sync`, and no frame of it is a call that waits there."""
+    is_there = WAITS_IN_SYNC.fullmatch(goroutine.state) is not None
+    return is_there and not any(WAITS_OF_SYNC.fullmatch(it.function) for it in goroutine.frames)
+
+
+def package_of(function: str) -> str:
+    """'net/http.(*conn).serve' is of 'net/http'."""
+    head, slash, tail = function.rpartition("/")
+    return head + slash + tail.split(".")[0]
+
+
+def is_own(it: Frame) -> bool:
+    """Whether a frame is the job's own: of no library that many jobs use."""
+    return is_jobs(it) and not is_of_library(it.function)
+
+
+@lru_cache(maxsize=KEPT)
+def is_of_library(function: str) -> bool:
+    return LIBRARY.match(function) is not None
+
+
+@lru_cache(maxsize=KEPT)
+def label_of(function: str) -> str:
+    """Returns how a goroutine with this frame is idle, or nothing."""
+    return next((label for pattern, label in IDLE if pattern.fullmatch(function)), "")
+
+
+def idle_label(frames: List[Frame], state: str, has_own: bool) -> str:
+    """Returns how a goroutine in a state is idle, with these frames before the first of the job's own, or nothing."""
+    is_at_work = has_own or AT_A_LOCK.fullmatch(state) is not None
+    labels = {it.function: label_of(it.function) for it in frames}
+    return next((label for function, label in labels.items() if label == ACCEPTOR
+                 or label and not is_at_work and IDLE_IN.get(function, state) == state), "")
+
+
+def is_of_runtime(goroutine: Goroutine) -> bool:
+    """Whether a goroutine is of the runtime, and runs no code of the job."""
+    if any(map(is_jobs, goroutine.frames)) or goroutine.fault:
+        return False
+    if goroutine.number == "0" or goroutine.state in OF_THE_RUNTIME:
+        return True
+    return package_of(goroutine.created_by) == "runtime" or goroutine.number == "17" and not goroutine.created_by
+
+
+def takes_state(goroutine: Goroutine) -> bool:
+    """Whether a goroutine answers the request for the state. One that takes it by the job's own code is of the job."""
+    functions = {it.function for it in goroutine.frames}
+    return TAKER in functions and "net/http.(*conn).serve" in functions
+
+
+class Place:
+    """Where a goroutine stands: its frames as facts match them, what it calls there, and how it is idle, if it is.
+    `function` is the topmost of its own, and `called` the function whose call is the operation."""
+
+    def __init__(self, goroutine: Goroutine) -> None:
+        frames = [it for it in goroutine.frames if it.function not in OUTERMOST]
+        start = next((at for at, it in enumerate(frames) if is_own(it)), None)
+        self.idle = idle_label(frames[:start], goroutine.state, start is not None)
+        if start is None:
+            start = next((at for at, it in enumerate(frames) if is_jobs(it)), None)
+        if start is None:
+            start = next((at for at, it in enumerate(frames) if package_of(it.function) != "runtime"), 0)
+        own = [it for it in frames[start:] if is_jobs(it)]
+        self.function = own[0].function if own else ""
+        if not own and goroutine.created_by and is_jobs(goroutine.creator):
+            own, start = [goroutine.creator], len(frames)
+        self.frames = [frame(it.function, it.file, it.line) for it in own or frames[start:]]
+        inner = frames[:start]
+        if len(inner) > 1 and inner[-1].function == CONDITION and inner[-2].function != WAITS_AT_IT:
+            inner.pop()  # (it was signalled, and locks again what it has given back)
+        self.called = inner[-1].function if inner else ""
+        self.operation = operation_of(goroutine.state, self.called)
+        self.objects = objects_of(inner)
+
+
+def operation_of(state: str, called: str) -> str:
+    """Returns what a goroutine does at its own topmost frame: the call of a library (sync.Mutex.Lock), or its state."""
+    if not called or package_of(called) == "runtime":
+        return OPERATIONS.get(state, state)
+    name = METHOD.sub("", called)
+    return OPERATIONS.get(name, name)
+
+
+def objects_of(frames: List[Frame]) -> List[str]:
+    """Returns the address of the channel or lock that the frames of a wait show, if they do for certain."""
+    for it in frames:
+        if CHANNEL.fullmatch(it.function) or LOCK.fullmatch(it.function):
+            first = it.arguments.split(",")[0]
+            if ADDRESS.fullmatch(first):
+                return [first]
+    return []

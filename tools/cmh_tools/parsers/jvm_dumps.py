@@ -1,0 +1,119 @@
+"""Reads a text in which a JVM tells of its threads, whichever it is: what `jstack` prints, once or several times, or
+what `jcmd PID Thread.dump_to_file` writes, as text or as JSON."""
+from __future__ import annotations
+
+import json
+import re
+from typing import Any, Dict, List, Optional
+
+from ..files import Refusal, shown
+from .jvm_misfits import add_faults
+from .jvm_text import BETWEEN, FRAME, PARKED, START, Dump, PrintReader, Thread, add_line, frame_of
+
+FILE_THREAD = re.compile(
+    r'#(?P<number>\d+) "(?P<name>.*)"(?P<virtual> virtual)?(?: (?P<state>[A-Z_]+))?(?: \d{4}-\S+)?'
+)
+UNMARKED = re.compile(r" {6}(?=[^\s-]\S*\()(?!at )")  # before a frame of JDK 21, which has no 'at'
+
+
+def read_dumps(path: str, text: str) -> List[Dump]:
+    """Returns the dumps of a text, in their order. Raises Refusal if it has none, or one that isn't whole."""
+    name = shown(path)
+    if text.lstrip().startswith("{"):
+        return [read_file_json(name, text)]
+    text = text.replace("\r\n", "\n")
+    starts = [start.start() for start in re.finditer(f"\n{START}", f"\n{text}")]
+    if starts:
+        ends = [*starts[1:], len(text)]
+        dumps = [PrintReader(name, text, start, end).read() for start, end in zip(starts, ends)]
+        for dump in dumps:
+            add_faults(dump)
+        return dumps
+    lines = text.split("\n")
+    if any(FILE_THREAD.fullmatch(line) for line in lines[:50]):
+        return [read_file_text(name, lines)]
+    raise Refusal(f"{name}:1: this is no thread dump: a line 'Full thread dump ..' of `jstack -l`, or the text of "
+                  "`jcmd PID Thread.dump_to_file`, is expected")
+
+
+# `jcmd PID Thread.dump_to_file`
+
+
+def read_file_text(path: str, lines: List[str]) -> Dump:
+    """Returns the dump of a text of `Thread.dump_to_file -format=text`."""
+    if lines[-1].strip() or len(lines) < 2 or lines[-2].strip():
+        raise Refusal(f"{path}:{len(lines)}: the dump is cut off: it ends within a thread")
+    process = lines[0].strip()
+    dump = Dump(path, is_file=True, pid=process if process.isdigit() else "")
+    thread: Optional[Thread] = None
+    for number, line in enumerate(lines, 1):
+        line = UNMARKED.sub("    at ", line, 1) if UNMARKED.match(line) else line
+        if head := FILE_THREAD.fullmatch(line):
+            key = f"#{head['number']}"
+            thread = Thread(head["name"], key, f"{path}:{number}", head["number"], f"{process} {key}")
+            thread.is_virtual, thread.state = bool(head["virtual"]), head["state"] or ""
+            dump.threads.append(thread)
+        elif line.strip() and (thread is None or not add_line(thread, line)):
+            if thread is not None or not BETWEEN.fullmatch(line):
+                dump.warn(f"{path}:{number}", line)
+            if thread is not None:
+                thread.fault = thread.fault or f"{path}:{number} isn't understood"
+                dump.lost = dump.lost or f"{path}:{number} doesn't fit"
+    dump.taken = lines[1].strip()
+    dump.close()
+    return dump
+
+
+def read_file_json(path: str, text: str) -> Dump:
+    """Returns the dump of a text of `Thread.dump_to_file -format=json`."""
+    try:
+        tree = json.loads(text)
+        containers = tree["threadDump"]["threadContainers"]
+        rows = [row for container in containers for row in container["threads"]]
+        process = str(tree["threadDump"].get("processId") or "")
+        threads = [thread_of_row(path, row, process) for row in rows]
+    except (ValueError, KeyError, TypeError, AttributeError, RecursionError, OverflowError) as error:
+        line = getattr(error, "lineno", 1)
+        raise Refusal(f"{path}:{line}: this is no whole JSON of `jcmd PID Thread.dump_to_file -format=json`: "
+                      f"{shown(str(error))}") from error
+    lost = next(filter(None, (short_of(path, container) for container in containers)), "")
+    taken = str(tree["threadDump"].get("time") or "")
+    return Dump(path, threads, is_file=True, pid=process if process.isdigit() else "", taken=taken, lost=lost)
+
+
+def short_of(path: str, container: Dict[str, Any]) -> str:
+    """Returns what shows that threads of a container are missing, or nothing."""
+    number, here = str(container.get("threadCount") or ""), len(container["threads"])
+    if not re.fullmatch(r"\d{1,9}", number) or int(number) <= here:
+        return ""
+    return f"{path}: {shown(str(container.get('container')))} has {number} threads, and {here} are shown"
+
+
+def thread_of_row(path: str, row: Dict[str, Any], process: str) -> Thread:
+    """Returns the thread of a row of JSON, with its marks as the text has them."""
+    number = str(row["tid"])
+    thread = Thread(str(row["name"]), f"#{number}", f"{path}, tid {number}", number, f"{process} #{number}")
+    thread.is_virtual, thread.state = row.get("virtual") is True, str(row.get("state") or "")
+    for line in row["stack"]:
+        matched = FRAME.fullmatch(f" at {line}")
+        if matched is None:
+            thread.fault = thread.fault or f"{thread.place}: the frame {shown(str(line))[:200]} isn't understood"
+        else:
+            thread.frames.append(frame_of(matched))
+    add_marks(thread, row)
+    return thread
+
+
+def add_marks(thread: Thread, row: Dict[str, Any]) -> None:
+    """Adds what a row of JSON says of monitors and blockers to the frames of its thread."""
+    blocker = row.get("parkBlocker") or {}
+    tops = [(PARKED, blocker.get("object")), ("waiting to lock", row.get("blockedOn")),
+            ("waiting on", row.get("waitingOn"))]
+    if thread.frames:
+        thread.frames[0].marks += [(kind, str(object_)) for kind, object_ in tops if object_]
+    owner = blocker.get("owner") or blocker.get("exclusiveOwnerThreadId")
+    thread.waits_for_owner = str(owner) if owner else None
+    for owned in row.get("monitorsOwned") or []:
+        marks = [("locked", str(lock)) for lock in owned["locks"] if lock]
+        if thread.frames:
+            thread.frames[min(int(owned["depth"]), len(thread.frames) - 1)].marks += marks

@@ -1,0 +1,372 @@
+"""The state that cmh_linux prints: lines of JSON, of two readings of a machine, and perhaps of stacks."""
+from __future__ import annotations
+
+import json
+import re
+from collections import Counter
+from dataclasses import dataclass, field
+from functools import cached_property
+from typing import Any, Dict, Iterable, Iterator, List, NamedTuple, Sequence, Tuple
+
+from ..files import Refusal, shown
+from ..sketch import quote
+from .base import misfits
+
+Row = Dict[str, Any]
+MARK = "cmh-linux "
+VERSION = 1
+EXPECTED = "lines of cmh_linux are expected, as `cmh-dump linux --pid PID --save STATE` keeps them"
+READS, WRITES = 1, 4  # the events of poll for what can be read and what can be written
+CARRIES, RING = "scm_fds:", "UserFiles:"  # a socket with descriptors on their way, an io_uring that keeps files
+SIGMASK = "sigmask:"  # which signals a descriptor of them takes
+NO_KEYS = ("lock:", CARRIES, RING, SIGMASK)  # what of a descriptor doesn't tell its file from others
+MASTER, TERMINAL = "/dev/ptmx", "/dev/pts/"  # the end of a terminal that a program has, and how others' names begin
+OPEN = "open "  # how the name of an open file begins, which several descriptors may share
+TID = 0x3FFFFFFF  # the number of a thread in the word of a lock, or of a join
+ENDED = "ZX"  # the states of those that have ended
+NUMBER, NUMBERED = re.compile(r"\d+"), re.compile(r"(.* )?\d+")  # within the name of a thread, and at its end
+NUMBERS = re.compile(r"[0-9]{1,9}(\s+[0-9]{1,9})*")
+HEX = re.compile(r"(0x)?[0-9a-f]{1,16}")
+# (Older states have keys besides, of code that was followed: these say nothing.)
+STATE = re.compile("[A-Za-z]")
+THREAD = {"tid": int, "state": STATE, "inner?": int, "comm?": str, "call?": str, "args?": [HEX] * 6,
+          "counts?": [int, int], "set?": ([[int, int]], [[int, int, int]]), "words?": re.compile("([0-9a-f]{2})*"),
+          "range?": [int] * 4, "path?": str, "wchan?": str, "memory?": str, "mask?": HEX, "key?": int, "users?": [int],
+          "changed?": int, "within?": str, "frames?": [str], "stack?": [int], "cut?": bool, "again?": bool,
+          "object?": [str, int], "limit?": [(float, int, type(None))] * 2, "waited?": (float, int), "pending?": bool,
+          "addressed?": bool}
+OWNER = {"pid": int, "ppid?": int, "comm": str, "group?": int, "session?": int,
+         "exe?": str, "TracerPid?": re.compile(r"\d{1,9}"), "SigCgt?": HEX,
+         "fds?": {re.compile(r"\d{1,9}|memory .*"): [str, re.compile("r?w?"), str, ...]}, "threads?": [THREAD],
+         "kin?": [int], "timers?": bool, "aio?": bool, "runtime?": str,
+         "frames?": [[str, int, int]], "modules?": [[str, str]], "start?": int, "NSpid?": NUMBERS,
+         "NSpgid?": NUMBERS, "SigIgn?": HEX, "collects?": bool}
+SOCKET = {"socket": int, "kind": re.compile("tcp|u_(str|dgr|seq)"), "state": str, "at": str, "to": str,
+          "peers": [int], "away?": bool, "unread?": int}
+SHAPES = {"asked": {"asked": [int]}, "pid": OWNER, "socket": SOCKET, "listening": {"listening": {str: [int]}},
+          "warnings": {"warnings": [str]},
+          "parents": {"parents": {re.compile(r"[0-9]{1,9}"): [int, int]}},
+          "stacks": {"stacks": int, "still": {str: [str]}, "text": str},
+          "unreadable": {"unreadable": str, "pid": int}}
+# What each process that was read says of itself, but for one that has ended and for the collector.
+NEEDED = ("SigCgt", "TracerPid", "fds", "timers", "start")
+NEEDED_IN_CALL = ("pending", "wchan")  # and each thread that is in a call
+
+
+@dataclass(eq=False)
+class Owner:
+    """A process of the machine, as one reading shows it. `why` says why it couldn't be read, if it couldn't."""
+
+    row: Row
+    threads: List["Thread"] = field(default_factory=list)
+
+    def __post_init__(self) -> None:
+        self.pid, self.parent = (int(self.row.get(key, 0)) for key in ("pid", "ppid"))
+        # Its number and its group's in each namespace of processes: that of the collector first, its own last.
+        self.numbers = [int(word) for word in str(self.row.get("NSpid", self.pid)).split()]
+        self.groups = [int(word) for word in str(self.row.get("NSpgid", self.row.get("group", 0))).split()]
+        self.tracer = int(self.row.get("TracerPid", "0"))
+        self.command = str(self.row.get("comm", ""))
+        self.name = f"{self.command} {self.pid}"
+        self.why = str(self.row.get("unreadable", ""))
+        self.files: Dict[str, List[str]] = self.row.get("fds", {})
+        self.threads = [Thread(self, row) for row in self.row.get("threads", [])] if not self.why else []
+        self.living = [thread for thread in self.threads if thread.state not in ENDED]
+
+    @cached_property
+    def names(self) -> List[str]:
+        """What its living threads are called, once that is known."""
+        return [thread.name for thread in self.living]
+
+    @cached_property
+    def mark(self) -> str:
+        """What tells it, with its living threads, from others and from what it is in another reading."""
+        return f"{self.name} {hash(tuple(self.names))}"
+
+    def frames_of(self, row: Row) -> List["Frame"]:
+        """Returns the frames of a thread, by their numbers in the table of its process. (Older states have the names of
+        its own functions, where all of the stack was known.)"""
+        if "stack" not in row:
+            return [Frame(name) for name in row.get("frames", ())]
+        table, modules = self.row.get("frames", []), [*self.row.get("modules", []), ["", ""]]
+        if not all(0 <= number < len(table) and 0 <= table[number][1] < len(modules) for number in row["stack"]):
+            return []
+        return [Frame(name, modules[module][0], place, modules[module][1])
+                for name, module, place in (table[number] for number in row["stack"])]
+
+    def catches(self, signal: int) -> bool:
+        """Whether it has a handler of a signal."""
+        return bool(int(self.row.get("SigCgt", "0"), 16) >> signal - 1 & 1)
+
+    def ignores(self, signal: int) -> bool:
+        return bool(int(self.row.get("SigIgn", "0"), 16) >> signal - 1 & 1)
+
+    def handled_besides(self, signals: Iterable[int]) -> List[int]:
+        """Returns the signals of which it has a handler, besides those."""
+        mask = int(self.row.get("SigCgt", "0"), 16) & ~sum(1 << signal - 1 for signal in signals)
+        return [number for number in range(1, 65) if mask >> number - 1 & 1]
+
+    def lacks(self) -> str:
+        """Returns what its row doesn't say and should, or nothing."""
+        return next((key for key in NEEDED if key not in self.row), "")
+
+    def may_carry(self) -> bool:
+        """Whether it may have a file, or use one, that none of its descriptors shows: on its way through a socket, or
+        by what it has asked the kernel for."""
+        return bool(self.row.get("aio")) or any(map(may_carry, self.files.values()))
+
+    def has_ended(self) -> bool:
+        return not self.why and not self.living
+
+
+class Frame(NamedTuple):
+    """A function on a stack: its name or nothing, its program or library, and where that has the code, by its file."""
+
+    function: str
+    module: str = ""
+    place: int = 0
+    build_id: str = ""
+
+
+@dataclass(eq=False)
+class Thread:
+    """A thread, as one reading shows it. `stack` has its frames as a debugger shows them, where that was asked for, and
+    `frames` as they were unwound from memory; `is_whole` says that nobody has called the outermost, and `is_again` that
+    the thread may stand at another wait of the same call by now. `within` is the call of a library that its own code is
+    in. `called` is what it is called within its process, and `kin` the same for all whose names differ by a number
+    alone."""
+
+    owner: Owner
+    row: Row
+    stack: List[Tuple[str, str]] = field(default_factory=list)
+    called: str = ""
+    kin: str = ""
+
+    def __post_init__(self) -> None:
+        self.tid, self.state = int(self.row["tid"]), str(self.row.get("state", "?"))
+        self.inner = int(self.row.get("inner", self.tid))  # its number as it sees itself, in a container
+        self.call = str(self.row.get("call", ""))
+        self.arguments = [int(word, 16) for word in self.row.get("args", [])]
+        self.counts: List[int] = self.row.get("counts", [])
+        self.events: List[List[int]] = self.row.get("set", [])
+        self.words = bytes.fromhex(self.row.get("words", ""))
+        self.within, self.frames = str(self.row.get("within", "")), self.owner.frames_of(self.row)
+        self.is_whole, self.is_again = bool(self.frames) and not self.row.get("cut"), bool(self.row.get("again"))
+
+    @property
+    def title(self) -> str:
+        """The name that the program has given the thread, if it has given it one of its own."""
+        own = str(self.row.get("comm", ""))
+        return own if own != self.owner.command else ""
+
+    @property
+    def name(self) -> str:
+        return self.owner.name if self.is_first else f"{self.owner.name}/{self.called or self.tid}"
+
+    @property
+    def is_first(self) -> bool:
+        return self.tid == self.owner.pid
+
+    @property
+    def is_addressed(self) -> bool:
+        """Whether it sends a message with an address."""
+        return bool(self.row.get("addressed")) or self.call == "sendto" and self.arguments[4] != 0
+
+    def lacks(self) -> str:
+        """Returns what its row or that of its process doesn't say and should, or nothing."""
+        return self.owner.lacks() or next((key for key in NEEDED_IN_CALL if key not in self.row and self.arguments), "")
+
+    def word(self, offset: int) -> int:
+        """The number that stands in memory behind the word of its futex, or 0."""
+        data = self.words[offset:offset + 4]
+        return int.from_bytes(data, "little") if len(data) == 4 else 0
+
+
+class Machine:
+    """One reading of a machine: its processes, and who has which file. One that can't be read in any of the readings
+    counts so in all: `unread` has these, each with why. `has_stacks` says that stacks were asked for."""
+
+    def __init__(self, rows: List[Row], unread: Dict[int, str], has_stacks: bool = False) -> None:
+        self.has_stacks = has_stacks
+        self.owners = [Owner({**row, "unreadable": unread[row["pid"]]} if row["pid"] in unread else row)
+                       for row in rows if "pid" in row]
+        self.by_pid = {owner.pid: owner for owner in self.owners}
+        self.sockets: Dict[int, Row] = {row["socket"]: row for row in rows if "socket" in row}
+        self.warnings = [str(line) for row in rows for line in row.get("warnings", [])]
+        # The parent of each process, also of those above them, and when it began. One that isn't known has none.
+        self.parents: Dict[int, Tuple[int, int]] = {
+            int(pid): (pair[0], pair[1]) for row in rows for pid, pair in row.get("parents", {}).items()}
+        self.parents.update({owner.pid: (owner.parent, owner.row["start"]) for owner in self.owners
+                             if "start" in owner.row})
+        self.listening: Dict[str, List[int]] = next((row["listening"] for row in rows if "listening" in row), {})
+        self.holders: Dict[str, List[Tuple[Owner, str]]] = {}
+        for owner in self.owners:
+            for fd, words in owner.files.items() if not owner.why else ():
+                for key in (*keys_of(words), *(key for key in (MASTER, TERMINAL) if words[0].startswith(key))):
+                    self.holders.setdefault(key, []).append((owner, fd))
+        self.carriers = [owner for owner in self.owners if not owner.why and owner.may_carry()]
+        self.lists: Dict[Tuple[str, ...], List[str]] = {}
+        self.unseen: Dict[str, str] = {}  # what stands for what no process is, and why that is unknown
+        self.stand_ins: Dict[int, str] = {}  # what those are called in lists that can't be read
+
+    def with_file(self, key: str, mode: str = "") -> List[Owner]:
+        """Returns the processes that have a file, open in a way."""
+        return list(dict.fromkeys(owner for owner, fd in self.holders.get(key, [])
+                                  if not mode or mode in owner.files[fd][1]))
+
+    def names_of(self, owners: Iterable[Owner], waiter: Thread) -> List[str]:
+        """Returns the names of the living threads of some processes, in one list for all waits that have the same. A
+        waiter that is alone in its process is one of them only where nobody else is."""
+        others = [owner for owner in dict.fromkeys(owners) if owner.living]
+        if len(waiter.owner.living) == 1 and len(others) > 1:
+            others = [owner for owner in others if owner is not waiter.owner]
+        return self.list_of(others)
+
+    def list_of(self, owners: Sequence[Owner]) -> List[str]:
+        """Returns the names of the living threads of some processes, in one list for all waits of all readings."""
+        return self.shared([owner.mark for owner in owners], (name for owner in owners for name in owner.names))
+
+    def shared(self, key: Sequence[str], names: Iterable[str]) -> List[str]:
+        """Returns some names, as the list that was first made of them."""
+        if tuple(key) not in self.lists:
+            self.lists[tuple(key)] = list(names)
+        return self.lists[tuple(key)]
+
+    def threads(self, number: int) -> List[Thread]:
+        """Returns the threads that see themselves as a number: several, if they are of several namespaces."""
+        return [thread for owner in self.owners for thread in owner.threads if thread.inner == number]
+
+    def below(self, owners: List[Owner]) -> List[Owner]:
+        """Returns the children of some processes, and theirs, and so on."""
+        below: Dict[Owner, None] = {}
+        pids = {owner.pid for owner in owners}
+        while pids:
+            new = [owner for owner in self.owners if owner.parent in pids and owner not in below]
+            below.update(dict.fromkeys(new))
+            pids = {owner.pid for owner in new}
+        return list(below)
+
+    def later_branches(self, owner: Owner) -> List[Owner]:
+        """Returns the children of those above a process that began after it: one may be an orphan of those below it."""
+        above: List[int] = []
+        pid = owner.pid
+        while pid in self.parents and pid not in above:
+            pid = self.parents[pid][0]
+            above.append(pid)
+        start = self.parents.get(owner.pid, (0, 0))[1]
+        later = (other for other in self.owners if int(other.row.get("start", start)) >= start)
+        return [other for other in later if other.parent in above and not other.row.get("collects")]
+
+    def above(self, owner: Owner) -> List[Owner]:
+        """Returns the parent of a process, and its, and so on."""
+        above: List[Owner] = []
+        parent = self.by_pid.get(owner.parent)
+        while parent is not None and parent not in above:
+            above.append(parent)
+            parent = self.by_pid.get(parent.parent)
+        return above
+
+    def children(self, pid: int) -> List[Owner]:
+        """Returns the processes that a process waits for by `wait`: its children, and those that it traces."""
+        return [owner for owner in self.owners if pid in (owner.parent, owner.tracer)]
+
+
+def call_threads(machines: List[Machine]) -> None:
+    """Has threads called as their programs have named them, in all readings as in the first that shows one. Those whose
+    names don't tell them from others, or may be numbers of threads, have their own numbers besides."""
+    titles: Dict[int, Dict[int, str]] = {}
+    for owner in (owner for machine in machines for owner in machine.owners):
+        for thread in owner.threads:
+            titles.setdefault(owner.pid, {}).setdefault(thread.tid, thread.title)
+    counts = {pid: Counter(of_pid.values()) for pid, of_pid in titles.items()}
+    kin = {pid: Counter(NUMBER.sub("*", title) for title in of_pid.values()) for pid, of_pid in titles.items()}
+    for owner in (owner for machine in machines for owner in machine.owners):
+        for thread in owner.threads:
+            title = titles[owner.pid][thread.tid]
+            is_own = counts[owner.pid][title] == 1 and not NUMBERED.fullmatch(title)
+            thread.called = title if is_own or not title else f"{title} {thread.tid}"
+            family = NUMBER.sub("*", title)
+            thread.kin = family if kin[owner.pid][family] > 1 else title
+
+
+def keep_calls(machines: List[Machine]) -> None:
+    """Lets what the unwound stack of a thread says count in later readings too, where it is in the same call, and in
+    which call of a library it is where it is still at the same wait."""
+    known = {(owner.pid, owner.row.get("start"), thread.tid): thread for machine in machines[:1]
+             for owner in machine.owners for thread in owner.threads}
+    for owner in (owner for machine in machines[1:] for owner in machine.owners):
+        for thread in owner.threads:
+            first = known.get((owner.pid, owner.row.get("start"), thread.tid), thread)
+            calls = [(row.get("call"), row.get("args")) for row in (first.row, thread.row)]
+            if first is not thread and thread.counts and calls[0] == calls[1]:
+                thread.frames, thread.is_whole = first.frames, first.is_whole
+                thread.is_again = first.is_again or thread.counts != first.counts
+                thread.within = "" if thread.is_again else first.within
+
+
+def may_carry(words: List[str]) -> bool:
+    """Whether a descriptor may have files that none shows. An older kernel doesn't say how many an io_uring keeps."""
+    if "io_uring" in words[0]:
+        return f"{RING} 0" not in words[2:]
+    return any(more.startswith(CARRIES) for more in words[2:])
+
+
+def keys_of(words: List[str]) -> Iterator[str]:
+    """Yields what tells the file of a descriptor from others: the number of its pipe or socket, or what more is known.
+    """
+    if words[0].startswith(("pipe:[", "socket:[")):
+        yield words[0]
+    yield from (more for more in words[2:] if not more.startswith(NO_KEYS))
+
+
+def rows_of(text: str, path: str) -> List[Row]:
+    """Returns the rows of a state. Raises Refusal if it isn't one, or isn't whole."""
+    rows = []
+    for number, line in enumerate(text.replace("\r\n", "\n").split("\n"), 1):
+        if not line:
+            continue
+        try:
+            row = json.loads(line[len(MARK):]) if line.startswith(MARK) else None
+        except (ValueError, RecursionError):
+            row = None
+        if not isinstance(row, dict):
+            raise Refusal(f"{shown(path)}:{number}: {EXPECTED}, and this line isn't one, or is cut off")
+        odd = next((place for key in row.keys() & SHAPES.keys() for place in misfits(row, SHAPES[key])), None)
+        if "pid" in row and "unreadable" not in row:
+            odd = odd or next((f".{key}" for key in ("ppid", "fds") if key not in row), None)
+        if odd is not None:
+            raise Refusal(f"{shown(path)}:{number}: {EXPECTED}, and in this line {quote(odd[1:])} isn't as these have "
+                          "it")
+        rows.append(row)
+    if not rows or rows[0].get("version") != VERSION:
+        raise Refusal(f"{shown(path)}:1: {EXPECTED}, of version {VERSION}")
+    if rows[-1].get("end") != "state":
+        raise Refusal(f"{shown(path)}: its last line is missing, so it is cut off")
+    return rows
+
+
+def readings_of(rows: List[Row], path: str) -> List[List[Row]]:
+    """Returns the rows of each reading. Raises Refusal if one isn't whole."""
+    readings: List[List[Row]] = []
+    for row in rows[1:-1]:
+        if "reading" in row:
+            readings.append([])
+        if not readings or "stacks" in row:
+            continue
+        readings[-1].append(row)
+    for number, reading in enumerate(readings, 1):
+        end, pids = reading[-1], [row["pid"] for row in reading if "pid" in row]
+        if len(set(pids)) != len(pids):
+            (pid, _), = Counter(pids).most_common(1)
+            raise Refusal(f"{shown(path)}: process {pid} stands twice in reading {number}")
+        if end.get("end") != number or end.get("processes") != len(pids):
+            raise Refusal(f"{shown(path)}: reading {number} isn't whole: its count of processes doesn't fit")
+    if not readings:
+        raise Refusal(f"{shown(path)}: it has no reading")
+    return readings
+
+
+def some_names(owners: Iterable[Owner], most: int = 4) -> str:
+    """Returns the names of processes for people."""
+    names = list(dict.fromkeys(shown(owner.name) for owner in owners))
+    return ", ".join(names[:most]) + (f" and {len(names) - most:,} more" if names[most:] else "")

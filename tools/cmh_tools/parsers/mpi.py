@@ -1,0 +1,357 @@
+"""What gdb prints of the stack of each rank of an MPI job, or eu-stack, once or several times, in one file or several.
+What cmh_mpi_reader.py prints is for mpi_records.
+
+The partner of a call is known where the frame of the MPI call itself shows it and that its communicator is the world's:
+a rank of another communicator is another process. All else stands in the source: facts say it by line. A rank that
+waits polls, and nothing counts how often it has waited: two stacks alike may show two waits of a healthy loop.
+"""
+from __future__ import annotations
+
+import itertools
+import re
+from collections import Counter
+from dataclasses import dataclass, field
+from typing import Any, Dict, List, Match, Tuple
+
+from ..files import Refusal, shown
+from ..model import Part, Sign, Wakers, all_of, any_of, unseen, wakers
+from ..sketch import LIMIT, SYSTEM, Process, Sketch, blocked, frame, garbled, goes_on, premise, unknown
+from ..snapshots import APART, PARTS, Reading
+from . import State
+from .base import Break, Parser, Snapshot
+from .mpi_records import COMPUTES, FINALIZED, ONE_THREAD, RecordsParser, doubt_reach, say_missing
+from .mpi_text import MARK
+
+HEADING = re.compile(r"^# (?:gdb|eu-stack) -p \d+.*$", re.M)
+HEAD = re.compile(r"# (?:gdb|eu-stack) -p (?P<pid>\d+)(?: on (?P<host>[^\s,]+))?\b.*\b(?:OMPI_COMM_WORLD_RANK|"
+                  r"MV2_COMM_WORLD_RANK|PMI_RANK|PMIX_RANK|SLURM_PROCID)=(?P<rank>\d{1,9})\b")
+SIZE = re.compile(r"\b(?:OMPI_COMM_WORLD_SIZE|MV2_COMM_WORLD_SIZE|PMI_SIZE|SLURM_NTASKS)=(\d{1,7})\b")
+FRAME = re.compile(r"^#(?P<at>\d{1,9}) +(?:0x[0-9a-f]+ in )?(?P<function>\S.*?) \((?P<arguments>.*)\)"
+                   r"(?: at (?P<file>.+?):(?P<line>\d+)| from (?P<library>.+?))?\s*$", re.M)
+STEP = re.compile(r"^#\d+ ", re.M)
+# What eu-stack prints: a frame with its module, or a thread. It shows no arguments.
+BARE = re.compile(r"^(#\d+ +0x[0-9a-f]+)(?: (?!- )(\S.*?))? - (\S*)$", re.M)
+BARE_THREAD = re.compile(r"^TID (\d+):$", re.M)
+THREAD = re.compile(r"^Thread (\d{1,9}) \(.*$", re.M)
+CALL = re.compile(r"[Pp]?(?:MPI_(?P<name>[A-Z]\w*)|mpi_(?P<fortran>[a-z]\w*?)_+)$")
+OF_LIBRARY = re.compile(r"(ompi|opal|orte|prte|mca|pmix|PMIx|MPI[DRIU]\w*|MPL|ucp|ucs|uct|psm2?|psmx\w*|fi|ofi|rxm)_")
+FINALIZE = re.compile(r"(ompi_mpi_finalize|MPI[DRI]+_Finalize)$")
+# What gdb prints of an argument that is still what it was at the function's entry, and where the next one begins.
+ENTRY = re.compile(r"\b(\w+)=\1@entry=")
+NEXT = re.compile(r", (?=\w+(?:@entry)?=)")
+# The argument that names the partner in the frame of the call itself.
+PARTNERS = {
+    "Send": "dest", "Ssend": "dest", "Rsend": "dest", "Bsend": "dest", "Recv": "source", "Probe": "source",
+    "Mprobe": "source",
+}
+# Arguments of the job's own that are likely to name it, by what they are called.
+LIKELY = re.compile(r"(?:\w+_)?(?:to|from|dest|destination|dst|source|src|other|peer|partner|mate|target)")
+NUMBER = re.compile(r"\d{1,9}")
+WORLD = re.compile(r"\bcomm=(?:0x[0-9a-f]+ )?(?:<ompi_mpi_comm_world>|1140850688\b|0x44000000\b)")
+# How a thread begins, and the functions of Open MPI, PMIx and UCX that threads of their own run.
+BEGINS = re.compile(r"(start_thread|_*clone3?)$")
+OUTERMOST = re.compile(r"(start_thread|_*clone3?|main|_start|__libc_start\w*|\?\?.*)$")
+PROGRESS = re.compile(r"(progress_engine|listen_thread|ucs_async_thread_func)$")
+# Calls that need all ranks of their communicator to come.
+COLLECTIVES = re.compile(r"_(Barrier|All\w+|Reduce_scatter\w*|Comm_(split|dup|create|free)\w*|Cart_(create|sub)|"
+                         r"Win_(fence|create|allocate|free)\w*|"
+                         r"File_(open|close|sync|preallocate|set_\w+|seek_shared|\w+_(all|ordered)\w*))$")
+WAITS = re.compile(r"_Wait(all|any|some)?$")  # of a request, which may be that of a collective
+POLLS = re.compile(r"(Test|Testall|Testany|Testsome|Iprobe|Improbe|Request_get_status)$")
+# (Open MPI begins to receive, sends, and then waits for what it receives.)
+HALVES = (r"mca_pml_\w+_send$", "sends"), (r"ompi_request_default_wait$", "receives")
+SLEEPS = re.compile(r"(__GI_)?_*(clock_)?(nano|u)?sleep$")
+
+FEW = 200  # of more ranks all waits share the list, with the one that waits in it: so it takes time linear in them
+
+
+@dataclass
+class Rank:
+    """A rank as one reading shows it. `threads` are its other stacks, `fault` says what of it isn't understood."""
+
+    pid: str
+    number: int
+    host: str
+    frames: List[Match[str]]
+    threads: List[List[Match[str]]] = field(default_factory=list)
+    size: int = 0
+    fault: str = ""
+    is_bare: bool = False  # without lines of source
+
+    def __post_init__(self) -> None:
+        calls = [place for place, step in enumerate(self.frames) if CALL.match(step["function"])]
+        # The outermost call is the job's own; those inside of it are the library's.
+        self.call = CALL.match(self.frames[calls[-1]]["function"]) if calls else None
+        self.arguments = self.frames[calls[-1]]["arguments"] if calls else ""
+        self.own = [step for step in self.frames[calls[-1] + 1 if calls else 0:] if is_own(step)]
+
+    def process_id(self) -> str:
+        """Its process, on its machine where that stands there."""
+        return f"{self.pid} on {self.host}" if self.host else self.pid
+
+    def operation(self) -> str:
+        """The MPI call that it is in, or nothing."""
+        if any(FINALIZE.match(step["function"]) for step in self.frames):
+            return "MPI_Finalize"
+        if self.call is None:
+            return ""
+        name = f"MPI_{self.call['name'] or self.call['fortran'].capitalize()}"
+        return f"{name} {self.half()}".strip() if name.startswith("MPI_Sendrecv") else name
+
+    def half(self) -> str:
+        """Which half of a call that sends and receives it is in, where the library's own frames show it."""
+        return next((half for step in self.frames for form, half in HALVES if re.match(form, step["function"])), "")
+
+    def is_together(self) -> bool:
+        """Whether it is in a call that needs all of a communicator, or of the world."""
+        operation = self.operation()
+        return operation == "MPI_Finalize" or COLLECTIVES.search(operation) is not None
+
+    def name(self) -> str:
+        return f"rank-{self.number}"
+
+    def more(self) -> Dict[str, Any]:
+        """What tells its wait from the next, and the note."""
+        frames = [frame(step["function"], step["file"], step["line"]) for step in self.own]
+        operation = self.operation()
+        note = " ".join([operation, *(["in", frames[0]] if frames else [])]).strip()
+        return {"site": self.host or "node-1", "frames": frames, "operation": operation, "objects": self.values(),
+                "note": note, "is_collective": COLLECTIVES.search(operation) is not None,
+                "meeting": self.name() if WAITS.search(operation) else ""}
+
+    def between(self, place: int, polls: Rank) -> Tuple[Rank, Dict[str, Any]]:
+        """Returns it as it stands at the call by which another one polls in the function of a frame of its own: the
+        next call of that loop, or the one before."""
+        head = polls.frames[:polls.frames.index(polls.own[0])]
+        made = Rank(self.pid, self.number, self.host, [*head, *self.own[place:]])
+        more = made.more()
+        return made, {**more, "frames": [*polls.more()["frames"][:1], *more["frames"][1:]]}
+
+    def values(self) -> List[str]:
+        """The arguments of the job's own function that made the call. Then those of its callers, but for `main`, that
+        have a name of their own, and are no addresses."""
+        texts = [step["arguments"] for place, step in enumerate(self.own) if place == 0 or step["function"] != "main"]
+        rows = [NEXT.split(text) if text else [] for text in texts]
+        names = Counter(value.split("=")[0] for row in rows for value in row)
+        outer = [value for row in rows[1:] for value in row if names[value.split("=")[0]] == 1 and "=0x" not in value]
+        return [*(rows[0] if rows else []), *outer]
+
+
+class Ranks(Snapshot):
+    """The ranks at one time, by their numbers, and the names of all. `to_finalize` has a part for each that hasn't come
+    to MPI_Finalize, and `late` the names of those that aren't in the one collective call in which all others are, if
+    there is one."""
+
+    ranks: Dict[int, Rank]
+    names: List[str]
+    to_finalize: List[Part]
+    late: List[str]
+
+    def others(self, rank: Rank) -> Wakers:
+        """Those who may end a wait of a rank of which the state doesn't show who does."""
+        name = rank.name()
+        names = self.names if len(self.names) > FEW else [other for other in self.names if other != name]
+        return wakers("reaches", names)
+
+
+def other_thread(rank: Rank, snapshot: Ranks) -> str:
+    """Returns what shows that another thread of a rank may send for it, or nothing."""
+    if not all(stack and OUTERMOST.match(stack[-1]["function"]) for stack in rank.threads):
+        return "the stack of another thread of it isn't whole, so that one may send for it"
+    busy = [step for stack in rank.threads if not is_of_library(stack) for step in stack
+            if CALL.match(step["function"]) or is_own(step) and (step["file"] or rank.is_bare)]
+    return f"another thread of it is in {busy[0]['function']}, and may send for it" if busy else ""
+
+
+def is_of_library(stack: List[Match[str]]) -> bool:
+    """Whether a thread is one that the library began for itself, where the library was built with symbols."""
+    first = next((step["function"] for step in reversed(stack) if not BEGINS.match(step["function"])), "")
+    return PROGRESS.match(first) is not None
+
+
+class MpiParser(Parser):
+    """Ranks are read one after the other, each while the others go on. Nobody is outside of a job, so none rests."""
+
+    NAME, IDLE, MOMENT = "mpi", "ranks", APART
+    SNAPSHOT_CLASS = Ranks
+    BREAKS = {ONE_THREAD: Break(other_thread, True)}
+
+    def __init__(self) -> None:
+        self.polls: Dict[str, Rank] = {}  # by the function that calls it, who polls there
+        self.names: List[str] = []  # those of the last snapshot, whose list the next one shares
+
+    def record(self, states: List[State]) -> Sketch:
+        """Returns the sketch of stacks, or of the records of cmh_mpi.so, which know more."""
+        kinds = [state.text.startswith(MARK) for state in states]
+        if any(kinds) and not all(kinds):
+            stacks, records = (shown(states[kinds.index(kind)].path) for kind in (False, True))
+            raise Refusal(f"{stacks}: it has stacks, and {records} has records of cmh_mpi.so: give states of one kind")
+        return RecordsParser().record(states) if all(kinds) else super().record(states)
+
+    def read(self, state: State) -> List[Reading]:
+        text = state.text.replace("\r\n", "\n")
+        heads = list(HEADING.finditer(text))
+        if not any(HEAD.match(head[0]) for head in heads):
+            raise Refusal(f"{shown(state.path)}: no line is '# gdb -p PID .. OMPI_COMM_WORLD_RANK=N', or of "
+                          "cmh_mpi_reader.py")
+        ends = [head.start() for head in heads[1:]] + [len(text)]
+        return [reading_of(state.path, head, text[head.end():end]) for head, end in zip(heads, ends)]
+
+    def begin(self, readings: List[Reading]) -> None:
+        """Checks that each rank is one process, and says which ranks the job has that the state lacks."""
+        pids: Dict[int, str] = {}
+        ranks: List[Rank] = [rank for reading in readings for rank in reading.rows]
+        for reading in readings:
+            for rank in reading.rows:
+                before = pids.setdefault(rank.number, rank.process_id())
+                if before != rank.process_id():
+                    raise Refusal(f"{shown(reading.path)}: rank {rank.number} is process {rank.process_id()} here, and "
+                                  f"{before} before: states of one job are expected, and of one process for each rank")
+        self.polls = {rank.own[0]["function"]: rank for rank in reversed(ranks)
+                      if rank.own and POLLS.search(rank.operation())}
+        say_missing(readings, pids, [rank.size for rank in ranks])
+
+    def prepare(self, snapshot: Ranks) -> None:
+        snapshot.ranks = {rank.number: rank for rank in snapshot.rows()}
+        names = [rank.name() for rank in snapshot.ranks.values()]
+        snapshot.names = self.names = self.names if self.names == names else names
+        working = [rank.name() for rank in snapshot.ranks.values() if rank.operation() != "MPI_Finalize"]
+        snapshot.to_finalize = all_of(working, "comes", premise(FINALIZED))
+        places = {rank.name(): rank.more()["note"] for rank in snapshot.ranks.values() if rank.is_together()}
+        is_one = len({*places.values()}) == 1
+        snapshot.late = [name for name in snapshot.names if is_one and name not in places]
+
+    def finish(self, sketch: Sketch, snapshots: List[Any]) -> None:
+        doubt_reach(sketch)
+
+    def process_of(self, subject: Rank, snapshot: Ranks) -> Process:
+        rank, more = subject, subject.more()
+        if rank.fault or not rank.frames:
+            return garbled(rank.name(), rank.fault or "no stack could be read", site=more["site"])
+        step = next((step for step, one in enumerate(rank.own) if one["function"] in self.polls), None)
+        if step is not None and (not rank.operation() or POLLS.search(rank.operation())):
+            rank, more = rank.between(step, self.polls[rank.own[step]["function"]])
+        made = without_call(rank, more) if not more["operation"] else in_call(rank, snapshot, more)
+        made.because.append(premise(ONE_THREAD))
+        return made
+
+
+def in_call(rank: Rank, snapshot: Ranks, more: Dict[str, Any]) -> Process:
+    """Returns a rank that is in a call of MPI."""
+    name, operation = rank.name(), more["operation"]
+    if operation == "MPI_Finalize":
+        why = "all ranks of the state have come to MPI_Finalize"
+        parts = snapshot.to_finalize or any_of(unseen("unshown", why))
+        return blocked(name, parts, [premise(FINALIZED)], reason="" if snapshot.to_finalize else why, **more)
+    if more["is_collective"]:
+        why = "the state doesn't say which ranks its communicator has"
+        needed = wakers("comes" if len(snapshot.late) == 1 else "reaches", snapshot.late) if snapshot.late else \
+            snapshot.others(rank)
+        return blocked(name, any_of(needed, unseen("unshown", why)), [], reason=why, **more)
+    partner, why = partner_of(rank, snapshot, operation)
+    if why:
+        return blocked(name, any_of(*partner, unseen("unshown", why)), [], reason=why, **more)
+    return blocked(name, any_of(*partner), [SYSTEM], **more)
+
+
+def partner_of(rank: Rank, snapshot: Ranks, operation: str) -> Tuple[List[Wakers], str]:
+    """Returns who ends the call of a rank, as far as that is known, and why the state doesn't say it, if it doesn't."""
+    others = [snapshot.others(rank)]
+    if POLLS.search(operation):
+        return others, f"it polls with {operation}, and may do so in a loop"
+    key = PARTNERS.get(operation[4:])
+    partner = re.search(rf"\b{key}=(-?\d{{1,9}})\b", rank.arguments) if key else None
+    if partner is None:
+        return likely_partner(rank, snapshot) or others, f"the state doesn't show which rank its {operation} waits for"
+    if not WORLD.search(rank.arguments):
+        return others, "the state doesn't show that its communicator is the world's"
+    other = snapshot.ranks.get(int(partner[1]))
+    if other is None:
+        return others if partner[1].startswith("-") else [], f"no rank of the state is {partner[1]}, which may be any"
+    return [wakers("partner", [other.name()], SYSTEM)], ""
+
+
+def likely_partner(rank: Rank, snapshot: Ranks) -> List[Wakers]:
+    """Returns the rank that an argument of the job's own function is likely to mean, by its name, if it is one
+    alone."""
+    values = dict(value.split("=", 1) for value in rank.values() if "=" in value)
+    numbers = {value for key, value in values.items() if LIKELY.fullmatch(key) and NUMBER.fullmatch(value)}
+    others = [snapshot.ranks[number].name() for number in map(int, numbers)
+              if number in snapshot.ranks and number != rank.number]
+    return [wakers("guess", others)] if len(others) == len(numbers) == 1 else []
+
+
+def without_call(rank: Rank, more: Dict[str, Any]) -> Process:
+    """Returns a rank that is in no call of MPI."""
+    name, top = rank.name(), rank.frames[0]["function"]
+    inside = next((step["function"] for step in rank.frames if OF_LIBRARY.match(step["function"])), None)
+    if inside:
+        return unknown(name, f"it is in {inside}, and the state doesn't show what it waits for", **more)
+    if SLEEPS.match(top):
+        more["operation"] = "timed sleep"
+        return goes_on(name, "it sleeps", [premise(LIMIT)], Sign.SLEEPS, **more)
+    if rank.own and rank.frames[0] is rank.own[0]:
+        return goes_on(name, "it computes", [SYSTEM, premise(COMPUTES)], **more)
+    more["operation"] = top
+    return unknown(name, f"it is in {top}, and the state doesn't say whether it continues by itself", **more)
+
+
+def is_own(step: Match[str]) -> bool:
+    """Whether a frame is of the job, and not of a library: it has a file that isn't that of the C library, or none."""
+    function = step["function"]
+    if step["library"] or function.startswith(("??", "_start", "__libc_start")) or OF_LIBRARY.match(function):
+        return False
+    return not (step["file"] or "").startswith(("../", "./nptl", "./csu"))
+
+
+def reading_of(path: str, heading: Match[str], text: str) -> Reading:
+    """Returns the reading of one rank. Of a heading without a rank nothing is known but that there is one more."""
+    head = HEAD.match(heading[0])
+    if head is None:
+        return Reading(path, heading[0], [], f"a stack has no rank in its heading: {shown(heading[0])[:80]}", PARTS)
+    is_bare = heading[0].startswith("# eu-stack")
+    stacks, fault = stacks_of(like_gdb(text, head["pid"]) if is_bare else text)
+    fault = fault or lost_of(text)
+    size = SIZE.search(heading[0])
+    number, host = int(head["rank"]), head["host"] or ""
+    return Reading(path, number, [Rank(head["pid"], number, host, stacks[0] if stacks else [], stacks[1:],
+                                       int(size[1]) if size else 0, fault, is_bare)])
+
+
+def like_gdb(text: str, pid: str) -> str:
+    """Returns what eu-stack prints as gdb would print it. The job's own functions are those of its executable file."""
+
+    def frame_line(step: Match[str]) -> str:
+        of_library = f" from {step[3]}" if ".so" in step[3] else ""
+        return f"{step[1]} in {(step[2] or '??').split('@')[0]} (){of_library}"
+
+    threads = itertools.count(2)
+    text = BARE_THREAD.sub(lambda head: f"Thread {1 if head[1] == pid else next(threads)} (LWP {head[1]}):", text)
+    return BARE.sub(frame_line, text)
+
+
+def lost_of(text: str) -> str:
+    """Returns what shows that lines of a rank are missing, or nothing."""
+    numbers = sorted(int(head[1]) for head in THREAD.finditer(text))
+    if numbers and STEP.search(THREAD.split(text)[0]):
+        return "frames stand above the first line 'Thread ..': the first line of a thread is missing"
+    if numbers != [*range(1, len(numbers) + 1)]:
+        return "it has more threads than are shown"
+    return ""
+
+
+def stacks_of(text: str) -> Tuple[List[List[Match[str]]], str]:
+    """Returns the frames of the first thread and then of each other one, and what isn't understood of them."""
+    parts = THREAD.split(text)
+    texts = dict(zip(parts[1::2], parts[2::2]))
+    first = texts.pop("1", None)
+    texts_in_order = [first, *texts.values()] if first is not None else list(texts.values()) or [parts[0]]
+    stacks: List[List[Match[str]]] = []
+    fault = ""
+    for thread in texts_in_order:
+        one = ENTRY.sub(r"\1=", re.sub(r"\n {4,}(?=\S)", " ", thread))
+        frames = list(FRAME.finditer(one))
+        if [int(step["at"]) for step in frames] != list(range(len(STEP.findall(one)))):
+            fault = "its frames don't run from #0 up, each understood: some are missing, or of another rank"
+        stacks.append(frames)
+    return stacks, fault

@@ -1,0 +1,271 @@
+"""Python: what the module cmh_state prints on a signal, or other tools: py-spy, gdb, faulthandler.
+
+Threads, asyncio tasks and OS processes are all processes of the sketch, and so is what event loops and signals will
+call. Named are who ends a join of threads, tasks and children that are in the state, has a lock that shows its owner or
+that a block has taken, does the work that a pool has begun or keeps, and has the thread of a blocked event loop. At any
+other object of the runtime all else of its process may end a wait, and pipes and sockets are for facts. The other tools
+show where each thread stands.
+
+A state has two looks at a process. A thread that slept at both and hasn't stopped anew between them was at one wait
+from the first to the second, and so was a task that awaited one future: these were all at their waits at one moment.
+Several OS processes are read one after the other, and need two states each.
+"""
+from __future__ import annotations
+
+import re
+from dataclasses import dataclass
+from typing import Any, Dict, Iterator, List, Optional, Set
+
+from ..model import Part, Sign, unseen
+from ..sketch import Process, Sketch
+from ..snapshots import APART, GROWN, ONCE, PARTS, WHOLE, Reading
+from . import State
+from .base import Parser, Snapshot
+from .python_connections import connections_of
+from .python_frames import is_of_frames, looks_of_frames
+from .python_job import Job, machine_of
+from .python_names import NEED_ALL, Names, Standing, lasting_objects, operation_of, own_frames
+from .python_tasks import Waits
+from .python_text import Frame, Row, is_number, looks_of
+from .python_waits import Wait, is_job, unsure
+
+PLACES, HANDED = ("thread", "task"), ("asked", "caller")  # kinds of subjects: that stand somewhere, or are to begin
+NOT_UNDERSTOOD = (AttributeError, KeyError, TypeError, ValueError, IndexError, RecursionError)
+STATES = "the states"  # a path for all, as they say themselves when they were taken
+# Operations of one that waits for what comes next, and of one that waits for a connection.
+RECEIVES = re.compile(r"\w*Queue\.get|(\w*Connection|\w*[Ss]ocket|SSL\w*|StreamReader)\.(recv|read)\w*"
+                      r"|connection\.wait")
+ACCEPTS = re.compile(r"(.*[.:])?_?(accept\w*|serve_forever)")
+MODULE = ".<module>"
+
+
+@dataclass
+class Subject:
+    """A thread, a task, a coroutine that a loop has been handed, what loops will call, or what a signal brings, with
+    the look that it is in."""
+
+    waits: Waits
+    what: str  # "thread", "task", "asked", "caller" or "signal"
+    key: Any
+    row: Any
+
+    @property
+    def job(self) -> Job:
+        return self.waits.job
+
+    @property
+    def name(self) -> Any:
+        return self.job.name_of(self.key)
+
+    def loop(self) -> Optional[Dict[str, Any]]:
+        """The event loop whose thread it needs, or None."""
+        if self.what == "asked":
+            return self.job.look.loops.get(self.row["loop"])
+        if self.what == "caller":
+            return self.job.look.loops.get(self.row.loops[0])
+        return self.job.loop_of(self.row) if self.what == "task" else None
+
+    def thread(self) -> Optional[Row]:
+        """The row of the thread that it needs, or None."""
+        row: Optional[Row] = self.row if self.what == "thread" else self.job.thread_of(self.loop())
+        return row
+
+    def frames(self) -> List[Frame]:
+        return self.waits.frames_of_task(self.row) if self.what == "task" else list(self.row.frames)
+
+    def kernel_thread(self) -> str:
+        """Which thread of the kernel a thread is, as PID/TID, or nothing."""
+        native = self.row.more.get("native") if self.what == "thread" else None
+        return f"{self.job.look.pid}/{native}" if native else ""
+
+
+class Jobs(Snapshot):
+    """The looks of one time, each with the waits in it."""
+
+    jobs: List[Waits]
+
+
+class PythonParser(Parser):
+    """Each OS process by itself is read at one moment, several one after the other."""
+
+    NAME, IDLE, MOMENT = "python", "threads", APART
+    SNAPSHOT_CLASS = Jobs
+
+    def __init__(self) -> None:
+        self.dumps = 0
+        self.names = Names([])
+        self.is_alone = True
+        self.signals: Dict[Any, Set[Any]] = {}
+
+    def read(self, state: State) -> List[Reading]:
+        looks = looks_of_frames(state.path, state.text) if is_of_frames(state.text) else looks_of(state)
+        for look in looks:
+            if look.by_faulthandler:  # it shows no process id, so each of its dumps counts as a process
+                self.dumps += 1
+                look.pid, look.process = self.dumps, f"dump-{self.dumps}"
+        return [Reading(state.path, (look.by_faulthandler, look.place()), [look],
+                        extent=WHOLE if look.is_whole else PARTS, machine=look.machine(), time=look.time())
+                for look in looks]
+
+    def begin(self, readings: List[Reading]) -> None:
+        """Names all that there is, puts the readings in the order of time where they print it, and says what is
+        missing."""
+        looks = [reading.rows[0] for reading in readings]
+        self.names = Names(looks)
+        places = {look.place() for look in looks}
+        self.is_alone = len(places) == 1
+        for look in looks:
+            self.signals.setdefault(look.place(), set()).add(look.head.get("signal"))
+        for reading, look in zip(readings, looks):
+            reading.site = self.names.processes[look.place()]
+            lost = [child for child in look.children if look.place(child) not in places]
+            if not look.is_whole:
+                reading.missing = "its state isn't whole, so processes may be missing"
+            elif lost:
+                reading.missing = f"it has begun process {lost[0]}, which isn't in the states"
+        if all(is_number(look.head.get("began")) for look in looks):
+            readings.sort(key=lambda reading: float(reading.rows[0].head["began"]))
+            for reading in readings:
+                reading.path = STATES
+
+    def prepare(self, snapshot: Jobs) -> None:
+        looks = snapshot.rows()
+        machine = machine_of(looks, self.names)
+        snapshot.jobs = [Waits(Job(look, self.names, machine)) for look in looks]
+
+    def processes(self, snapshot: Jobs) -> Iterator[Subject]:
+        for waits in snapshot.jobs:
+            look = waits.look
+            kinds: Dict[str, Dict[Any, Any]] = {"thread": look.threads, "task": look.tasks, "asked": look.asked,
+                                                "caller": look.callers, "signal": waits.job.coming}
+            yield from (Subject(waits, what, key, row) for what, rows in kinds.items() for key, row in rows.items())
+
+    def process_of(self, subject: Subject, snapshot: Jobs) -> Process:
+        """Returns the process of a row. A row that is odd makes it unknown, whatever is odd in it."""
+        try:
+            process = place_of(subject) if subject.what in PLACES else coming_of(subject)
+        except NOT_UNDERSTOOD:
+            process = process_at(subject, [], unsure("its row in the state isn't understood"))
+        if subject.what in PLACES and subject.row.fault:
+            process.become_unknown(subject.row.fault)
+            process.is_garbled = True
+        add_enders(process, subject)
+        if subject.what not in PLACES and process.sign is not Sign.BLOCKED:
+            process.moment = ONCE  # (it waits for what comes from outside, however often that comes)
+        elif process.count is None:
+            self.count(process, subject)
+        elif self.is_alone:
+            process.moment = ONCE
+        return process
+
+    def count(self, process: Process, subject: Subject) -> None:
+        """Gives a process the count of its waits, and says of it how it was read. The main thread is woken by each
+        signal that asks for states, so its count holds only for the states of one signal."""
+        thread = subject.thread()
+        is_held = subject.what in HANDED or subject.what == "task" and \
+            subject.job.holder(subject.loop() or {}) is not None
+        counts = [subject.row.more["wait"]] if subject.what == "task" else []
+        has_grown = False
+        if subject.what == "thread" or is_held:
+            counts.append(stops_of(thread, len(self.signals[subject.job.look.place()]) == 1))
+            has_grown = thread is not None and has_stopped(thread)
+        process.count = ", ".join(map(str, counts)) if counts and None not in counts else None
+        if has_grown:
+            doubt_place(process)
+        elif self.is_alone and is_vouched(thread, is_held, subject):
+            process.moment = ONCE
+
+    def finish(self, sketch: Sketch, snapshots: List[Jobs]) -> None:
+        looks = [look for snapshot in snapshots for look in snapshot.rows()]
+        sketch.readers = list(dict.fromkeys(filter(None, (look.reader() for look in looks))))
+        sketch.connections = connections_of(looks, self.names)
+        sketch.warnings += dict.fromkeys(line for look in looks for line in look.warnings)
+
+
+def stops_of(thread: Optional[Row], is_one_signal: bool) -> Optional[int]:
+    """How often a thread has stopped to wait, or None if that isn't known, or isn't the same for the same wait."""
+    more = thread.more if thread is not None else {}
+    stops = more.get("stops")
+    holds = more.get("main") is not True or is_one_signal and "new_stops" in more
+    return stops if isinstance(stops, int) and holds else None
+
+
+def has_stopped(thread: Row) -> bool:
+    """Whether a thread has stopped anew between the two looks of a state, or didn't sleep at each."""
+    new, asleep = thread.more.get("new_stops"), thread.more.get("asleep")
+    return isinstance(new, int) and (new != 0 or asleep is not True)
+
+
+def doubt_place(process: Process) -> None:
+    """Says of one that waits that its looks may show two waits: nobody knows what it waits for, nor does a fact say it.
+    """
+    if process.sign in (Sign.BLOCKED, Sign.RESTS):
+        process.sign, process.reason, process.is_garbled = Sign.UNKNOWN, GROWN, True
+        process.parts = [(*part, unseen("uncounted", GROWN)) for part in process.parts]
+
+
+def is_vouched(thread: Optional[Row], is_held: bool, subject: Subject) -> bool:
+    """Whether the two looks of a state show one wait. A task awaits the same future at both, else it has moved."""
+    if subject.what == "task" and not is_held:
+        return True
+    return thread is not None and thread.more.get("new_stops") == 0 and thread.more.get("asleep") is True
+
+
+def add_enders(process: Process, subject: Subject) -> None:
+    """Says of one that waits who may end its process, or the wait of the main thread by a signal."""
+    more: Part = subject.job.process_enders
+    signals = subject.job.interrupting() if subject.job.is_main(subject.thread()) else ()
+    if more or signals:
+        process.parts = [(*(some for some in part if some.how != "handles" or not signals), *more, *signals)
+                         for part in process.parts]
+
+
+def place_of(subject: Subject) -> Process:
+    """Returns the process of a thread or a task."""
+    frames = subject.frames()
+    wait = subject.waits.of_task(subject.row) if subject.what == "task" else subject.waits.of_thread(subject.row)
+    return process_at(subject, frames, wait, Standing(subject.job, subject.row, frames))
+
+
+def process_at(subject: Subject, frames: List[Frame], wait: Wait, standing: Optional[Standing] = None) -> Process:
+    """Returns the process of a wait, with what tells it from the next."""
+    operation, objects = operation_of(standing) if standing else ("", [])
+    is_own = is_in_own_loop(subject, frames) and not (wait.sign is Sign.SLEEPS and is_job(frames))
+    sign = sign_at(wait, operation, is_own)
+    if wait.sign is Sign.SLEEPS:
+        operation, objects = f"timed {operation or 'wait'}", lasting_objects(standing) if standing else []
+    own = own_frames(frames)
+    note = f"{operation} in {own[0]}" if operation and own else own[0] if own else operation
+    return Process(subject.name, sign, wait.parts, wait.reason, list(wait.because), subject.job.site, note, own,
+                   operation, objects, wait.count, subject.kernel_thread(), is_collective=operation in NEED_ALL)
+
+
+def sign_at(wait: Wait, operation: str, is_own: bool) -> Sign:
+    """Returns the sign of one at its place: one that waits for what comes next in its own loop has nothing to do."""
+    if wait.sign is Sign.SLEEPS:
+        return Sign.TICKS if is_own or ACCEPTS.fullmatch(operation) else Sign.SLEEPS
+    if wait.sign is Sign.BLOCKED and (is_own and RECEIVES.fullmatch(operation) or ACCEPTS.fullmatch(operation)):
+        return Sign.RESTS
+    return wait.sign
+
+
+def is_in_own_loop(subject: Subject, frames: List[Frame]) -> bool:
+    """Whether one waits in the function that it was started with, and comes back to that wait. Of a main thread that is
+    the function that its program is run for. A function without a name only calls another one."""
+    if subject.what not in PLACES or subject.row.more.get("again") is False:
+        return False
+    named = [line for line in own_frames(frames) if "<lambda>" not in line.partition(" (")[0]]
+    return len(named) <= 1 or len(named) == 2 and MODULE in named[-1]
+
+
+def coming_of(subject: Subject) -> Process:
+    """Returns the process of what isn't begun as yet: what loops and signals bring."""
+    if subject.what == "asked":
+        wait = subject.waits.of_asked(subject.row)
+        return Process(subject.name, wait.sign, wait.parts, wait.reason, wait.because, subject.job.site,
+                       "handed to the event loop, and not begun")
+    is_signal = subject.what == "signal"
+    wait = subject.waits.of_signal(subject.key) if is_signal else subject.waits.of_caller(subject.key, subject.row)
+    kind, _, called = subject.key.partition(" ")
+    return Process(subject.name, wait.sign, wait.parts, wait.reason, wait.because, subject.job.site, subject.key,
+                   [kind], called)

@@ -1,0 +1,219 @@
+"""Where the threads of a Python process stand, as other tools print it: py-spy, or gdb with its command py-bt, each by
+itself or as cmh_python_reader.py keeps it, with the kernel's counts. A look that is made of it shows places alone.
+"""
+from __future__ import annotations
+
+import json
+import os
+import re
+from typing import Any, Dict, Iterator, List, Optional, Tuple
+
+from ..files import Refusal, shown
+from .base import fits
+from .python_text import PACKAGE, STANDARD, Frame, Look, Row, kind_of
+
+MARK = "cmh-python "
+VERSION = 1
+HEX = re.compile(r"0x[0-9a-f]{1,16}")
+HEAD = {"version": int, "pid": int, "by": str, "name": str, "seconds": (int, float), "host": str, "space": str,
+        "began": float, "ended": float,
+        "threads": {str: {"state": str, "stops": int, "spent": int, "call?": str, "args?": [HEX] * 6}}}
+SPY = re.compile(r"^Process (\d+): ", re.M)
+SPY_THREAD = re.compile(r'^Thread (\S+) \((active\+gil|active|idle)\)(?:: "(.*)")?$')
+SPY_FRAME = re.compile(r"^    (\S.*) \(([^()]*?)(?::(\d+))?\)$")
+SPY_JSON = {"frames": [{"name": str, "filename": str, "line": int}], "os_thread_id?": (int, type(None)),
+            "thread_name?": (str, type(None)), "thread_id": int}
+GDB_THREAD = re.compile(r'^Thread \d+ \(Thread 0x[0-9a-f]+ \(LWP (\d+)\)(?: ".*")?\):$')
+GDB_FRAME = re.compile(r'^  File "(.*)", line (\d+), in (.*)$')
+GDB_LOST = re.compile(r"^  \(unable to read python frame information\)|^  File .* in .*frame information optimized out")
+GDB_CALL = re.compile(r"^  <built-in method (\w+) of (?:module|(.*?)) object at remote (0x[0-9a-f]+)>$")
+LIBRARY = re.compile(r"threading\.(?:Thread\.)?(_bootstrap|_bootstrap_inner|run)$")  # frames that begin a thread
+# The calls of the kernel that end by themselves where an argument says so, by its place, and those whose limit is a
+# number, and none is below 0.
+LIMITS = {"poll": 2, "ppoll": 2, "select": 4, "pselect6": 4, "epoll_wait": 3, "epoll_pwait": 3, "epoll_pwait2": 3,
+          "futex": 3, "rt_sigtimedwait": 2, "semtimedop": 3}
+NUMBERS, FOREVER = ("poll", "epoll_wait", "epoll_pwait"), 0x7FFFFFFF
+SLEEPS = ("nanosleep", "clock_nanosleep")
+# What py-spy shortens: files of the library, by their path below it.
+SHORT = re.compile(r"(threading|queue|selectors|socket|socketserver|ssl|subprocess|runpy|sched|contextlib|functools"
+                   r"|(asyncio|concurrent|multiprocessing|logging|importlib|http|urllib|xmlrpc)/.*)\.py$")
+
+
+def is_of_frames(text: str) -> bool:
+    return text.startswith(MARK) or f"\n{MARK}" in text or SPY.search(text) is not None
+
+
+def looks_of_frames(path: str, text: str) -> List[Look]:
+    """Returns the looks of a text in their order."""
+    if MARK in text:
+        return [look_of_reader(path, at, head, body) for at, head, body in parts_of(path, text)]
+    starts = [it.start() for it in SPY.finditer(text)]
+    looks = []
+    for start, end in zip(starts, [*starts[1:], len(text)]):
+        pid = int(text[start:end].split(" ", 2)[1].rstrip(":"))
+        looks.append(Look(path, f"process-{pid}", pid, shown_by="py-spy"))
+        add_threads(looks[-1], spy_rows(text[start:end].split("\n")), {})
+    return looks
+
+
+def parts_of(path: str, text: str) -> Iterator[Tuple[int, Dict[str, Any], List[str]]]:
+    """Yields each state of cmh_python_reader.py: its line, its head and what the other tool printed. Raises Refusal if
+    one isn't whole."""
+    head: Optional[Dict[str, Any]] = None
+    start = 0
+    body: List[str] = []
+    for at, line in enumerate(text.replace("\r\n", "\n").split("\n"), 1):
+        row = row_of(line) if line.startswith(MARK) else None
+        if row is None and line.startswith(MARK):
+            raise Refusal(f"{shown(path)}:{at}: this line of cmh_python_reader.py isn't understood")
+        if row is None:
+            body.append(line)
+        elif head is not None and row == {"end": head["pid"]}:
+            yield start, head, body
+            head = None
+        elif head is None and fits(row, HEAD) and row["version"] == VERSION:
+            start, head, body = at, row, []
+        else:
+            raise Refusal(f"{shown(path)}:{at}: here begins a state of another version of cmh_python_reader.py, or the "
+                          "one before it is cut off")
+    if head is not None:
+        raise Refusal(f"{shown(path)}:{start}: this state is cut off: its last line is missing")
+
+
+def row_of(line: str) -> Optional[Dict[str, Any]]:
+    try:
+        row = json.loads(line[len(MARK):])
+    except (ValueError, RecursionError):
+        return None
+    return row if isinstance(row, dict) else None
+
+
+def look_of_reader(path: str, at: int, head: Dict[str, Any], body: List[str]) -> Look:
+    known = {**head, "alarm": None}
+    look = Look(f"{path}:{at}", head["name"] or f"process-{head['pid']}", head["pid"], head["seconds"], known,
+                shown_by=head["by"])
+    rows = json_rows(body) if body[:1] and body[0].startswith("[") else []
+    rows = rows or list(spy_rows(body) if head["by"] == "py-spy" else gdb_rows(body))
+    if not any(frames for _, _, frames, _ in rows):
+        said = next((line.strip() for line in reversed(body) if line.strip()), "nothing")
+        raise Refusal(f"{shown(path)}:{at}: {shown(head['by'])} shows no frame of Python of process {head['pid']}: "
+                      f"{shown(said)[:200]}")
+    add_threads(look, rows, head["threads"])
+    return look
+
+
+Thread = Tuple[Any, str, List[Frame], Optional[Dict[str, Any]]]  # its number, its name, its frames, its call
+
+
+def add_threads(look: Look, rows: Any, counts: Dict[str, Dict[str, Any]]) -> None:
+    """Adds the threads of a process. One whose frames couldn't be read has none."""
+    for tid, name, frames, call in rows:
+        count = counts.get(str(tid), {})
+        more: Dict[str, Any] = {"native": tid if isinstance(tid, int) else None, "main": tid == look.pid, **count}
+        more.update({"new_stops": None} if count else {})
+        if frames and call is not None:
+            frames[0].call = call
+        row = look.threads[tid] = Row(tid, name or f"thread-{tid}", frames, more, fault_of(frames))
+        if row.fault:
+            look.is_whole = False
+            look.warnings.append(f"{shown(look.where)}: thread {shown(row.name)} of process {look.pid}: {row.fault}")
+
+
+def fault_of(frames: List[Frame]) -> str:
+    """Returns what shows that the first line of a thread is missing, so that its frames stand below another's."""
+    if any(map(is_outermost, frames, frames[1:])):
+        return "frames of another thread stand below its own, so the first line of that one is missing"
+    return ""
+
+
+def is_outermost(it: Frame, outer: Frame) -> bool:
+    """Whether the frame that stands below one can't have called it."""
+    found = LIBRARY.match(it.at)
+    if not outer.file.endswith(".py"):  # (which couldn't be read, or isn't Python's, as py-spy --native shows it)
+        return False
+    if found and found[1] != "run":
+        return found[1] == "_bootstrap" or f"{outer.at}_inner" != it.at
+    is_main = it.at.endswith(".<module>") and it.file.endswith(".py")
+    return outer.kind == "own" and (is_main or found is not None and not outer.at.endswith(".run"))
+
+
+def frame_of(name: str, file: str, line: str) -> Frame:
+    """A frame, with the module that its file stands for."""
+    is_short = SHORT.match(file) is not None
+    found = STANDARD.search(file) or PACKAGE.search(file)
+    inner = file if is_short else (found[1] or "") if found else os.path.basename(file)
+    module = re.sub(r"\.py$|/__init__\.py$", "", inner).replace("/", ".")
+    return Frame(f"{module}.{name or '?'}", file, int(line or 0), {}, "standard" if is_short else kind_of(file))
+
+
+# What py-spy prints
+
+
+def json_rows(body: List[str]) -> List[Thread]:
+    try:
+        rows = json.loads("\n".join(body))
+    except (ValueError, RecursionError):
+        return []
+    return [(row.get("os_thread_id") or hex(row["thread_id"]), row.get("thread_name") or "",
+             [frame_of(it["name"], it["filename"], str(it["line"])) for it in row["frames"]], None)
+            for row in rows if fits_spy(row)]
+
+
+def fits_spy(row: Any) -> bool:
+    """Whether a row has what is read of it; it may have more."""
+    if not isinstance(row, dict) or not isinstance(row.get("frames"), list):
+        return False
+    frames = [{key: it.get(key) for key in ("name", "filename", "line")} for it in row["frames"]
+              if isinstance(it, dict)]
+    return len(frames) == len(row["frames"]) and fits({**row, "frames": frames}, SPY_JSON)
+
+
+def spy_rows(lines: List[str]) -> Iterator[Thread]:
+    row: Optional[Thread] = None
+    for line in lines:
+        head, step = SPY_THREAD.match(line.rstrip()), SPY_FRAME.match(line.rstrip())
+        if head:
+            if row is not None:
+                yield row
+            row = (int(head[1]) if head[1].isdigit() else head[1], head[3] or "", [], None)
+        elif step and row is not None:
+            row[2].append(frame_of(step[1], step[2], step[3]))
+    if row is not None:
+        yield row
+
+
+# What gdb prints
+
+
+def gdb_rows(lines: List[str]) -> Iterator[Thread]:
+    """Threads that run no Python have no frames of it, and are left out."""
+    tid = 0
+    frames: List[Frame] = []
+    call: Optional[Dict[str, Any]] = None
+    for line in [*lines, "Thread 0 (Thread 0x0 (LWP 0)):"]:
+        head, step, built_in = GDB_THREAD.match(line), GDB_FRAME.match(line), GDB_CALL.match(line)
+        if head:
+            if frames:
+                yield tid, "", frames, call
+            tid, frames, call = int(head[1]), [], None
+        elif GDB_LOST.match(line):
+            frames.append(frame_of("?", "?", "0"))
+        elif step:
+            frames.append(frame_of(step[3], step[1], step[2]))
+        elif built_in and not frames and built_in[2]:
+            kind = built_in[2].split(".")[-1]
+            call = {"words": f"{kind}.{built_in[1]}", "how": "call", "arguments": None,
+                    "on": {"type": kind, "id": built_in[3]}}
+
+
+# What the kernel shows
+
+
+def is_limited(row: Row) -> bool:
+    """Whether the call of the kernel that a thread is in ends by itself."""
+    call, words = row.more.get("call"), row.more.get("args", ())
+    place = LIMITS.get(call) if isinstance(call, str) else None
+    if place is None:
+        return call in SLEEPS
+    limit = int(words[place], 16)
+    return limit & 0xFFFFFFFF < FOREVER if call in NUMBERS else limit != 0

@@ -1,0 +1,404 @@
+"""The states of Python programs as text: what cmh_state prints, or what faulthandler does, read into looks.
+
+A look is what one state has of one OS process: its threads, its tasks, its event loops. Lines that stand between those
+of a state, such as a log's, are left out.
+"""
+from __future__ import annotations
+
+import json
+import os
+import re
+from dataclasses import dataclass, field
+from functools import lru_cache
+from typing import Any, Dict, List, NamedTuple, Optional, Set, Tuple
+
+from ..files import Refusal, shown
+from . import State
+from .base import fits, misfits
+
+MARK = "cmh-state "
+VERSION = 1
+NUMBER, TEXT, FLAG = (int, type(None)), (str, type(None)), (bool, type(None))
+ERROR = {"error": str}  # what stands in the place of a value that an odd object kept from being read
+HEAD = {"version": int, "process": str, "pid": int, "seconds": (int, float), "unseen?": [str], "signal?": NUMBER,
+        "alarm?": (int, float), "on_alarm?": TEXT, "on_child?": TEXT, "handlers?": {str: str}, "foreign_timer?": FLAG,
+        "others?": NUMBER, "queues?": NUMBER, "parent?": int, "host?": str}
+FRAME = ({"in": str, "file": str, "line": NUMBER, "has?": {str: object}}, ERROR)
+# What the rows of threads and tasks have alike: `holds`, `ends`, `cancels` and `releases` may be missing in older ones.
+PLACE = {"of": int, "name": str, "moved": bool, "frames": [FRAME], "holds?": (type(None), [str], ERROR),
+         "ends?": ([str], ERROR), "cancels?": (bool, ERROR), "releases?": bool, "taken?": [str], "again?": bool}
+# The form of each row of a state, by the key that tells it from others.
+ROWS: Dict[str, Dict[str, Any]] = {
+    "thread": {**PLACE, "thread": int, "native": NUMBER, "daemon": bool, "main": bool, "stops": NUMBER, "spent": NUMBER,
+               "new_stops?": NUMBER, "asleep?": FLAG, "loop": TEXT, "call": (type(None), {str: object})},
+    "task": {**PLACE, "task": str, "number": int, "loop": str, "wait": int, "waits": object, "limit": bool,
+             "sets": [str], "parent?": str, "completes?": object},
+    "runs": {"of": int, "runs": str, "thread": NUMBER, "current": TEXT, "callers?": ({str: bool}, ERROR),
+             "callbacks?": [str], "signals?": [str]},
+    "asked": {"of": int, "asked": str, "loop": str, "name": str},
+    "child": {"of": int, "child": NUMBER, "name": str, "ended": FLAG},
+    "semaphore": {"of": int, "semaphore": TEXT, "count": int},
+    "queue": {"of": int, "queue": TEXT}}
+# Keys that not all rows have, and those that both kinds have.
+VARY, BOTH = {"at", "again", "completes", "parent"}, {key.rstrip("?") for key in PLACE}
+OLDER = ("wait", "quiet", "sleeper")  # keys of rows that older states have, and that nobody reads any more
+STANDARD = re.compile(r"/lib(?:64)?/python3(?:\.\d+)?/(?!(?:site|dist)-packages/)(.*)$|^<frozen (.*)>$")
+PACKAGE = re.compile(r"/(?:site|dist)-packages/(.*)$")
+# Frames of the library that begin the work of a thread, a task or a worker.
+BEGINS = re.compile(r"threading\.(Thread\.)?(_bootstrap|_bootstrap_inner|run)$|asyncio\.events\.Handle\._run$"
+                    r"|concurrent\.futures\.(thread\.(_WorkItem\.run|_worker)|process\._process_\w+)$"
+                    r"|multiprocessing\.queues\.(Queue\.)?_feed$"
+                    r"|multiprocessing\.(pool\.(worker|mapstar)|process\.BaseProcess\.(run|_bootstrap))$")
+FORKED = "multiprocessing.process.BaseProcess._bootstrap"  # what stands outside of it is what the parent did
+FAULT_HEAD = re.compile(r"(?:Current thread|Thread) (0x[0-9a-f]+)(?: \[(.*)\])? \(most recent call first\):$")
+FAULT_FRAME = re.compile(r'  File "(.*)", line (\d+|\?\?\?)(?: in (.*))?$')
+
+
+@dataclass
+class Frame:
+    """A frame: `at` is MODULE.FUNCTION, `has` what the state knows of its variables, `kind` whose code it is."""
+
+    at: str
+    file: str
+    line: int
+    has: Dict[str, Any]
+    kind: str  # "own", "package" or "standard"
+    call: Optional[Dict[str, Any]] = None
+
+
+@dataclass
+class Row:
+    """A thread or a task. `key` tells it from the others of its process, `more` is the row of the state, and `fault`
+    says what of its text shows that it isn't one thread's."""
+
+    key: Any
+    name: str
+    frames: List[Frame]
+    more: Dict[str, Any]
+    fault: str = ""
+
+
+@dataclass
+class Caller:
+    """What event loops will call for a timer, a socket or a signal, as 'server Desk.answer': the keys of these loops,
+    and of those whose tasks it may cancel."""
+
+    loops: List[Any] = field(default_factory=list)
+    cancelling: List[Any] = field(default_factory=list)
+
+
+class Coming(NamedTuple):
+    """What a signal brings to a process: within some seconds or whenever it is sent, and whether it ends the process,
+    or calls a handler of the program's own."""
+
+    is_timed: bool
+    is_end: bool
+    why: str
+
+
+@dataclass
+class Look:
+    """A state of one OS process. `seconds` is the time between the two looks that cmh_state takes, `head` its first
+    row, `children` the OS processes that it has begun and not seen end. `semaphores` has the locks of multiprocessing
+    that it has taken, and `queues` the queues of it that it has. `pools` and `holders` keep what is looked up in it
+    again and again: who does the work of each future, and who has each task or child in a variable."""
+
+    where: str
+    process: str
+    pid: int
+    seconds: float = 0
+    head: Dict[str, Any] = field(default_factory=dict)
+    children: List[Any] = field(default_factory=list)
+    threads: Dict[Any, Row] = field(default_factory=dict)
+    tasks: Dict[Any, Row] = field(default_factory=dict)
+    loops: Dict[Any, Dict[str, Any]] = field(default_factory=dict)
+    asked: Dict[Any, Dict[str, Any]] = field(default_factory=dict)
+    callers: Dict[str, Caller] = field(default_factory=dict)
+    semaphores: Set[str] = field(default_factory=set)
+    queues: Set[str] = field(default_factory=set)
+    is_whole: bool = True
+    by_faulthandler: bool = False
+    shown_by: str = ""  # another tool, which shows places alone
+    warnings: List[str] = field(default_factory=list)
+    pools: Optional[Tuple[Dict[Any, Any], Dict[Any, List[Any]]]] = None
+    holders: Optional[Dict[Any, List[Any]]] = None
+
+    def rows(self) -> List[Row]:
+        """Returns its threads and tasks."""
+        return [*self.threads.values(), *self.tasks.values()]
+
+    def signals(self) -> Dict[str, Coming]:
+        """Returns what signals bring that are under way, or have a handler of the program's own."""
+        left, action = self.head.get("alarm") or 0, self.head.get("on_alarm")
+        handlers: Dict[str, str] = {**self.head.get("handlers", {})}
+        coming = {}
+        if left > 0 and action == "default":
+            coming["alarm"] = Coming(True, True, f"ends its process within {left:.0f} s")
+        elif left > 0 and action is not None:
+            handlers.pop("SIGALRM", None)
+            coming[f"alarm {action}"] = Coming(True, False, f"is called within {left:.0f} s")
+        if self.head.get("foreign_timer") is True:
+            coming["foreign timer"] = Coming(True, True, "blocks all signals, and may end its process later")
+        if self.head.get("on_child") not in (None, "default") and self.children:
+            handlers.setdefault("SIGCHLD", str(self.head["on_child"]))
+        coming.update({f"handler {name} {function}": Coming(False, False, "waits for a signal")
+                       for name, function in handlers.items()})
+        return coming
+
+    def place(self, pid: Any = None) -> Tuple[Any, Any]:
+        """What tells its OS process, or another one of its machine, from those of all machines."""
+        return str(self.head.get("host")), self.pid if pid is None else pid
+
+    def machine(self) -> str:
+        """The machine and the container in which its numbers stand, or nothing."""
+        space = self.head.get("space")
+        return space if isinstance(space, str) else ""
+
+    def reader(self) -> str:
+        """The thread that printed it, as PID/TID, or nothing."""
+        native = self.head.get("reader")
+        return f"{self.pid}/{native}" if native and isinstance(native, int) else ""
+
+    def time(self) -> Optional[Tuple[float, float]]:
+        """When the state began and ended, or None."""
+        began: Any = self.head.get("began")
+        ended: Any = self.head.get("ended")
+        return (began, ended) if is_number(began) and is_number(ended) else None
+
+
+def is_number(value: Any) -> bool:
+    return isinstance(value, (int, float)) and not isinstance(value, bool) and abs(value) < 1e18
+
+
+def last_word(call: Dict[str, Any]) -> str:
+    return (call.get("words") or "").split(".")[-1]
+
+
+def looks_of(state: State) -> List[Look]:
+    """Returns the looks of a text in their order. Raises Refusal if it has none."""
+    lines = state.text.split("\n")
+    found = looks_of_module(state.path, lines) if MARK in state.text else looks_of_faulthandler(state.path, lines)
+    if not found:
+        raise Refusal(f"{shown(state.path)}: it has no line of cmh_state, none of py-spy, and none of faulthandler, "
+                      "such as 'Thread 0x.. (most recent call first):'")
+    return found
+
+
+# What cmh_state prints
+
+
+def looks_of_module(path: str, lines: List[str]) -> List[Look]:
+    """Each row says of which process it is, so that the lines of several may stand between each other."""
+    looks: List[Look] = []
+    open_looks: Dict[Any, Look] = {}
+    rows: Dict[Any, int] = {}
+    for at, line in enumerate(lines, 1):
+        text = line.partition(MARK)[2]
+        if not text:
+            continue
+        row = row_of(text)
+        pid = None if row is None else row.get("pid" if "version" in row else "end" if "end" in row else "of")
+        if row is not None and "version" in row:
+            look = head_of(row, path, at)
+            close(open_looks.get(pid), path)
+            open_looks[pid], rows[pid] = look, 0
+            looks.append(look)
+        elif row is None or not isinstance(pid, int) or pid not in open_looks:
+            note_missing(open_looks, path, at)
+        elif "end" in row:
+            look = open_looks.pop(pid)
+            look.is_whole = look.is_whole and row.get("rows") == rows[pid]
+            close(look, path, ended=True)
+        else:
+            rows[pid] += 1
+            add_row(open_looks[pid], row, path, at)
+    for look in open_looks.values():
+        close(look, path)
+    return looks
+
+
+def note_missing(open_looks: Dict[Any, Look], path: str, at: int) -> None:
+    """A line that can't be read may be of any state that is open. Raises Refusal if none is."""
+    where = f"{shown(path)}:{at}: this line of a state isn't understood"
+    if not open_looks:
+        raise Refusal(f"{where}, or the first line of its state is missing")
+    for look in open_looks.values():
+        look.is_whole = False
+        look.warnings.append(f"{where}, so what it shows is missing")
+
+
+def row_of(text: str) -> Optional[Dict[str, Any]]:
+    """The object of a line, or None. One that has a key twice is none."""
+    try:
+        row = json.loads(text, object_pairs_hook=object_of)
+    except (ValueError, RecursionError):
+        return None
+    return row if isinstance(row, dict) else None
+
+
+def object_of(pairs: List[Tuple[str, Any]]) -> Dict[str, Any]:
+    made = dict(pairs)
+    if len(made) < len(pairs):
+        raise ValueError("a key stands twice")
+    return made
+
+
+def head_of(row: Dict[str, Any], path: str, at: int) -> Look:
+    if row["version"] != VERSION:
+        raise Refusal(f"{shown(path)}:{at}: a state of version {shown(str(row['version']))}, and {VERSION} is read")
+    wrong = next(misfits(row, HEAD), None) or (None if is_number(row["seconds"]) else ".seconds")
+    if wrong is not None:
+        raise Refusal(f"{shown(path)}:{at}: the first line of a state, in which {shown(wrong[1:])} is missing or odd")
+    look = Look(f"{path}:{at}", row["process"], row["pid"], row["seconds"], row)
+    for word in row.get("unseen", ()):
+        look.warnings.append(f"process {look.pid} has loaded {shown(word)}: what waits in it is not seen")
+    return look
+
+
+def close(look: Optional[Look], path: str, ended: bool = False) -> None:
+    """Says what a state lacks that has no last line, or other rows than that counts. A task whose loop, or whose loop's
+    thread, isn't there may wait for anything."""
+    if look is None:
+        return
+    look.is_whole = look.is_whole and ended and are_alike(look) and have_loops(look)
+    for row in look.tasks.values():
+        loop = look.loops.get(row.more["loop"])
+        if loop is None or loop["thread"] is not None and loop["thread"] not in look.threads:
+            row.fault = row.fault or "its event loop isn't whole in the state"
+    if not look.is_whole:
+        look.warnings.append(f"{shown(path)}: the state of process {look.pid} is not whole: what is missing is unknown")
+
+
+def have_loops(look: Look) -> bool:
+    """Whether each thread that says which loop it runs is the one that this loop says to be run by."""
+    loops = {row.more["loop"]: row.key for row in look.threads.values() if row.more["loop"] is not None}
+    return all(look.loops[loop]["thread"] == key for loop, key in loops.items() if loop in look.loops)
+
+
+def are_alike(look: Look) -> bool:
+    """Whether all rows of a kind have the same keys, but for those that some have alone, and threads have those of
+    tasks too that both have."""
+    kinds = [{frozenset(row.more.keys() - VARY) for row in rows.values()} for rows in (look.threads, look.tasks)]
+    both = {keys & BOTH for rows in kinds for keys in rows}
+    return all(len(rows) <= 1 for rows in (*kinds, both))
+
+
+def add_row(look: Look, row: Dict[str, Any], path: str, at: int) -> None:
+    """Adds a row to its look. One that is of no known form, or stands twice, counts as missing."""
+    if any(key in row for key in OLDER) and "task" not in row:
+        return
+    kind = next((key for key in ("runs", "task", *ROWS) if key in row), "")
+    if not kind or not fits(row, ROWS[kind]) or not has_names(row) or not keep_row(look, kind, row):
+        look.is_whole = False
+        look.warnings.append(f"{shown(path)}:{at}: this line of a state isn't understood, so what it shows is missing")
+
+
+def has_names(row: Dict[str, Any]) -> bool:
+    """Whether what the call of a thread is on is called by a text, if it has a name."""
+    on = row["call"].get("on") if isinstance(row.get("call"), dict) else None
+    return not isinstance(on, dict) or isinstance(on.get("id", ""), str)
+
+
+def keep_row(look: Look, kind: str, row: Dict[str, Any]) -> bool:
+    """Keeps a row of a known form, and returns whether it is the first of its key."""
+    key = row[kind]
+    tables: Dict[str, Dict[Any, Any]] = {"thread": look.threads, "task": look.tasks, "runs": look.loops,
+                                         "asked": look.asked}
+    is_first = key not in tables.get(kind, ())
+    if kind in ("thread", "task"):
+        tables[kind][key] = row_of_place(key, row)
+    elif kind in tables:
+        tables[kind][key] = row
+    elif kind == "child":
+        look.children += [] if row["ended"] is True else [key]
+    elif key is not None:
+        (look.semaphores if kind == "semaphore" else look.queues).add(key)
+    if kind == "runs" and is_first:
+        add_callers(look, row)
+    return is_first
+
+
+def add_callers(look: Look, loop: Dict[str, Any]) -> None:
+    """Adds what a loop will call, if its row says that."""
+    for name, is_cancelling in (callers_of(loop) or {}).items():
+        caller = look.callers.setdefault(name, Caller())
+        caller.loops.append(loop["runs"])
+        caller.cancelling += [loop["runs"]] if is_cancelling else []
+
+
+def callers_of(loop: Dict[str, Any]) -> Optional[Dict[str, bool]]:
+    """Returns the names of what a loop will call, each with whether that may cancel a task, or None if its row doesn't
+    say it. An older one doesn't say what the loop calls it for."""
+    is_older = loop.get("callbacks") == loop.get("signals") == []
+    callers = loop.get("callers", {} if is_older else None)
+    return None if callers is None or "error" in callers else callers
+
+
+def row_of_place(key: Any, row: Dict[str, Any]) -> Row:
+    """Returns the row of a thread or a task. One with a frame that couldn't be read may stand anywhere."""
+    frames = [frame_of(line) for line in row["frames"] if "in" in line]
+    outermost = next((number for number, line in enumerate(frames) if number and line.at == FORKED), len(frames))
+    fault = "" if len(frames) == len(row["frames"]) else "a frame of its stack couldn't be read"
+    odd = next((line for line in frames if not is_of_file(line.at, line.file)), None)
+    fault = fault or (f"a frame of its stack is {shown(odd.at)}, which isn't of its file" if odd else "")
+    if frames and isinstance(row.get("call"), dict):
+        frames[0].call = row["call"]
+    return Row(key, row["name"], frames[:outermost], row, fault)
+
+
+@lru_cache(maxsize=65536)
+def is_of_file(name: str, path: str) -> bool:
+    """Whether a function has the name of the module of the library in whose file it is."""
+    found = STANDARD.search(path)
+    module = re.sub(r"(/__init__)?\.py$", "", found[1] or found[2]).replace("/", ".") if found else ""
+    return not module or name.startswith(f"{module}.")
+
+
+def frame_of(row: Dict[str, Any]) -> Frame:
+    return Frame(row["in"], row["file"], row["line"] or 0, row.get("has", {}), kind_of(row["file"]))
+
+
+def kind_of(path: str) -> str:
+    if STANDARD.search(path):
+        return "standard"
+    return "package" if PACKAGE.search(path) else "own"
+
+
+# What faulthandler prints
+
+
+def looks_of_faulthandler(path: str, lines: List[str]) -> List[Look]:
+    """A thread that stands again begins another dump."""
+    looks: List[Look] = []
+    row: Optional[Row] = None
+    for line in lines:
+        line = line.rstrip("\r")
+        head, step = FAULT_HEAD.search(line), FAULT_FRAME.search(line)
+        if head:
+            if not looks or head[1] in looks[-1].threads:
+                number = len(looks) + 1
+                looks.append(Look(path, f"dump-{number}", number, by_faulthandler=True))
+            row = Row(head[1], head[2] or "", [], {})
+            looks[-1].threads[head[1]] = row
+        elif step and row is not None:
+            row.frames.append(fault_frame(*step.groups()))
+        elif row is not None and line.strip() and not line.startswith("  "):
+            row = None
+    for look in looks:
+        for row in look.threads.values():
+            row.name = row.name or thread_name(row)
+    return looks
+
+
+def fault_frame(file: str, line: str, function: Optional[str]) -> Frame:
+    found = STANDARD.search(file) or PACKAGE.search(file)
+    inner = (found[1] or "") if found else os.path.basename(file)
+    module = re.sub(r"\.py$|/__init__\.py$", "", inner).replace("/", ".")
+    return Frame(f"{module}.{function or '?'}", file, int(line) if line.isdigit() else 0, {}, kind_of(file))
+
+
+def thread_name(row: Row) -> str:
+    """faulthandler shows no names: the function that a thread began in, and its number."""
+    inner = [frame for frame in row.frames if not re.match(r"threading\.(_bootstrap|_bootstrap_inner|run)$", frame.at)]
+    last = inner[-1].at.split(".")[-1] if inner else "thread"
+    return f"{'main' if last == '<module>' else last}/{row.key}"

@@ -1,0 +1,394 @@
+"""The first screen of an answer: what is so, who, unless, what to do, and where there is more. All else is
+elsewhere."""
+from __future__ import annotations
+
+import os
+import re
+import shlex
+import textwrap
+from typing import Dict, Iterable, List, NamedTuple, Optional, Set, Tuple
+
+from .cures import Cures, unit_words, words_of
+from .explain import Explanation, number_of
+from .files import short_name, shown
+from .model import Sign, Wakers
+from .rule import Headline
+from .sketch import ALL, ANY, ENDED
+from .terminal import AsItIs, fill, painted
+
+WIDTH = 80
+MEMBERS, ROOTS, DOUBTS, ENDS, CURES = 4, 5, 3, 4, 4  # of each, as many are shown; the others are counted
+MOVERS = 64  # of those who may free somebody, as many are looked at
+NAMES = 3  # in one line
+HEAD = 7  # columns of the word before a line
+NAME, LONGEST = 28, 44  # letters of the names in a line, and of what one waits at
+END_OF_WHAT = re.compile(r"; | at | in |: | \[|, which | \(descriptor")
+OTHERS = "of the others"
+# Operations of those that wait for the end or the answer of others, and have nothing themselves that others want.
+FOR_OTHERS = re.compile(r"join|WaitGroup|CountDownLatch|HttpClient|http|sync$|invokeAll|awaitTermination", re.I)
+ADDRESS = re.compile(r"0x0*([0-9a-f]{6,})")
+NOUNS = {"jvm": ("thread", "threads"), "go": ("goroutine", "goroutines"), "mpi": ("rank", "ranks"),
+         "rabbitmq": ("service", "services"), "python": ("thread or task", "threads or tasks")}
+COLOURS = {Headline.DEADLOCK: "stuck", Headline.LIKELY: "likely", Headline.NONE: "not_stuck"}
+SAME = "Nothing in a state tells one with nothing to do from one whose message was lost."
+
+
+class More(NamedTuple):
+    """The commands that say more, as the reader may type them."""
+
+    all: str
+    why: str
+    true: Optional[str]
+
+
+BESIDE = More("--all", "--why", None)  # of cmh-explain, whose dump the reader has named
+
+
+class Screen:
+    """The first screen of an explanation. `more` has the commands that say more."""
+
+    def __init__(self, this: Explanation, more: More = BESIDE) -> None:
+        self.this, self.more, self.waits = this, more, this.waits
+        self.style, self.width = this.style, min(WIDTH, this.style.width)
+        self.system = this.dump.sketch.system
+        self.cures = Cures(this)
+        self.members = [set(members) for members in this.roots.roots[:ROOTS]]
+        self.known: Dict[Tuple[int, ...], Dict[int, None]] = {}
+        self.prefix = prefix_of([process.name for process in this.waits.processes])
+
+    def text(self) -> str:
+        lines = [*self.head(), *map(self.wrapped, self.body()), *self.last()]
+        return fill([lines], self.style._replace(width=self.width))
+
+    def wrapped(self, line: str) -> str:
+        """Returns a line that is broken, also within a word: a path may be longer than it."""
+        if isinstance(line, AsItIs) or len(line) <= self.width:
+            return line
+        return AsItIs(textwrap.fill(line.strip(), self.width, initial_indent="  ", subsequent_indent="    ",
+                                    break_on_hyphens=False))
+
+    # The headline
+
+    def head(self) -> List[str]:
+        headline = self.this.headline
+        words = {Headline.DEADLOCK: self.roots_words, Headline.LIKELY: self.roots_words, Headline.NONE: self.free_words,
+                 Headline.IDLE: self.idle_words, Headline.NOT_KNOWN: self.open_words}[headline]()
+        return [painted(f"{headline.value}: {words}", (headline.value, COLOURS.get(headline, "undecided")))]
+
+    def name(self, index: int) -> str:
+        """Returns the name of one, without what all names begin with."""
+        return self.this.name(index)[len(self.prefix):]
+
+    def noun(self, number: int) -> str:
+        return number_of(number, *NOUNS.get(self.system, ("process", "processes")))
+
+    def roots_words(self) -> str:
+        """Returns in a sentence or two who waits for whom, of those who are certain, or else of the likely ones."""
+        roots = self.told_roots()
+        members = [index for number in roots for index in self.this.roots.roots[number]]
+        behind = [index for index, over in self.this.roots.above.items()
+                  if index not in self.this.roots.root_of and set(over) & set(roots)]
+        is_certain = self.this.headline is Headline.DEADLOCK
+        sure = [index for index in behind if not is_certain or index not in self.this.likely]
+        more = f"; {len(sure):,} more {'waits' if len(sure) == 1 else 'wait'} behind" if sure else ""
+        more += f"{',' if more else ';'} {len(behind) - len(sure):,} more likely" if len(behind) > len(sure) else ""
+        others = len(self.this.roots.roots) - len(roots)
+        likely = f" {number_of(others, 'more group is', 'more groups are')} likely to." if others else ""
+        return f"{self.group_words(roots, members)}{more}. {self.life()}{likely}"
+
+    def told_roots(self) -> List[int]:
+        """Returns the roots that the headline is of."""
+        numbers = range(len(self.this.roots.roots))
+        certain = [number for number in numbers if self.this.is_certain(number)]
+        return certain or list(numbers)
+
+    def group_words(self, roots: List[int], members: List[int]) -> str:
+        units = self.cures.units_of(members)
+        where = f" of {self.cures.called(units[0])}" if len(units) == 1 and self.system != "rabbitmq" else ""
+        if len(roots) > 1:
+            return f"{len(roots):,} groups wait, each for itself: {self.noun(len(members))}{where} in all"
+        if len(members) == 1:
+            verb = "can" if self.this.is_certain(roots[0]) else "will likely"
+            return f"{self.name(members[0])}{where} {verb} never be unblocked"
+        return f"{self.noun(len(members))}{where} wait for each other"
+
+    def life(self) -> str:
+        """Returns whether anybody computes."""
+        number = sum(self.waits.processes[index].sign is Sign.GOES_ON for index in self.this.well)
+        return f"{number:,} {'goes' if number == 1 else 'go'} on." if number else "Nobody computes."
+
+    def free_words(self) -> str:
+        blocked = self.blocked()
+        if not blocked:
+            return f"nobody waits for another one. {self.life()}"
+        goes_on = any(process.sign is Sign.GOES_ON for process in self.waits.processes)
+        return f"{self.noun(len(blocked))} {'waits, and is' if len(blocked) == 1 else 'wait, and all are'} freed by " \
+            f"{'who goes on' if goes_on else 'one that sleeps'}."
+
+    def idle_words(self) -> str:
+        total = len(self.waits.processes) - len(self.this.ended)
+        return f"{f'of {self.noun(total)} ' if total else ''}nobody goes on. {SAME}"
+
+    def open_words(self) -> str:
+        number = len(self.this.undecided)
+        return f"of {self.noun(number)} it isn't known who frees {'it' if number == 1 else 'them'}. {self.life()}"
+
+    def blocked(self) -> List[int]:
+        return [index for index in range(self.waits.number) if self.waits.subjects[index].sign is Sign.BLOCKED]
+
+    # Who
+
+    def body(self) -> List[str]:
+        if self.this.roots.roots:
+            most = ROOTS if len(self.this.roots.roots) > 1 else 1
+            lines = [line for number in range(len(self.this.roots.roots[:most])) for line in self.root(number)]
+            left = len(self.this.roots.roots) - most
+            return lines + ([f"  and {number_of(left, 'group', 'groups')} more"] if left > 0 else [])
+        return self.ends()
+
+    def root(self, number: int) -> List[str]:
+        members = self.this.roots.roots[number]
+        lines = [f"Group {number + 1}{'' if self.this.is_certain(number) else ', likely'}"] \
+            if len(self.this.roots.roots) > 1 else []
+        lines += self.member_lines(members)
+        doubts = self.this.doubts_of(members)
+        if doubts:
+            lines += ["Unless", *(self.numbered(doubt.number, self.this.doubt_words(doubt, members, "one of them"))
+                                  for doubt in doubts[:DOUBTS])]
+            lines += [f"     or one of {len(doubts) - DOUBTS:,} more is so"] if doubts[DOUBTS:] else []
+        return lines
+
+    def numbered(self, number: int, words: str) -> str:
+        lines = textwrap.wrap(words, self.width - HEAD, break_on_hyphens=False)
+        return AsItIs("\n".join(f"{f'  {number:<3}' if not row else '':<{HEAD - 2}}{line}"
+                                for row, line in enumerate(lines)))
+
+    def member_lines(self, members: List[int]) -> List[str]:
+        """Returns a line for each member; those that wait alike share one."""
+        groups: Dict[Tuple[str, str, str], List[int]] = {}
+        for index in sorted(members, key=self.is_of_others):
+            frames, whom = self.frames(index), self.whom(index)
+            is_alike = frames and whom.endswith(OTHERS)  # (they stand at one line, each at an object of its own)
+            groups.setdefault((self.what(index, not is_alike), whom, frames), []).append(index)
+        shown_groups, left = list(groups.items())[:MEMBERS], list(groups.values())[MEMBERS:]
+        names = [self.names_of(list(map(self.name, some))) for _, some in shown_groups]
+        wide = max(map(len, names))
+        lines = [self.columns(f"  {name:<{wide}}  ", *columns) for name, (columns, _) in zip(names, shown_groups)]
+        return lines + ([f"  and {sum(map(len, left)):,} more"] if left else [])
+
+    def names_of(self, names: List[str]) -> str:
+        """Returns some names that share a line, or the first of them."""
+        words = self.some(names)
+        more = f" and {len(names) - 1:,} more" if names[1:] else ""
+        return words if len(words) <= NAME else f"{cut_name(names[0], NAME - len(more))}{more}"
+
+    def is_of_others(self, index: int) -> bool:
+        """Whether one only waits for the end or the answer of others, as a main thread does: it is told last."""
+        process = self.waits.processes[index]
+        return FOR_OTHERS.search(process.operation) is not None and self.whom(index).endswith(OTHERS)
+
+    def columns(self, name: str, what: str, whom: str, frames: str) -> str:
+        """Returns one line if it fits, or else two: the second has the frames, and also for whom one waits if the first
+        has no room for that."""
+        arrow, room = f"{self.style.arrow} {whom}", self.width - len(name)
+        first, second = f"{what} {arrow}".strip(), frames
+        if len(first) + len(frames) + 2 <= room:
+            return AsItIs(f"{name}{first}  {frames}".rstrip())
+        if len(first) > room and what:
+            first, second = what, f"{arrow}  {frames}".rstrip()
+        if len(second) > room:
+            second = f"{cut(arrow, room)}" if second.startswith(arrow) else second
+        lines = [f"{name}{first}", f"{'':<{len(name)}}{second}"]
+        return AsItIs("\n".join(cut(line, self.width) for line in lines if line.strip()))
+
+    def what(self, index: int, has_address: bool = True) -> str:
+        """Returns at what one waits."""
+        process = self.waits.processes[index]
+        what = END_OF_WHAT.split(shown(process.note or process.operation), 1)[0]
+        address = next((text for text in process.objects if ADDRESS.fullmatch(text)), "")
+        short = ADDRESS.sub(r"0x\1", address)
+        what += f" {short}" if address and address not in what and has_address else ""
+        return cut_name(what, LONGEST)
+
+    def whom(self, index: int) -> str:
+        if self.waits.kinds[index] not in (ANY, ALL):
+            return "nobody"
+        others = self.others_of(tuple(self.waits.left_of(index)))
+        root = self.this.roots.root_of.get(index)
+        if root is not None and root < ROOTS and len(others) > 2 and {*others, index} == self.members[root]:
+            return f"{'all' if self.waits.kinds[index] == ALL else 'any'} {OTHERS}"
+        names = [self.name(other) for other in others if other != index] or ["itself"] * bool(others)
+        last = " and " if self.waits.kinds[index] == ALL else " or "
+        return self.some(names, last) or "nobody"
+
+    def others_of(self, nodes: Tuple[int, ...]) -> Dict[int, None]:
+        """Returns for whom one waits by some nodes, once for all that share these."""
+        if nodes not in self.known:
+            found = self.waits.without_hubs(nodes)
+            self.known[nodes] = dict.fromkeys(other for other in found if self.waits.kinds[other] != ENDED)
+        return self.known[nodes]
+
+    def some(self, names: Iterable[str], last: str = ", ") -> str:
+        texts = list(names)
+        if len(texts) > NAMES + 1:
+            return f"{', '.join(texts[:NAMES])} and {len(texts) - NAMES:,} more"
+        return last.join([*filter(None, [", ".join(texts[:-1])]), *texts[-1:]])
+
+    def frames(self, index: int) -> str:
+        """Returns the innermost frames of the program's own, as many as fit: the first with its line."""
+        process = self.waits.processes[index]
+        frames = [text for text in process.frames if text not in (process.operation, process.name)]
+        if not frames or process.name.startswith(frames[0]):  # (the name of a program or a service says no more)
+            return ""
+        names = [frames[0], *(text.split(" (")[0] for text in frames[1:])]
+        while len(names) > 1 and len(" < ".join(names)) > self.width - 24:
+            names.pop()
+        return shown(" < ".join(names))
+
+    # Where no group waits for itself
+
+    def ends(self) -> List[str]:
+        """Returns where the waits end: at whom who isn't understood, who goes on, or who has nothing to do."""
+        rows: List[Tuple[int, str]] = []
+        for index, others in self.this.unknown_ones(NAMES):
+            reason = shown(self.this.process(index).why_unknown())
+            words = f"{self.name(index)}{self.place_words(index)}{f': {reason}' if reason else ''}"
+            rows.append((others.number, self.end_line(others.number, others.nearest, words)))
+        followers: Dict[int, List[int]] = {}
+        for index, end in self.this.ends().items():
+            followers.setdefault(end, []).append(index)
+        rows += [(len(some), self.end_line(len(some), some, f"{self.name(end)}, which "
+                                           f"{self.sign_words(end)}{self.place_words(end)}"))
+                 for end, some in followers.items()]
+        rows += self.mover_rows()
+        rows.sort(key=lambda row: -row[0])
+        lines = [line for _, line in rows[:ENDS]] or self.idle_lines()
+        return lines + ([f"  and {len(rows) - ENDS:,} more such"] if rows[ENDS:] else [])
+
+    def mover_rows(self) -> List[Tuple[int, str]]:
+        """Returns who sleeps or goes on, and may free some of those of whom it isn't known who frees them."""
+        users: Dict[int, Tuple[Wakers, Set[int]]] = {}
+        for index in self.this.undecided:
+            for wakers in (wakers for part in self.this.process(index).parts for wakers in part):
+                users.setdefault(id(wakers.who), (wakers, set()))[1].add(index)
+        movers: Dict[int, Set[int]] = {}
+        for wakers, waiting in users.values():
+            for index in self.moving(wakers):
+                if index in movers or len(movers) < MOVERS:
+                    movers[index] = movers.get(index, set()) | waiting
+        return [(len(some), f"  {len(some):,} may be freed by {self.name(index)}, which {self.sign_words(index)}"
+                 f"{self.place_words(index)}") for index, some in movers.items()]
+
+    def moving(self, wakers: Wakers) -> List[int]:
+        """Returns those of some wakers who sleep or go on."""
+        there = [self.waits.index[name] for name in wakers.names() if name in self.waits.index]
+        return [index for index in there if self.this.process(index).sign in (Sign.SLEEPS, Sign.POLLS, Sign.GOES_ON)]
+
+    def idle_lines(self) -> List[str]:
+        """Returns who has nothing to do, or waits for one who has, by what they wait for."""
+        groups: Dict[str, List[int]] = {}
+        for index in range(self.waits.number):
+            process = self.this.process(index)
+            alone = f"{self.place_words(index).lstrip() or process.operation}, where nobody else is at work"
+            words = {Sign.RESTS: process.reason or "waits for work", Sign.BLOCKED: f"waits {alone}"}.get(process.sign)
+            if words:
+                groups.setdefault(shown(words), []).append(index)
+        rows = sorted(groups.items(), key=lambda row: -len(row[1]))
+        return [f"  {self.some(map(self.name, some))}: {'each ' if some[1:] else ''}{words}"
+                for words, some in rows[:ENDS]]
+
+    def end_line(self, number: int, nearest: List[int], words: str) -> str:
+        if not number:
+            return f"  {words}"
+        names = self.some(map(self.name, nearest)) if number <= NAMES else self.noun(number)
+        return f"  {names} {'waits' if number == 1 else 'wait'} in the end for {words}"
+
+    def sign_words(self, index: int) -> str:
+        process = self.this.process(index)
+        if process.sign in (Sign.SLEEPS, Sign.POLLS):
+            return process.sign.value
+        return {Sign.TICKS: "ticks", Sign.GOES_ON: "goes on"}.get(process.sign) or self.this.goes_on_words(index)
+
+    def place_words(self, index: int) -> str:
+        frames = self.frames(index).split(" < ")[0]
+        return f" in {frames}" if frames else ""
+
+    # What to do, and where there is more
+
+    def last(self) -> List[str]:
+        rows = [("Do", self.cure_words()), ("Sure?", self.sure_words()), ("More", self.more_words())]
+        return [self.row(word, words) for word, words in rows if words]
+
+    def row(self, word: str, words: str) -> str:
+        lines = textwrap.wrap(words, self.width - HEAD, break_on_hyphens=False, break_long_words=False)
+        return AsItIs("\n".join(f"{word if not row else '':<{HEAD}}{line}" for row, line in enumerate(lines)))
+
+    def cure_words(self) -> str:
+        """Returns what breaks all groups, or if there is none a command that ends the one at which most waits end."""
+        if not self.this.roots.roots:
+            return self.end_words()
+        cures = self.cures.least()
+        several = len(self.this.roots.roots) > 1
+        words = []
+        for cure in cures[:CURES]:
+            groups = ", ".join(str(number + 1) for number in cure.roots[:NAMES])
+            left = f" and {len(cure.roots) - NAMES:,} more" if cure.roots[NAMES:] else ""
+            of = "" if not several else " (all groups)" if len(cures) == 1 else \
+                f" ({'group' if len(cure.roots) == 1 else 'groups'} {groups}{left})"
+            words.append(words_of(self.cures, cure) + of)
+        more = [f"{len(cures) - CURES:,} more"] if cures[CURES:] else []
+        return f"{', and '.join([*words, *more])}." if words else ""
+
+    def end_words(self) -> str:
+        ends = {index: others.number for index, others in self.this.unknown_ones(1) if others.number}
+        for end in self.this.ends().values():
+            ends[end] = ends.get(end, 0) + 1
+        found = max(ends, key=lambda index: ends[index], default=None)
+        process = None if found is None else self.this.process(found)
+        if process is None or not process.remedy or self.this.headline is Headline.NONE:
+            return ""
+        return f"{unit_words(self.cures, process.site or '')}: {ends[found or 0]:,} wait for it."
+
+    def sure_words(self) -> str:
+        """Returns how the reader says that no doubt of the first likely group holds."""
+        roots = self.this.roots.roots
+        first = next((members for number, members in enumerate(roots) if not self.this.is_certain(number)), None)
+        if first is None:
+            return ""
+        doubts = self.this.doubts_of(first)
+        what = {1: "it isn't so", 2: "neither is so"}.get(len(doubts), "none of them is so")
+        numbers = ",".join(str(doubt.number) for doubt in doubts)
+        if self.more.true is None:
+            return f"if {what}, it is certain: --all says how to say so."
+        return f"if {what}: {self.more.true} {numbers}"
+
+    def more_words(self) -> str:
+        roots = self.this.roots.roots
+        name = [self.waits.processes[roots[0][0]].name] if roots else \
+            [self.waits.processes[index].name for index in self.this.undecided[:1]]
+        return " · ".join([self.more.all, *(f"{self.more.why} {quoted(text)}" for text in name)])
+
+
+def prefix_of(names: List[str]) -> str:
+    """Returns what all names begin with, up to a slash: the name of one process of several threads says no more."""
+    prefix = os.path.commonprefix(names)
+    return prefix[:prefix.rfind("/") + 1] if len(names) > 1 else ""
+
+
+def cut_name(text: str, most: int) -> str:
+    """Returns a name without its middle, if it is long: the end tells it from others."""
+    return text if len(text) <= most else f"{text[:most // 2 - 2]}..{text[-(most // 2):]}"
+
+
+def cut(text: str, most: int) -> str:
+    """Returns a text, at most its beginning."""
+    return text if len(text) <= most else f"{text[:most - 2]}.."
+
+
+def quoted(text: str) -> str:
+    """Returns a name as it is typed into a shell."""
+    return shlex.quote(short_name(text))
+
+
+def screen(this: Explanation, more: More = BESIDE) -> str:
+    return Screen(this, more).text()

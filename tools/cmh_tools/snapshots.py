@@ -1,0 +1,272 @@
+"""Several snapshots of one system, one after the other: who is at one and the same wait in all of them may be stuck,
+and who has moved goes on.
+
+The answer is as of the first snapshot. A deadlock never ends, so whoever was stuck then is at the same wait later. Two
+snapshots show one wait if the system's own count says so: of context switches, of reductions. The same place alone does
+not: a healthy loop comes back to it. A count that has grown at the same place leaves it unknown, since to be read may
+add to it.
+"""
+from __future__ import annotations
+
+import functools
+from dataclasses import dataclass, field, replace
+from itertools import zip_longest
+from typing import Any, Dict, List, Optional, Set, Tuple
+
+from .files import escaped, short_name
+from .model import Anybody, Part, Sign, Wakers, unseen
+from .sketch import (BY_HAND, DONE, GOING, REST, SYSTEM, WAITING, Process, Sketch, lists_of_wakers, unknown)
+
+AS_OF = "as of the first of {} states"
+# How the processes of a reading were read: all at one moment, so that one reading alone may decide; at one moment, but
+# one that has been woken may still stand at its wait; or one after the other.
+ONCE, WOKEN, APART = "once", "woken", "apart"
+# How much of the system a reading has: all; all up to its end, which may be cut off; or anybody may be missing.
+WHOLE, CUT, PARTS = "whole", "cut", "parts"
+
+GONE = "it isn't in the second state"
+ONE_STATE = "there is one state alone, and a wait that is about to end looks like any other"
+OVERLAP = "its first state was read after a second one of another process, so the two show no one time"
+UNCOUNTED = "nothing counts how often it has waited, so the states may show two waits"
+GROWN = "it is at the same place with a count that has grown, so the states may show two waits"
+DIFFER = "the states differ in whether it waits for any or for all"
+SHOWN = 5  # names in a reason
+COME_BACK = {Sign.TICKS: Sign.TICKS, Sign.SLEEPS: Sign.POLLS, Sign.POLLS: Sign.POLLS, Sign.GOES_ON: Sign.GOES_ON}
+COME = "the states differ in who hasn't come yet"
+
+
+@dataclass
+class Reading:
+    """What was read at one time from one source: a node, a JVM, a rank. `rows` are the parser's own, `missing` says
+    why processes of the source may be missing in it, if they may, and `extent` how much it has. `machine` and `time`
+    are where it was read, and when it began and ended, if the state says so."""
+
+    path: str
+    source: Any
+    rows: List[Any] = field(default_factory=list)
+    missing: str = ""
+    extent: str = WHOLE
+    site: str = ""
+    machine: str = ""
+    time: Optional[Tuple[float, float]] = None
+
+
+def snapshots_of(readings: List[Reading]) -> List[List[Optional[Reading]]]:
+    """Returns the readings of all sources for each time. The texts may be those of several sources, of several times,
+    or both: each source's own are in the order of time. A source that was read less often than others has None."""
+    sources: Dict[Any, List[Reading]] = {}
+    for reading in readings:
+        sources.setdefault(reading.source, []).append(reading)
+    return [list(some) for some in zip_longest(*sources.values())]
+
+
+def compare(sketches: List[Sketch], extents: List[str], moment: str) -> Sketch:
+    """Returns the sketch of the sketches of one system, each as it was read later than the one before, where names
+    stand for the same processes. `extents` has how much of the system each has, and `moment` is ONCE, WOKEN or APART
+    unless a process has its own."""
+    made = functools.reduce(lambda first, row: both(first, *row), zip(sketches[1:], extents[1:], extents), sketches[0])
+    made.readings = len(sketches)
+    for process in made.processes:
+        if process.sign is Sign.TICKS and len(sketches) == 1:
+            process.sign = Sign.SLEEPS
+        if (process.moment or moment) != ONCE and (len(sketches) == 1 or process.count is None):
+            doubt_wait(process, ONE_STATE if len(sketches) == 1 else UNCOUNTED)
+    return made
+
+
+def doubt_wait(process: Process, doubt: str) -> None:
+    """Says of one that waits that somebody may have ended its wait between the looks, and why that isn't known."""
+    if process.sign is Sign.UNKNOWN and not process.is_garbled:
+        process.parts = [(*part, unseen("uncounted", doubt)) for part in process.parts or [(unseen("unshown"),)]]
+    elif process.sign in WAITING and process.parts and not any(some.how == "uncounted" for some in process.parts[0]):
+        kind = "any" if len(process.parts) == 1 else "all"
+        names = ", ".join(map(short_name, process.whom[:SHOWN])) + (" .." if process.whom[SHOWN:] else "")
+        if process.sign is Sign.BLOCKED:
+            process.reason = f"{doubt}; its place says that it waits for {kind} of {names or 'nobody'}"
+        process.parts = [(*part, unseen("uncounted", doubt)) for part in process.parts]
+
+
+def both(first: Sketch, second: Sketch, extent: str = PARTS, before: str = PARTS) -> Sketch:
+    """Returns the sketch of two sketches of one system. `extent` says how much of the system the second has, and
+    `before` how much the one that was read before it has."""
+    later = {process.name: process for process in second.processes}
+    missing = missing_names(first, later, extent)
+    processes = [forget(it) if it.name in missing else join(it, later.get(it.name)) for it in first.processes]
+    here = {process.name for process in processes}
+    wanted = {name for names in lists_of_wakers(processes) for name in names} - here
+    known = PARTS if PARTS in (extent, before) else extent
+    processes += [newcomer(process, known) for process in second.processes if process.name in wanted]
+    here |= wanted
+    pairs = [pair for pair in dict.fromkeys([*first.in_transit, *second.in_transit]) if here.issuperset(pair)]
+    warnings = list(dict.fromkeys([*first.warnings, *second.warnings]))
+    number = sum(has_left(it, later) for it in first.processes) - len(missing)
+    if number and extent == CUT:
+        warnings.append(f"{number} of the first state are not in the second, which has others after them: they have "
+                        "ended")
+    readings = first.readings + second.readings
+    return Sketch(processes, pairs, first.system or second.system, AS_OF.format("two" if readings == 2 else readings),
+                  warnings, {**second.premises, **first.premises}, [*first.facts, *second.facts], readings,
+                  {**second.groups, **first.groups})
+
+
+def missing_names(first: Sketch, later: Dict[str, Process], extent: str) -> Set[str]:
+    """The names that the second state may lack though they have not ended. Who ran in the first state runs by that."""
+    if extent == WHOLE:
+        return set()
+    there = [at for at, process in enumerate(first.processes) if process.name in later]
+    start = there[-1] + 1 if there and extent == CUT else 0
+    return {it.name for it in first.processes[start:] if has_left(it, later)}
+
+
+def has_left(process: Process, later: Dict[str, Process]) -> bool:
+    """Whether one that waited in the first state isn't in the second."""
+    return process.name not in later and process.sign not in (*GOING, Sign.ENDED)
+
+
+def forget(process: Process) -> Process:
+    """One that may have ended, or stand anywhere by now. No fact on its place decides it."""
+    return replace(process, sign=Sign.UNKNOWN, parts=[], because=[], reason=GONE, frames=[], operation="", objects=[],
+                   count=None, is_garbled=True)
+
+
+def newcomer(process: Process, extent: str) -> Process:
+    """One of the second state alone: it came after the first, if both have all that were there."""
+    if extent == PARTS and process.sign not in GOING:
+        return replace(process, sign=Sign.UNKNOWN, parts=[], because=[], reason="it isn't in the first state")
+    return replace(process, sign=Sign.GOES_ON, parts=[], because=[SYSTEM], reason="it came after the first state")
+
+
+def join(process: Process, later: Optional[Process]) -> Process:
+    """Returns a process of the first state as it is by both."""
+    if process.is_garbled and process.sign is Sign.GOES_ON:
+        return process  # (it has moved before)
+    odd = next((it for it in (process, later) if it is not None and it.is_garbled), None)
+    if odd is not None:
+        return replace(process, sign=Sign.UNKNOWN, parts=[], because=[], reason=odd.reason, is_garbled=True, count=None)
+    if process.sign is Sign.ENDED:
+        return end_by_both(process, later)
+    if later is None or later.sign is Sign.ENDED:
+        return moved(process, "it has ended since")
+    if is_elsewhere(process, later):
+        return moved(process, "it has moved")
+    going = [it for it in (process, later) if it.sign in GOING]
+    if going and (SYSTEM in going[0].because or Sign.UNKNOWN not in (process.sign, later.sign)):
+        return runner_of(process, later)
+    return waiter_of(process, later)
+
+
+def moved(process: Process, why: str) -> Process:
+    """One that isn't at the same wait in both states: a deadlock never ends. Nor does a fact on the place that it has
+    left decide it."""
+    is_by_hand = BY_HAND in process.because
+    return replace(process, sign=Sign.GOES_ON, parts=[], reason=process.reason if process.sign in GOING else why,
+                   because=[BY_HAND if is_by_hand else SYSTEM], operation="", is_garbled=process.sign in GOING)
+
+
+def runner_of(process: Process, later: Process) -> Process:
+    """One that goes on in one of the states at least, at the same place in both. It ticks if it has come back to its
+    place in the loop of its own thread or task, and polls if it has come back to it below a call."""
+    one = next(it for it in (process, later) if it.sign in GOING)
+    signs = {process.sign, later.sign}
+    if Sign.GOES_ON in signs:
+        one = next(it for it in (process, later) if it.sign is Sign.GOES_ON)
+    has_come_back = None not in (process.count, later.count) and process.count != later.count
+    limited = COME_BACK[process.sign] if has_come_back and process.sign is later.sign else Sign.SLEEPS
+    sign = Sign.GOES_ON if Sign.GOES_ON in signs else limited
+    return replace(process, sign=sign, parts=[], reason=one.reason, because=one.because)
+
+
+def waiter_of(process: Process, later: Process) -> Process:
+    """One that waits at the same place in both states."""
+    made = process.copy()
+    made.count = process.count if process.count == later.count else None
+    made.moment = process.moment if process.moment == later.moment else ""
+    made.because = list(dict.fromkeys([*process.because, *later.because]))
+    if Sign.UNKNOWN in (process.sign, later.sign):
+        made.sign, made.parts = Sign.UNKNOWN, []
+        made.reason = process.reason if process.sign is Sign.UNKNOWN else later.reason
+        return made
+    made.sign = process.sign if process.sign is later.sign else Sign.BLOCKED
+    made.parts = parts_of_both(process.parts, later.parts)
+    if (len(process.parts) > 1) != (len(later.parts) > 1):
+        made.become_unknown(DIFFER)
+    elif not made.parts and process.parts:
+        made.become_unknown(COME)
+    elif None not in (process.count, later.count) and made.count is None:
+        has_grown(made)
+    return made
+
+
+def has_grown(process: Process) -> None:
+    """Says of one that it is at the same place with a count that has grown: it may have come back there. One at rest
+    still rests."""
+    if process.sign is Sign.RESTS:
+        process.parts = [(*part, unseen("uncounted", GROWN)) for part in process.parts]
+    else:
+        process.sign, process.reason = Sign.UNKNOWN, GROWN
+
+
+def parts_of_both(first: List[Part], second: List[Part]) -> List[Part]:
+    """Returns the parts of a wait that can make up no deadlock: any of both states, or all that no state says to have
+    come."""
+    if len(first) == 1 and len(second) == 1:
+        return [part_of_both(first[0], second[0])]
+    later = {tuple(part[0].names()) if part else (): part for part in second}
+    keys = [tuple(part[0].names()) if part else () for part in first]
+    return [part_of_both(part, later[key]) for part, key in zip(first, keys) if key in later]
+
+
+def part_of_both(first: Part, second: Part) -> Part:
+    """Returns the wakers of both states. Where they have the same list it stays one that waits may share."""
+    later = {(some.how, some.strength, some.what): some for some in second}
+    made = [wakers_of_both(some, later.pop((some.how, some.strength, some.what), some)) for some in first]
+    return (*made, *later.values())
+
+
+def wakers_of_both(first: Wakers, second: Wakers) -> Wakers:
+    if isinstance(first.who, Anybody) or isinstance(second.who, Anybody):
+        return first if isinstance(first.who, Anybody) else second
+    if first.who is second.who or set(second.who) <= set(first.who):
+        return first
+    return first._replace(who=list(dict.fromkeys([*first.who, *second.who])),
+                          because=tuple(dict.fromkeys([*first.because, *second.because])))
+
+
+def end_by_both(process: Process, later: Optional[Process]) -> Process:
+    """One that has ended. It did so well if one of the states says so: that makes up no deadlock."""
+    if later is not None and later.sign is not Sign.ENDED:
+        return replace(process, sign=Sign.UNKNOWN, because=[], is_garbled=True,
+                       reason="it has ended by one state, and is there in the next")
+    done = later is not None and later.reason == DONE
+    return replace(process, reason=DONE) if done else process
+
+
+def is_elsewhere(process: Process, later: Process) -> bool:
+    """Whether the places of two states differ. What has no place is told by its wait. Where one state shows no place,
+    nothing is known to differ."""
+    places = [(it.frames, it.operation, it.objects) for it in (process, later)]
+    if not any(map(any, places)):
+        waits = [(it.kind, set(it.whom)) for it in (process, later)]
+        return waits[0] != waits[1] and all(it.sign in WAITING for it in (process, later))
+    return places[0] != places[1] and all(map(any, places))
+
+
+def overlap(readings: List[Reading]) -> Optional[Reading]:
+    """Returns the first reading of a text that stands after a later one of another source, or None. Readings of several
+    texts have no order."""
+    times: Dict[Any, int] = {}
+    highest: Dict[str, int] = {}
+    for reading in readings:
+        time = times[reading.source] = times.get(reading.source, 0) + 1
+        if time < highest.get(reading.path, 0):
+            return reading
+        highest[reading.path] = max(time, highest.get(reading.path, 0))
+    return None
+
+
+def left_out(readings: List[Reading]) -> List[Process]:
+    """Returns one unknown process for those of each place that its readings lack, if there may be any."""
+    missing = {it.site: it for it in reversed(readings) if it.missing}
+    return [unknown(f"{escaped(it.site)}/{REST}" if it.site else REST, it.missing, site=it.site or None, frames=[REST])
+            for it in missing.values()]
+
