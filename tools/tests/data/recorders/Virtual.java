@@ -77,11 +77,11 @@ public class Virtual {
             }
         });
         ServerSocket door = new ServerSocket(0);
-        start("idle accept", () -> {
+        start("rests accept", () -> {
             accepted = door.accept();
             door.accept();
         });
-        start("unknown read", () -> new Socket("127.0.0.1", door.getLocalPort()).getInputStream().read());
+        start("rests read", () -> new Socket("127.0.0.1", door.getLocalPort()).getInputStream().read());
         System.out.println("ready");
         try (ExecutorService pool = Executors.newVirtualThreadPerTaskExecutor()) {
             pool.submit(() -> {

@@ -129,10 +129,10 @@ public class Waits {
             queue.put("");
             queue.put("");
         });
-        start("unknown take", () -> new LinkedBlockingQueue<String>().take());
-        start("unknown take of a priority", () -> new PriorityBlockingQueue<String>().take());
-        start("unknown take of a delay", () -> new DelayQueue<Delayed>().take());
-        start("unknown take of a deque", () -> new LinkedBlockingDeque<String>().take());
+        start("rests take", () -> new LinkedBlockingQueue<String>().take());
+        start("rests take of a priority", () -> new PriorityBlockingQueue<String>().take());
+        start("rests take of a delay", () -> new DelayQueue<Delayed>().take());
+        start("rests take of a deque", () -> new LinkedBlockingDeque<String>().take());
         start("unknown put hand to hand", () -> new SynchronousQueue<String>().put(""));
         start("unknown transfer", () -> new LinkedTransferQueue<String>().transfer(""));
         start("unknown exchange", () -> new Exchanger<String>().exchange(""));
@@ -167,14 +167,14 @@ public class Waits {
 
     static void devices() throws IOException {
         ServerSocket door = new ServerSocket(0);
-        start("idle accept", () -> {
+        start("rests accept", () -> {
             accepted = door.accept();
             door.accept();
         });
-        start("unknown read", () -> new Socket("127.0.0.1", door.getLocalPort()).getInputStream().read());
-        start("unknown read of a pipe", () -> new PipedInputStream(new PipedOutputStream()).read());
-        start("unknown read of standard input", System.in::read);
-        start("idle select", () -> Selector.open().select());
+        start("rests read", () -> new Socket("127.0.0.1", door.getLocalPort()).getInputStream().read());
+        start("rests read of a pipe", () -> new PipedInputStream(new PipedOutputStream()).read());
+        start("rests read of standard input", System.in::read);
+        start("rests select", () -> Selector.open().select());
     }
 
     static void pools() {

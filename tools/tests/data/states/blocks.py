@@ -9,7 +9,7 @@ import threading
 import time
 
 sys.path.insert(0, sys.argv[1])
-import cmh_state  # noqa: E402
+from cmh_state import ends, frames as stacks  # noqa: E402
 
 ready = threading.Semaphore(0)
 
@@ -177,8 +177,8 @@ def try_threads():
         ready.acquire()
         time.sleep(0.05)
         names = {hex(id(store.first)): "1", hex(id(store.second)): "2", hex(id(store.news._lock)): "news"}
-        frames = cmh_state.stack_of(sys._current_frames()[thread.ident])
-        compare(name, cmh_state.inside_thread(frames)["taken"], names, name.split("_")[-1])
+        frames = stacks.stack_of(sys._current_frames()[thread.ident])
+        compare(name, ends.inside_thread(frames)["taken"], names, name.split("_")[-1])
 
 
 def compare(name, found, names, wanted):
@@ -235,7 +235,7 @@ async def try_coroutines():
     for work, what, lock, wanted in rows:
         task = asyncio.ensure_future(work(what))
         await asyncio.sleep(0.05)
-        found = cmh_state.inside_task(task.get_coro())["taken"]
+        found = ends.inside_task(task.get_coro())["taken"]
         compare(work.__name__, found, {hex(id(what if lock is None else lock)): "1"}, wanted)
 
 

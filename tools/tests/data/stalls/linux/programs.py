@@ -185,6 +185,11 @@ def polls_timed(is_slow=False):
     two_sides(lambda own, other: poll(own, 600_000), is_slow)
 
 
+def limit_far(is_slow=False):
+    """One of two that wait for each other has a limit of 27 hours, and in the other story of 23."""
+    two_sides(lambda own, other: poll(own, (23 if is_slow else 27) * 3_600_000), False)
+
+
 def selects(is_slow=False):
     two_sides(lambda own, other: select.select([own], [], []), is_slow)
 
@@ -204,6 +209,56 @@ def polls_timer(is_slow=False):
     if is_slow:
         LIBC.timerfd_settime(timer, 0, (ctypes.c_long * 4)(0, 0, 600, 0), None)
     two_sides(lambda own, other: select.select([own, timer], [], []), False)
+
+
+def lock_polled(is_slow=False):
+    """One asks again and again for a lock of a file, which one has who is stopped, or in the other story sleeps."""
+    with open("store", "w", encoding="utf-8"):
+        pass
+
+    def keep():
+        with open("store", encoding="utf-8") as file:
+            fcntl.flock(file, fcntl.LOCK_EX)
+            if is_slow:
+                rest()
+            os.kill(os.getpid(), signal.SIGSTOP)
+
+    def ask():
+        with open("store", encoding="utf-8") as file:
+            while True:
+                time.sleep(0.2)
+                with contextlib.suppress(OSError):
+                    fcntl.flock(file, fcntl.LOCK_EX | fcntl.LOCK_NB)
+                    return
+
+    start("keeper", keep)
+    time.sleep(0.5)
+    start("asker", ask)
+    call_me("waiter")
+    os.waitid(os.P_ALL, 0, os.WEXITED)
+
+
+def ring_beside(is_slow=False):
+    """Two processes wait for each other, and a stranger has an io_uring, which in the other story keeps an end of one's
+    pipe."""
+    mine, theirs = os.pipe(), os.pipe()
+
+    def keep():
+        ring = LIBC.syscall(425, 8, ctypes.create_string_buffer(120))  # io_uring_setup
+        if is_slow:
+            LIBC.syscall(427, ring, 2, (ctypes.c_int * 1)(mine[1]), 1)  # io_uring_register, of files
+        for it in (*mine, *theirs):
+            os.close(it)
+        rest()
+
+    start("starter", start, "stranger", keep)
+    os.wait()
+    start("left", lambda: (os.close(mine[1]), os.close(theirs[0]), os.read(mine[0], 1)))
+    start("right", lambda: (os.close(theirs[1]), os.close(mine[0]), os.read(theirs[0], 1)))
+    for it in (*mine, *theirs):
+        os.close(it)
+    call_me("waiter")
+    os.waitid(os.P_ALL, 0, os.WEXITED)
 
 
 def eventfds(is_slow=False):
@@ -578,10 +633,13 @@ def main():
             os.execv("./stalls", ["stalls", story[4:], "slow" if is_slow else "stuck"])
         if story.startswith("tick_"):
             os.execv("./ticks", ["ticks", story[5:], "slow" if is_slow else "stuck"])
+        if story.startswith("frames_"):
+            os.execv("./frames", ["frames", story[7:], "slow" if is_slow else "stuck"])
         if story.startswith("most_"):
             os.setsid()
             os.execv("./bounds", ["bounds", story[5:], "slow" if is_slow else "stuck"])
-        {**globals(), **vars(importlib.import_module("corners"))}[story](is_slow)
+        more = "servers" if story.startswith("asks_") else "corners"
+        {**globals(), **vars(importlib.import_module(more))}[story](is_slow)
         rest()
     if story == "asks":  # (which runs the collector itself)
         os.wait()
