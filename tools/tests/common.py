@@ -1,10 +1,15 @@
 """What tests of the tools share: dumps that are made and explained in the test's own process, which takes less time."""
+from __future__ import annotations
+
 import contextlib
 import io
 import json
 import os
+import shlex
 import shutil
+import signal
 import sys
+from typing import Any, Callable, NamedTuple, Sequence
 
 sys.dont_write_bytecode = True
 TOOLS = os.path.dirname(os.path.dirname(os.path.realpath(__file__)))
@@ -15,17 +20,49 @@ os.environ["CMH"] = PROGRAM
 from cmh_tools import dump_command, explain_command  # noqa: E402
 from cmh_tools.explain import Explanation  # noqa: E402
 from cmh_tools.proposals import propose  # noqa: E402
+from cmh_tools.sketch import sketch_of  # noqa: E402
+from cmh_tools.stuck import Waits  # noqa: E402
 from plain import plain_edges, plain_roots  # noqa: E402
 
 DUMP, EXPLAIN = ([sys.executable, f"{TOOLS}/{name}"] for name in ("cmh-dump", "cmh-explain"))
-KINDS = ("waits_for_any", "waits_for_all", "unknown", "runs", "ended")
 WORDS = {"waits_for_any": "any", "waits_for_all": "all"}  # how expected ones are written
 ALONE = ["unshare", "--user", "--map-root-user", "--pid", "--mount-proc", "--fork", "--kill-child"]
 
 
+def heed_interrupts():
+    """Takes back that Ctrl-C is ignored, as in a job that a shell has put into the background."""
+    signal.signal(signal.SIGINT, signal.SIG_DFL)
+
+
 def proposals(sketch):
     """Returns the lines of facts that a sketch asks for."""
-    return [it.text() for it in propose(sketch)]
+    return [line.text() for line in propose(Waits(sketch))]
+
+
+class Truth(NamedTuple):
+    """What the story of a kept case says: the roots as sets of names, who is behind them, and of whom it says nothing
+    that settles it. All others aren't stuck."""
+
+    roots: list
+    behind: set
+    open: set
+
+    def stuck(self):
+        return set().union(self.behind, *self.roots)
+
+
+def truth_of(text):
+    """Returns the truth of the text of an `expected`, or None where its states are refused."""
+    rows = [shlex.split(line) for line in text.split("\n") if line.startswith(("truth ", "refused "))]
+    if [row[0] for row in rows] == ["refused"]:
+        return None
+    words = "root", "behind", "nobody", "open"
+    roots, behind, nobody, unsettled = ([row[2:] for row in rows if row[:2] == ["truth", word]] for word in words)
+    names = [name for row in roots + behind + unsettled for name in row]
+    is_whole = len(roots + behind + nobody + unsettled) == len(rows) > 0 and len(set(names)) == len(names)
+    if not is_whole or nobody not in ([], [[]]) or nobody and roots or behind and not roots or [] in roots:
+        raise ValueError(f"{rows} say no truth")
+    return Truth([set(row) for row in roots], *({name for row in some for name in row} for some in (behind, unsettled)))
 
 
 def without_heap(text):
@@ -33,32 +70,33 @@ def without_heap(text):
     return "".join(line for line in text.splitlines(True) if not line.startswith("# cmh "))
 
 
-def call(command, words):
+def call(command: Callable[[Sequence[str]], int], words: Sequence[str]) -> Ran:
     """Calls a tool's command, and returns what it says."""
     out, err = (io.TextIOWrapper(io.BytesIO(), encoding="utf-8", write_through=True) for _ in range(2))
     with contextlib.redirect_stdout(out), contextlib.redirect_stderr(err):
         try:
-            status = command(words)
+            status: Any = command(words)
         except SystemExit as ended:  # (argparse ends so where the words are refused)
             status = ended.code
-    return Ran(status, out.buffer.getvalue().decode(), err.buffer.getvalue().decode())
+    said = [it.buffer.getvalue().decode() for it in (out, err) if isinstance(it.buffer, io.BytesIO)]
+    return Ran(status, *said)
 
 
 class ToolCase(Case):
     """A test of the tools, with a folder of its own, in which one dump is."""
 
-    def setUp(self):
+    def setUp(self) -> None:
         self.work = self.folder()
         self.dump, self.notes_path = f"{self.work}/dump.json", f"{self.work}/dump.notes.json"
 
-    def write(self, name, text):
+    def write(self, name: str, text: str | bytes) -> str:
         return write(f"{self.work}/{name}", text)
 
-    def is_alone(self):
+    def is_alone(self) -> bool:
         """Whether no other process of the machine is seen."""
         return "CMH_ALONE" in os.environ
 
-    def tries_alone(self):
+    def tries_alone(self) -> bool:
         """Runs the test that calls this anew where no other process of the machine is seen, if that can be had. Returns
         whether it has: what other processes have open is none of the test's."""
         if self.is_alone() or not shutil.which("unshare") or run([*ALONE, "true"]).status:
@@ -73,15 +111,19 @@ class ToolCase(Case):
         texts = [state if isinstance(state, (str, bytes)) else json.dumps(state) for state in states]
         paths = [self.write(f"state-{at}", text) for at, text in enumerate(texts)]
         more = ["--facts", self.write("facts", facts)] if facts else []
-        for path in (self.dump, self.notes_path):
+        for path in (self.dump, self.notes_path, f"{self.work}/dump.likely.json"):
             with contextlib.suppress(FileNotFoundError):
                 os.remove(path)
         return call(dump_command.command, [system, *paths, *more, "-o", self.dump])
 
     def explain(self, *words):
-        return call(explain_command.command, [self.dump, *words])
+        """Returns what cmh-explain says of the dump: all of it if no words say what."""
+        return call(explain_command.command, [self.dump, *(words or ["--all"])])
 
-    def says(self, name, ran, status, *words):
+    def first_screen(self):
+        return call(explain_command.command, [self.dump])
+
+    def says(self, name: str, ran: Ran, status: int, *words: str) -> None:
         """A command ends with a status, and what it prints has some words."""
         self.same(f"{name}: its status", ran.status, status)
         self.has(f"{name}: its words", ran.out + ran.err, *words)
@@ -92,25 +134,25 @@ class ToolCase(Case):
 
     def kinds(self):
         """Returns what the notes say of each process: its kind, and whom it waits for."""
-        found = {}
-        for row in self.notes()["sketch"]["processes"]:
-            kind = next(key for key in KINDS if key in row)
-            found[row["name"]] = (kind, *(row[kind] if kind.startswith("waits") else ()))
-        return found
+        processes = sketch_of(self.notes()["sketch"], "the notes").processes
+        return {process.name: (process.kind, *(process.whom if process.kind.startswith("waits") else ()))
+                for process in processes}
 
 
 class RootsCase(Case):
     """A test that compares the roots of an answer with those of a plain search."""
 
     def try_roots(self, name, sketch, dump, stuck):
-        """The roots of a dump, and who is behind them, are those of the sketch, of which some are stuck."""
+        """The certain roots of a dump, and who is behind them, are those of the sketch, of which some are stuck."""
         names = [row["name"] for row in sketch["processes"]]
-        found = Explanation(dump).roots
+        this = Explanation(dump)
+        found, numbers = this.roots, [at for at in range(len(this.roots.roots)) if this.is_certain(at)]
         roots, behind = plain_roots(plain_edges(sketch, stuck))
-        self.same(f"the roots of {name}", {frozenset(names[at] for at in root) for root in found.roots}, roots)
+        self.same(f"the roots of {name}", {frozenset(names[at] for at in found.roots[it]) for it in numbers}, roots)
         alone = {names[at]: {frozenset(names[it] for it in found.roots[number])}
-                 for number, some in enumerate(found.behind) for at in some}
+                 for number in numbers for at in found.behind[number] if at not in this.likely}
         by_one = {it: over for it, over in behind.items() if len(over) == 1}
         self.same(f"who is behind one root of {name}", alone, by_one)
         shared = {it for it, over in behind.items() if len(over) > 1}
-        self.same(f"who is behind several roots of {name}", {names[at] for at in found.shared}, shared)
+        several = {names[at] for at in found.shared if at not in this.likely}
+        self.same(f"who is behind several roots of {name}", several, shared)

@@ -15,8 +15,8 @@ TRIES = 5
 
 
 class Answer(NamedTuple):
-    """What the tools say of states: the status and text of cmh-explain, how many are stuck, undecided and not stuck,
-    and who is stuck."""
+    """What the tools say of states: the status and text of cmh-explain, how many are stuck, undecided (likely ones with
+    them) and not stuck, and who is stuck."""
 
     status: int
     text: str
@@ -32,14 +32,16 @@ def answer(system, raws, facts=None):
         status, text, _ = run([*EXPLAIN, f"{room}/dump.json", "--all"])
         report = run([PROGRAM, "analyse"], read(f"{room}/dump.json")).out
         names = {short: name for name, short in json.loads(read(f"{room}/dump.notes.json"))["names"].items()}
-    head = re.match(r"(\d+) process(?:es)?: (\d+) stuck, (\d+) undecided, (\d+) not stuck", text.replace(",\n", ", "))
+    head = re.match(r"[A-Z ]+: \d+ process(?:es)?: (\d+) stuck(?:, (\d+) likely stuck)?, (\d+) undecided, "
+                    r"(\d+) not stuck", text.replace(",\n", ", "))
+    certain, likely, undecided, well = (int(number or 0) for number in head.groups())
     stuck = sorted(names.get(it, it) for it in re.findall(r"^deadlocked (\S+) ", report, re.M))
-    return Answer(status, text, tuple(map(int, head.groups()[1:])), stuck)
+    return Answer(status, text, (certain, likely + undecided, well), stuck)
 
 
 def roots_of(text):
-    """The members of each root of an answer."""
-    parts = re.findall(r"^Root .*\n((?:  .*\n)+)", text, re.M)
+    """The members of each certain root of an answer."""
+    parts = re.findall(r"^Root \d+: .*\n((?:  .*\n)+)", text, re.M)
     return sorted(sorted(re.findall(r"^  (\S.*?) (?:on \S+ )?waits for", part, re.M)) for part in parts)
 
 

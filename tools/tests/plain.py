@@ -1,5 +1,6 @@
 """Random sketches, and what is right of them by the definition: a plain search that shares nothing with the tools."""
 import itertools
+from typing import Dict, FrozenSet, Set, Tuple
 
 
 def plain_stuck(sketch, unknown_in):
@@ -45,7 +46,7 @@ def plain_edges(sketch, stuck):
     return edges
 
 
-def plain_roots(edges):
+def plain_roots(edges: Dict[str, Set[str]]) -> Tuple[Set[FrozenSet[str]], Dict[str, Set[FrozenSet[str]]]]:
     """Returns the components that no edge leaves, and for each other one the roots that it reaches."""
     reach = {name: reached(edges, name) for name in edges}
     roots = {frozenset(it) for it in reach.values() if all(reach[other] == it for other in it)}
@@ -53,13 +54,38 @@ def plain_roots(edges):
     return roots, {name: {root for root in roots if root <= reach[name]} for name in edges if name not in members}
 
 
-def reached(edges, start):
+def reached(edges: Dict[str, Set[str]], start: str) -> Set[str]:
     found = {start}
     while True:
         more = {other for name in found for other in edges[name]} - found
         if not more:
             return found
         found |= more
+
+
+def plain_likely(sketch):
+    """Returns a sketch in which those are stuck too who are likely to be: without unknown ones in lists of which any is
+    enough, as far as somebody else is left."""
+    sent = set(map(tuple, sketch["in_transit"]))
+    unknown = {row["name"] for row in sketch["processes"] if "unknown" in row}
+    certain = plain_stuck(sketch, False)
+    rows = []
+    for row in sketch["processes"]:
+        whom = row.get("waits_for_any", ())
+        left = [name for name in whom if name not in unknown]
+        is_sent = any((name, row["name"]) in sent for name in whom)
+        is_changed = len(whom) > max(1, len(left)) and not is_sent and row["name"] not in certain
+        rows.append({**row, "waits_for_any": left} if is_changed and {*left} - {row["name"]} else row)
+    stuck = plain_stuck({**sketch, "processes": rows}, False)
+    made = [new if new["name"] in stuck else row for row, new in zip(sketch["processes"], rows)]
+    return {**sketch, "processes": made}
+
+
+def likely_roots(sketch):
+    """Returns the roots of a sketch, certain and likely ones, and for each other one the roots that it reaches."""
+    likely, certain = plain_likely(sketch), plain_stuck(sketch, False)
+    edges = plain_edges(likely, plain_stuck(likely, False))
+    return plain_roots({name: others & certain if name in certain else others for name, others in edges.items()})
 
 
 def random_sketch(random):
