@@ -2,8 +2,9 @@
 # end by themselves too, ten minutes later, where a run is killed.
 
 work=$(mktemp -d)
-started=()
-trap 'kill "${started[@]}" 2> /dev/null || true; wait; rm -rf "$work"' EXIT
+started=() servers=()
+end_all() { kill "${started[@]}" 2> /dev/null || true; kill -QUIT "${servers[@]}" 2> /dev/null || true; wait; }
+trap 'end_all; rm -rf "$work"' EXIT
 
 # Runs $TAKER on what stalls, where it is set, in place of the record's own reading: with the system, and whom to take.
 hand_over() { [ -z "${TAKER:-}" ] || { "$TAKER" "$@"; exit; }; }
@@ -77,3 +78,39 @@ take_twice() {
     cat "$work/first" "$work/second"
 }
 is_same() { places=$("$1" "$work/first") && [ -n "$places" ] && [ "$places" = "$("$1" "$work/second")" ]; }
+
+# What runs a command as nobody, where this is root: a server of a database refuses root.
+nobody=()
+[ "$(id -u)" != 0 ] || nobody=(setpriv --reuid=65534 --regid=65534 --clear-groups env "HOME=$work")
+
+# Starts a PostgreSQL server for this run alone, with more options, and names it for its clients.
+own_postgres() {
+    bin=$(ls -d /usr/lib/postgresql/*/bin "$(dirname "$(command -v initdb || echo /)")" 2> /dev/null | head -n 1)
+    mkdir -m 777 "$work/postgres" "$work/socket"
+    chmod 755 "$work"
+    "${nobody[@]}" "$bin/initdb" -D "$work/postgres/data" -U shop --auth=trust --no-locale -E UTF8 -N > "$work/log"
+    export PGHOST=$work/socket PGPORT=$port PGUSER=shop PGDATABASE=postgres
+    "${nobody[@]}" timeout 900 "$bin/postgres" -D "$work/postgres/data" -k "$PGHOST" -p "$port" -F -h 127.0.0.1 \
+        -c max_connections=40 "$@" > "$work/log" 2>&1 & servers+=($!)
+    until psql -qXAtc 'select 1' > /dev/null 2>&1; do await_server $!; done
+}
+# Waits a moment for a server that starts, or prints why it has ended.
+await_server() {
+    kill -0 "$1" || { cat "$work/log" >&2; exit 1; }
+    sleep 0.1
+}
+
+# The same of MariaDB, which its clients find by a file of options. Its user is root, without a password.
+own_mariadb() {
+    mkdir -m 777 "$work/mariadb"
+    chmod 755 "$work"
+    "${nobody[@]}" mariadb-install-db --no-defaults --datadir="$work/mariadb/data" --skip-test-db \
+        --auth-root-authentication-method=normal > "$work/log" 2>&1
+    "${nobody[@]}" timeout 900 "$(command -v mariadbd || echo /usr/sbin/mariadbd)" --no-defaults \
+        --datadir="$work/mariadb/data" --socket="$work/mariadb/s" --port="$port" --bind-address=127.0.0.1 \
+        --pid-file="$work/mariadb/pid" --innodb-flush-log-at-trx-commit=0 "$@" > "$work/log" 2>&1 & servers+=($!)
+    mkdir -p "$work/home"
+    printf '[client]\nuser=root\nprotocol=tcp\nhost=127.0.0.1\nport=%s\n' "$port" > "$work/home/.my.cnf"
+    export HOME=$work/home
+    until mariadb -e 'select 1' > /dev/null 2>&1; do await_server $!; done
+}
