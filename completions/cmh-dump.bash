@@ -2,8 +2,8 @@
 
 _cmh_dump() {
     local word=${COMP_WORDS[COMP_CWORD]} before=${COMP_WORDS[COMP_CWORD - 1]}
-    local options='--facts --guesses --output --save --pid --seconds --stacks --help --version'
-    local systems='erlang go jvm linux mpi python rabbitmq sketch both join check'
+    local options='--facts --output --save --pid --seconds --stacks --help --version'
+    local systems='erlang go jvm linux mariadb mpi postgres python rabbitmq sketch both join check'
     COMPREPLY=()
     case $before in
         --facts | --output | -o | --save)

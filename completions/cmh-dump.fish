@@ -1,8 +1,7 @@
 # Completions of cmh-dump for fish. Put this file into ~/.config/fish/completions.
 
-complete -c cmh-dump -n __fish_use_subcommand -f -a 'erlang go jvm linux mpi python rabbitmq sketch both join check'
+complete -c cmh-dump -n __fish_use_subcommand -f -a 'erlang go jvm linux mariadb mpi postgres python rabbitmq sketch both join check'
 complete -c cmh-dump -l facts -r -F -d 'Facts, which no state shows'
-complete -c cmh-dump -l guesses -d 'Guess the facts that are asked for'
 complete -c cmh-dump -s o -l output -r -F -d 'The dump to write'
 complete -c cmh-dump -l pid -x -a '(__fish_complete_pids)' -d 'Processes of this machine to read'
 complete -c cmh-dump -l seconds -x -d 'The time between the two readings'

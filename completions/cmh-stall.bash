@@ -2,9 +2,9 @@
 
 _cmh_stall() {
     local word=${COMP_WORDS[COMP_CWORD]} before=${COMP_WORDS[COMP_CWORD - 1]}
-    local options='--seconds --with --guesses --stacks --kill --heap --yes --cookie-file'
-    options+=' --output --redact --help --version'
-    local systems='linux jvm go python erlang mpi rabbitmq'
+    local options='--seconds --with --stacks --kill --heap --yes --cookie-file'
+    options+=' --output --redact --true --all --why --help --version'
+    local systems='linux jvm go python erlang mpi rabbitmq postgres mariadb'
     COMPREPLY=()
     [[ $before != --seconds ]] || return
     case $before:$word in

@@ -5,6 +5,7 @@ A script of tests is a file whose classes derive from Case, and that ends in `ma
 """
 from __future__ import annotations
 
+import glob
 import os
 import re
 import resource
@@ -20,6 +21,7 @@ from typing import Any, Iterable, NamedTuple, NoReturn, Sequence
 TOP = os.path.dirname(os.path.dirname(os.path.realpath(__file__)))
 PROGRAM = os.path.abspath(os.environ.get("CMH") or f"{TOP}/bin/cmh")
 SECONDS = 900  # no command of a test takes so long, also on a busy machine
+PYTHONS = [f"3.{minor}" for minor in range(8, 14)]  # by which the tools run
 CLOSING = re.compile(r"(\d+) passed, (\d+) failed(?:, (\d+) skipped)?\n?")
 
 
@@ -164,6 +166,41 @@ def main(words: Sequence[str] | None = None) -> NoReturn:
 def closing(passed: int, failed: int, skipped: int = 0) -> str:
     """The line that a script of tests ends with."""
     return f"{passed} passed, {failed} failed" + (f", {skipped} skipped" if skipped else "")
+
+
+def build_preload(source: str, folder: str) -> str | None:
+    """Makes a library of a C file, to be loaded before the C library, or returns nothing if there is no compiler."""
+    compilers = [name for name in (os.environ.get("CC"), "cc", "gcc", "clang") if name and shutil.which(name)]
+    if not compilers:
+        return None
+    made = f"{folder}/{os.path.basename(source)[:-len('.c')]}.so"
+    words = [compilers[0], "-shared", "-fPIC", "-O1", "-o", made, os.path.join(TOP, source), "-ldl"]
+    subprocess.run(words, check=True, stdin=subprocess.DEVNULL)
+    return made
+
+
+# Several Pythons
+
+
+def pythons() -> dict[str, str]:
+    """Returns the Pythons that are there, by those of PYTHONS: the one that runs this, and others in usual places."""
+    found = {}
+    for version in PYTHONS:
+        places = [shutil.which(f"python{version}"), f"/usr/bin/python{version}", f"/usr/local/bin/python{version}",
+                  *sorted(glob.glob(os.path.expanduser(f"~/.pyenv/versions/{version}.*/bin/python3")))]
+        own = [sys.executable] if version_of(sys.executable) == version else []
+        there = [it for it in [*own, *filter(None, places)] if version_of(it) == version]
+        found.update({version: there[0]} if there else {})
+    return found
+
+
+def version_of(python: str) -> str:
+    """Returns the version of a Python as 3.11, or nothing if it doesn't run: some only say how to install it."""
+    try:
+        ran = run([python, "-c", "import sys; print('%d.%d' % sys.version_info[:2])"])
+    except OSError:
+        return ""
+    return ran.out.strip() if ran.status == 0 else ""
 
 
 # Several scripts
