@@ -19,6 +19,7 @@ import shutil
 import subprocess
 import sys
 import tempfile
+from typing import Callable, Dict, List, Optional, Sequence
 
 from measure import MIB, SEVERAL, dump, heading, instructions, least, milliseconds, peak, processors, table
 from harness import write
@@ -35,59 +36,62 @@ KNOT = 31  # how many each of a knot waits for in it: with one more for each of 
 # Families: for each process its dependents, or None where it is active
 
 
-def ring(size):
+Waiting = Sequence[Optional[Sequence[int]]]
+
+
+def ring(size: int) -> Waiting:
     """Each waits for the next 16."""
     return [[(p + step) % size for step in range(1, EACH + 1)] for p in range(size)]
 
 
-def dense(size):
+def dense(size: int) -> Waiting:
     """A 16th as many processes, that wait for all of those."""
     return [list(range(size // EACH))] * (size // EACH)
 
 
-def scattered(size):
+def scattered(size: int) -> Waiting:
     """Each waits for 16 others by chance; 1 in 100 is active."""
     chance = random.Random(size)
     active = set(chance.sample(range(size), size // 100))
     return [None if p in active else chance.sample(range(size), EACH) for p in range(size)]
 
 
-def alone(size):
+def alone(size: int) -> Waiting:
     """Nobody waits for anybody."""
     return [[] for _ in range(size)]
 
 
-def path(size):
+def path(size: int) -> Waiting:
     """Each waits for the next, the last is active."""
     return [[p + 1] for p in range(size - 1)] + [None]
 
 
-def chain(size):
+def chain(size: int) -> Waiting:
     """Each waits for the next, the last is idle."""
     return [[p + 1] for p in range(size - 1)] + [[]]
 
 
-def up(size):
+def up(size: int) -> Waiting:
     """Each waits for the 16 after it, the last is active."""
     return [list(range(p + 1, min(size, p + 1 + EACH))) for p in range(size - 1)] + [None]
 
 
-def knot(count):
+def knot(count: int) -> List[List[int]]:
     return [[(p + step) % count for step in range(1, KNOT + 1)] for p in range(count)]
 
 
-def sinks(size):
+def sinks(size: int) -> Waiting:
     """Half are one knot, and each of it waits for one of the other half too, who wait for nobody."""
     half = size // 2
     return [row + [half + p] for p, row in enumerate(knot(half))] + [[] for _ in range(half)]
 
 
-def followers(size):
+def followers(size: int) -> Waiting:
     """Half are one knot, and each of the other half waits for one of it."""
     return knot(size // 2) + [[p] for p in range(size // 2)]
 
 
-FAMILIES = {
+FAMILIES: Dict[str, Callable[[int], Waiting]] = {
     "ring": ring,
     "dense": dense,
     "random": scattered,
@@ -100,7 +104,7 @@ FAMILIES = {
 }
 
 
-def options(family, size):
+def options(family: str, size: int) -> List[str]:
     """The plan: that of the documents for a dump that takes long, where the default plan takes minutes."""
     return ["--workers", "64", "--cuts", ",".join([str(size // 64)] * 64)] if family == "up" else []
 

@@ -10,7 +10,7 @@ import re
 import subprocess
 import sys
 import time
-from typing import Iterable, Iterator, Sequence
+from typing import Any, Dict, Iterable, Iterator, Optional, Sequence
 
 sys.dont_write_bytecode = True
 sys.path.insert(0, os.path.join(os.path.dirname(os.path.dirname(os.path.realpath(__file__))), "tests"))
@@ -24,13 +24,13 @@ SUBREAPER = 36  # PR_SET_CHILD_SUBREAPER of Linux
 LOOPS = ":".join(f"glibc.cpu.x86_rep_{it}_threshold=0x40000000" for it in ("stosb", "movsb"))
 
 
-def dump(waiting, sites=1):
+def dump(waiting: Sequence[Optional[Sequence[int]]], sites: int = 1) -> bytes:
     """A dump in which process p has the dependents `waiting[p]`, or is active where that is None."""
     processes = [{"name": f"p{p}", "site": f"s{p % sites}", **state(row)} for p, row in enumerate(waiting)]
     return json.dumps({"version": 1, "sites": [f"s{s}" for s in range(sites)], "processes": processes}).encode()
 
 
-def state(dependents):
+def state(dependents: Optional[Sequence[int]]) -> Dict[str, Any]:
     if dependents is None:
         return {"state": "active"}
     return {"state": "idle", "dependents": [f"p{d}" for d in dependents]}

@@ -2,7 +2,7 @@
 """Asks a service at a steady rate, and logs each request: when it began, the seconds that it took, and whether it was
 answered. It ends once its standard input does.
 
-usage: client.py tcp|http|amqp PORT REQUESTS_A_SECOND LOG
+usage: client.py tcp|http|amqp|postgres|mariadb PORT REQUESTS_A_SECOND LOG
 """
 from __future__ import annotations
 
@@ -62,6 +62,30 @@ def amqp(port: int) -> tuple[Ask, Callable[[], object]]:
     return ask, connection.close
 
 
+def postgres(port: int) -> tuple[Ask, Callable[[], object]]:
+    import psycopg2
+    return sql(psycopg2.connect(host="127.0.0.1", port=port, user="shop", dbname="postgres"))
+
+
+def mariadb(port: int) -> tuple[Ask, Callable[[], object]]:
+    import pymysql
+    return sql(pymysql.connect(host="127.0.0.1", port=port, user="root", database="shop"))
+
+
+def sql(connection: Any) -> tuple[Ask, Callable[[], object]]:
+    """Each request is a transaction that changes one of three rows, for which the others may wait."""
+    cursor = connection.cursor()
+
+    def ask(text: str) -> str:
+        cursor.execute("update stock set said = %s where article = %s", (text, int(text.split(".")[1]) % 3))
+        cursor.execute("select said from stock where article = %s", (int(text.split(".")[1]) % 3,))
+        said = str(cursor.fetchone()[0])
+        connection.commit()
+        return said
+
+    return ask, connection.close
+
+
 class Client:
     """One connection after another, on which requests are made one after another."""
 
@@ -101,7 +125,7 @@ def run(client: Client, name: str, interval: float, log: int) -> None:
 
 def main(kind: str, port: str, rate: str, path: str) -> None:
     log = os.open(path, os.O_WRONLY | os.O_CREAT | os.O_APPEND, 0o600)
-    connect: Any = {"tcp": tcp, "http": web, "amqp": amqp}[kind]
+    connect: Any = {"tcp": tcp, "http": web, "amqp": amqp, "postgres": postgres, "mariadb": mariadb}[kind]
     threads = []
     for at in range(THREADS):
         client = Client(connect, int(port), -1 if kind == "amqp" else EACH)
