@@ -11,7 +11,7 @@ from __future__ import annotations
 import functools
 from dataclasses import dataclass, field, replace
 from itertools import zip_longest
-from typing import Any, Dict, List, Optional, Set, Tuple
+from typing import Any, Dict, FrozenSet, List, Optional, Set, Tuple
 
 from .files import escaped, short_name
 from .model import Anybody, Part, Sign, Wakers, unseen
@@ -211,9 +211,13 @@ def parts_of_both(first: List[Part], second: List[Part]) -> List[Part]:
     come."""
     if len(first) == 1 and len(second) == 1:
         return [part_of_both(first[0], second[0])]
-    later = {tuple(part[0].names()) if part else (): part for part in second}
-    keys = [tuple(part[0].names()) if part else () for part in first]
-    return [part_of_both(part, later[key]) for part, key in zip(first, keys) if key in later]
+    later = {names_of_part(part): part for part in second}
+    return [part_of_both(part, later[key]) for part, key in zip(first, map(names_of_part, first)) if key in later]
+
+
+def names_of_part(part: Part) -> FrozenSet[str]:
+    """Returns the first ones of whom a part needs one, whatever their order."""
+    return frozenset(part[0].names()) if part else frozenset()
 
 
 def part_of_both(first: Part, second: Part) -> Part:

@@ -228,7 +228,7 @@ class Service:
         service, _, site = self.name.partition("@")
         note = f"consumes {', '.join(self.queues)}" if self.queues else "consumes nothing"
         return {"site": site or None, "frames": [service], "operation": "consume" if self.queues else "publish",
-                "objects": self.queues, "note": note, "count": None if self.is_double else self.count}
+                "objects": sorted(self.queues), "note": note, "count": None if self.is_double else self.count}
 
     def grown_since(self, earlier: Service) -> Tuple[bool, bool]:
         """Returns whether it has sent something since an earlier state, and whether it has got something."""
@@ -244,7 +244,7 @@ class Service:
     def places(self) -> List[str]:
         """Returns what tells its place from others where it may be at work: whoever publishes to a queue doesn't end
         that, so these aren't what facts say to be held."""
-        return [f"queue={queue}" for queue in self.queues]
+        return [f"queue={queue}" for queue in sorted(self.queues)]
 
     @property
     def is_at_work(self) -> bool:
