@@ -31,7 +31,7 @@ MORE = f"""options after SYSTEM:
   --facts FILE            {FACTS}
   -o DUMP, --output DUMP  {OUTPUT}
 
-DUMPS.md, in the documents of cmh, has the commands that print a state.
+STALLS.md, in the documents of cmh, leads to the commands that print the state of each system.
 
 status: 0 the dump is written or accepted, 1 the input is refused, 2 the command line is, 4 out of memory or an I/O
 error"""

@@ -369,7 +369,7 @@ def write_facts(folder: Folder, path: str, sketch: Sketch, asked: Sequence[Propo
         return
     names = [shown(it.name) for it in sketch.processes]
     more = [f"# and {len(names) - MOST_NAMES:,} more"] if names[MOST_NAMES:] else []
-    text = ["# Complete a line, and take away the # before it. DUMPS.md says how facts are written.", *lines,
+    text = ["# Complete a line, and take away the # before it. FACTS.md says how facts are written.", *lines,
             "# The names:", *(f"#   {name}" for name in names[:MOST_NAMES]), *more]
     folder.write([(path, "".join(f"{line}\n" for line in text))])
 
