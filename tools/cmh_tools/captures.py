@@ -38,8 +38,7 @@ SYSTEMS = {
     "jvm": System("the JVM stops at a safepoint while it prints its threads: twice, 0.6 s with 60 million objects. "
                   "--heap shows more",
                   {"jstack": "default-jdk-headless"}),
-    "go": System("the program stops while it prints its goroutines: twice, 0.6 s with 100,000 of them. Its memory is "
-                 "read too, if it runs here, which stops nothing"),
+    "go": System("the program stops while it prints its goroutines: twice, 0.6 s with 100,000 of them"),
     "python": System("nothing is stopped: a signal wakes the thread of cmh_state, and a system call of the main thread "
                      "may return early"),
     "erlang": System("no process is held, but each while its own stack is printed",
@@ -211,8 +210,7 @@ def capture_for(system: str, targets: List[str], may_kill: bool, may_dump: bool)
     a signal, and a Go process that is named by its number, are taken as Linux sees them, since nothing is sent to a
     process that may end by it: unless people ask."""
     if may_kill:
-        return Capture(system, ["--kill", *targets], "its memory is read, which stops nothing; then SIGQUIT ends the "
-                       "program, which writes its goroutines")
+        return Capture(system, ["--kill", *targets], "SIGQUIT ends the program, which writes its goroutines")
     if system == "jvm" and may_dump:
         return Capture(system, ["--heap", *targets], HEAP)
     if system == "mpi":
