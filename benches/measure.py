@@ -112,7 +112,7 @@ def instructions(words, source):
     return int(found[1]) if found else None
 
 
-def machine():
+def machine() -> str:
     with open("/proc/cpuinfo", encoding="utf-8") as info:
         models = [line.split(":")[1].strip() for line in info if line.startswith("model name")]
     model = models[0] if models else platform.machine()
