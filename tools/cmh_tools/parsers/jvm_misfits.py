@@ -39,6 +39,8 @@ def misfit(thread: Thread, dump: Dump) -> str:
     top = thread.frames[0] if thread.frames else None
     if thread.number and not thread.state and not thread.is_virtual:
         return f"{thread.place}: no state follows this line"
+    if thread.number and not thread.is_virtual and thread.has_top != bool(thread.frames):
+        return f"{thread.place}: this line doesn't fit whether frames follow it"
     wanted = TOPS.get(thread.detail) if thread.state in ("WAITING", "TIMED_WAITING") else None
     if wanted and (top is None or not wanted.fullmatch(top.method)):
         return f"{thread.place}: its state is '{thread.state} ({thread.detail})', and its first frame is another"

@@ -20,7 +20,7 @@ HEADER = re.compile(
     r'"(?P<name>.*)"(?: #(?P<number>\d+))?(?: \[\d+\])?(?P<daemon> daemon)?(?: prio=\d+)?(?: os_prio=-?\d+)?'
     r"(?: cpu=(?P<cpu>\d+(?:\.\d+)?)ms)?(?: elapsed=(?P<elapsed>\d+(?:\.\d+)?)s)?(?: allocated=\S+)?"
     r"(?: defined_classes=\d+)? tid=(?P<tid>\w+)(?: nid=(?:(?P<nid>0x[0-9a-f]{1,8}|\d{1,10})|\w+))?"
-    r"(?P<status> [^\[]*)?(?:\[\w+\])?\s*"
+    r"(?P<status> [^\[]*)?(?:\[0x0*(?P<top>\w*)\])?\s*"
 )
 STATE = re.compile(r"\s+java\.lang\.Thread\.State: (\w+)(?: \((.*)\))?\s*")
 FRAME = re.compile(r"\s+at (?:[\w.@$-]*/{1,2}(?!0x))?(?P<method>[^()]+\.[^().]+)\((?P<place>.*)\)\s*")
@@ -76,12 +76,13 @@ Stack = Tuple[Tuple[str, str, Optional[int]], ...]
 @dataclass
 class Thread:
     """A thread of one state. `key` tells it from others of its JVM, `identity`, if it isn't empty, from those of other
-    JVMs too, and `native` is its number in the kernel; `place` is where it was read. `parked_class` is the class of
-    what it is parked at, `monitors` has the class of each monitor under its frames, or nothing where that isn't shown,
-    and `owned` has the class of each lock that it owns, if `lists_owned` says that these are printed.
-    By another state, if its frames are the same there, `same_as` has the objects that it waited at in the first one,
-    `has_stood` says that it has used no processor time, and `has_ticked` that it has used some. `is_closed` says that
-    no more frames may follow in its text, and `stack` is what `stack_of` has found."""
+    JVMs too, and `native` is its number in the kernel; `place` is where it was read, and `has_top` says that by its
+    first line it has frames. `parked_class` is the class of what it is parked at, `monitors` has the class of each
+    monitor under its frames, or nothing where that isn't shown, and `owned` has the class of each lock that it owns, if
+    `lists_owned` says that these are printed. By another state, if its frames are the same there, `same_as` has the
+    objects that it waited at in the first one, `has_stood` says that it has used no processor time, and `has_ticked`
+    that it has used some. `is_closed` says that no more frames may follow in its text, and `stack` is what `stack_of`
+    has found."""
 
     name: str
     key: str
@@ -92,6 +93,7 @@ class Thread:
     state: str = ""
     detail: str = ""
     status: str = ""
+    has_top: bool = False
     cpu: Optional[str] = None
     elapsed: str = ""
     is_virtual: bool = False
@@ -337,6 +339,7 @@ class PrintReader:
         native = head["nid"] or ""
         native = str(int(native, 16)) if native.startswith("0x") else native
         thread = Thread(head["name"], key, place, number, head["tid"], native, status=status,
-                        cpu=head["cpu"], elapsed=head["elapsed"] or "", is_daemon=bool(head["daemon"]))
+                        has_top=bool(head["top"]), cpu=head["cpu"], elapsed=head["elapsed"] or "",
+                        is_daemon=bool(head["daemon"]))
         self.dump.threads.append(thread)
         return thread
