@@ -136,11 +136,12 @@ class Likely:
 
     def line_on(self, process: Process) -> str:
         """Returns the line that those who are left of its wakers are all who may end the wait of a process."""
-        left = [list(dict.fromkeys(name for wakers in part for name in self.decision.left_of(wakers, part)))
-                for part in process.parts]
-        names = list(dict.fromkeys(name for part in left for name in part))
+        left = (name for part in process.parts for wakers in part for name in self.decision.left_of(wakers, part))
+        names: Dict[str, None] = {}
+        while len(names) <= MOST and (name := next(left, None)) is not None:  # (many may share a long list)
+            names[name] = None
         words = [OTHERS] if len(names) > MOST else names
-        kind = "all" if len(left) > 1 else "any"
+        kind = "all" if len(process.parts) > 1 else "any"
         place = [word_of(place_name(process)), "of", word_of(process.name)]
         return " ".join([*place, *([word_of(process.operation)] if process.operation else []), "->", kind,
                          *map(word_of, words)])
