@@ -2,6 +2,7 @@
 elsewhere."""
 from __future__ import annotations
 
+import itertools
 import os
 import re
 import shlex
@@ -52,8 +53,7 @@ class Screen:
         self.style, self.width = this.style, min(WIDTH, this.style.width)
         self.system = this.dump.sketch.system
         self.cures = Cures(this)
-        self.members = [set(members) for members in this.roots.roots[:ROOTS]]
-        self.known: Dict[Tuple[int, ...], Dict[int, None]] = {}
+        self.known: Dict[Tuple[int, ...], Tuple[Dict[int, None], Optional[int]]] = {}
         self.prefix = prefix_of([process.name for process in this.waits.processes])
 
     def text(self) -> str:
@@ -213,25 +213,31 @@ class Screen:
     def whom(self, index: int) -> str:
         if self.waits.kinds[index] not in (ANY, ALL):
             return "nobody"
-        others = self.others_of(tuple(self.waits.left_of(index)))
-        root = self.this.roots.root_of.get(index)
-        if root is not None and root < ROOTS and len(others) > 2 and {*others, index} == self.members[root]:
+        others, root = self.others_of(tuple(self.waits.left_of(index)))
+        number, roots = len(others) - (index in others), self.this.roots
+        is_same = root is not None and root == roots.root_of.get(index) and number + 1 == len(roots.roots[root])
+        if is_same and len(others) > 2:
             return f"{'all' if self.waits.kinds[index] == ALL else 'any'} {OTHERS}"
-        names = [self.name(other) for other in others if other != index] or ["itself"] * bool(others)
-        last = " and " if self.waits.kinds[index] == ALL else " or "
-        return self.some(names, last) or "nobody"
+        first = itertools.islice((other for other in others if other != index), NAMES + 1)
+        names = list(map(self.name, first)) or ["itself"] * bool(others)
+        return self.some(names, " and " if self.waits.kinds[index] == ALL else " or ", number) or "nobody"
 
-    def others_of(self, nodes: Tuple[int, ...]) -> Dict[int, None]:
-        """Returns for whom one waits by some nodes, once for all that share these."""
+    def others_of(self, nodes: Tuple[int, ...]) -> Tuple[Dict[int, None], Optional[int]]:
+        """Returns for whom one waits by some nodes, once for all that share these, and the root that has all of them.
+        """
         if nodes not in self.known:
             found = self.waits.without_hubs(nodes)
-            self.known[nodes] = dict.fromkeys(other for other in found if self.waits.kinds[other] != ENDED)
+            others = dict.fromkeys(other for other in found if self.waits.kinds[other] != ENDED)
+            over = {self.this.roots.root_of.get(other) for other in others}
+            self.known[nodes] = others, over.pop() if len(over) == 1 else None
         return self.known[nodes]
 
-    def some(self, names: Iterable[str], last: str = ", ") -> str:
+    def some(self, names: Iterable[str], last: str = ", ", number: int = 0) -> str:
+        """Returns some names, or the first of them: of so many, if they are those of more."""
         texts = list(names)
-        if len(texts) > NAMES + 1:
-            return f"{', '.join(texts[:NAMES])} and {len(texts) - NAMES:,} more"
+        number = max(number, len(texts))
+        if number > NAMES + 1:
+            return f"{', '.join(texts[:NAMES])} and {number - NAMES:,} more"
         return last.join([*filter(None, [", ".join(texts[:-1])]), *texts[-1:]])
 
     def frames(self, index: int) -> str:
