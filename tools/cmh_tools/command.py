@@ -91,7 +91,7 @@ def dump_of_notes(tree: Any, path: str, notes: str, read: Read = read_text) -> T
         raise Refusal(f"{shown(notes)}: it has no 'sketch', so these are no notes of cmh-dump")
     dump = Dump(sketch_of(noted["sketch"], notes, OLDER), known_doubts(noted, notes))
     shown_dump = dump.likely if noted.get("guesses") is True else dump  # (as version 1.1.0 wrote it where it guessed)
-    if tree != read_json(shown_dump.text(shown_dump.low), path):
+    if tree != shown_dump.tree(shown_dump.low):
         raise Refusal(f"{shown(path)}: it isn't the dump of {shown(notes)}: one of them was changed. Make both "
                       "again with cmh-dump, or move the notes away")
     return dump, noted

@@ -51,8 +51,8 @@ class LikelyAnswer(NamedTuple):
 
 class Dump:
     """The dumps of a sketch. `parts` have the indices of those in each, the first of which is the dump that is written;
-    `left_out` and `folded` say what became of others: a list, and who stands for each. `known` has the keys of doubts
-    in the order of their numbers."""
+    `left_out` and `folded` say what became of others: a list, and who stands for each. `named` has the names in the
+    dump, also of hubs, and `known` the keys of doubts in the order of their numbers."""
 
     def __init__(self, sketch: Sketch, known: Sequence[str] = ()) -> None:
         self.sketch, self.known = sketch, known
@@ -65,6 +65,9 @@ class Dump:
         while self.no_site in self.sites.values():
             self.no_site += "-"
         self.taken = set(self.names.values())
+        hubs = len(self.waits.left) - self.waits.number
+        self.named = [*(self.names[process.name] for process in sketch.processes),
+                      *(self.added(f"{HUB}-{number}") for number in range(1, hubs + 1))]
         self.low, self.high = self.waits.low(), self.waits.high()
         self.cut = Reduction(self.waits)
         self.kept, self.left_out = self.cut.kept, self.cut.left_out
@@ -95,12 +98,6 @@ class Dump:
 
     # The dump
 
-    def name(self, at: int) -> str:
-        """Returns the name of one in the dump, also of a hub."""
-        if at < self.waits.number:
-            return self.names[self.waits.processes[at].name]
-        return self.added(f"{HUB}-{at - self.waits.number + 1}")
-
     def added(self, name: str) -> str:
         """Returns the name of an added process, which no other one has."""
         while name in self.taken:
@@ -112,14 +109,18 @@ class Dump:
         site = self.waits.processes[at if at < self.waits.number else self.waits.waiters[at][0]].site
         return self.no_site if site is None else self.sites[site]
 
-    def text(self, answer: Answer, part: int = 0) -> str:
-        """Returns the dump of a part with the picks of an answer, which is `low` or `high`, as a line for each process.
-        """
+    def tree(self, answer: Answer, part: int = 0) -> Dict[str, Any]:
+        """Returns the dump of a part with the picks of an answer, which is `low` or `high`, as a tree of JSON."""
         rows, pairs = self.rows(answer, part), self.pairs(answer, part)
-        sites = json.dumps(sorted({row["site"] for row in rows}))
-        more = f',\n"in_transit":{json.dumps(pairs)}' if pairs else ""
-        lines = ",\n  ".join(map(json.dumps, rows))
-        return f'{{"version":{2 if pairs else 1},"sites":{sites},"processes":[\n  {lines}]{more}}}\n'
+        return {"version": 2 if pairs else 1, "sites": sorted({row["site"] for row in rows}), "processes": rows,
+                **({"in_transit": pairs} if pairs else {})}
+
+    def text(self, answer: Answer, part: int = 0) -> str:
+        """Returns the text of this tree, with a line for each process."""
+        tree = self.tree(answer, part)
+        lines = ",\n  ".join(map(json.dumps, tree["processes"]))
+        more = f',\n"in_transit":{json.dumps(tree["in_transit"])}' if "in_transit" in tree else ""
+        return f'{{"version":{tree["version"]},"sites":{json.dumps(tree["sites"])},"processes":[\n  {lines}]{more}}}\n'
 
     def rows(self, answer: Answer, part: int) -> List[Dict[str, Any]]:
         """Returns the rows of a part, with those that stand for other parts at the end."""
@@ -134,11 +135,11 @@ class Dump:
 
     def row(self, at: int, answer: Answer, there: Set[int]) -> Dict[str, Any]:
         """Returns the row of a process. One row stands for those of its list that are in other parts."""
-        row: Dict[str, Any] = {"name": self.name(at), "site": self.site(at)}
+        row: Dict[str, Any] = {"name": self.named[at], "site": self.site(at)}
         others = self.cut.dependents(at, answer)
         if others is None:
             return {**row, "state": "active"}
-        names = [self.name(other) for other in others if other in there]
+        names = [self.named[other] for other in others if other in there]
         elsewhere = [other for other in others if other not in there]
         if elsewhere:
             runs = not all(answer.inside[it] for it in elsewhere) or not there.issuperset(self.senders(at))
@@ -152,16 +153,17 @@ class Dump:
     def pairs(self, answer: Answer, part: int) -> List[List[str]]:
         """Returns the messages that unblock their receiver: all, or if that is too many one for each receiver."""
         found, there = [], set(self.parts[part])
-        for at in self.parts[part]:
+        for at in filter(self.waits.senders.__getitem__, self.parts[part]):
             senders = self.senders(at) & there & set(self.cut.dependents(at, answer) or ())
-            found.append([[self.name(sender), self.name(at)] for sender in sorted(senders)])
+            found.append([[self.named[sender], self.named[at]] for sender in sorted(senders)])
         pairs = [pair for some in found for pair in some]
         return pairs if len(pairs) <= MESSAGES else [some[0] for some in found if some]
 
     def stuck_names(self, answer: Answer, part: int) -> Set[str]:
         """Returns whom the program has to call deadlocked in the dump of a part."""
-        there = {row["name"] for row in self.rows(answer, part)}
-        return there & {self.added(STUCK), *(self.name(at) for at in self.parts[part] if answer.is_stuck(at))}
+        names = {self.named[at] for at in self.parts[part] if answer.is_stuck(at)}
+        is_cut = len(self.parts) > 1
+        return names | ({self.added(STUCK)} & {row["name"] for row in self.rows(answer, part)} if is_cut else set())
 
     def cut_lines(self) -> List[str]:
         """Returns in words what became of those that the dump hasn't as they are."""

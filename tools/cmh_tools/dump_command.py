@@ -81,7 +81,8 @@ def add_system(systems: Any, name: str, summary: str, states: Dict[str, Any]) ->
 
 def summary(dump: Dump, path: str, asked: List[Proposal]) -> Iterator[str]:
     """Returns the lines for people on what was written. `asked` has the facts that are asked for."""
-    kinds = Counter(process.kind for process in dump.sketch.processes)
+    kind_of = [process.kind for process in dump.sketch.processes]
+    kinds = Counter(kind_of)
     words = [f"{kinds[kind]:,} {kind.replace('_', ' ')}" for kind in KINDS if kinds[kind]]
     total = len(dump.sketch.processes)
     yield f"{shown(path)}: {len(dump.parts[0]):,} processes of {total:,} ({', '.join(words) or 'none'})"
@@ -89,7 +90,7 @@ def summary(dump: Dump, path: str, asked: List[Proposal]) -> Iterator[str]:
         yield f"cut to the program's limits: {line}"
     if dump.parts[1:]:
         yield f"this is the first of {len(dump.parts)} dumps, which cmh-explain makes of the notes: it says all"
-    unknown = [process for process in dump.sketch.processes if process.kind == UNKNOWN]
+    unknown = [process for process, kind in zip(dump.sketch.processes, kind_of) if kind == UNKNOWN]
     for process in unknown[:SHOWN]:
         yield f"unknown: {short_name(process.name)}: {shown(process.why_unknown())}"
     if unknown[SHOWN:]:
@@ -171,8 +172,9 @@ def check_live(it: Parser, asked: Any) -> None:
 def texts_of(dump: Dump, path: str, asked: List[Proposal]) -> List[Tuple[str, str]]:
     """Returns the texts of a dump and its notes, each behind its path. `asked` has the facts that are asked for."""
     notes = dump.notes(**({"proposals": [it.text() for it in asked]} if asked else {}), **program_notes())
-    likely = dump.likely
-    return [(path, dump.text(dump.low)), (likely_path(path), likely.text(likely.low)), (notes_path(path), notes)]
+    text, likely = dump.text(dump.low), dump.likely
+    likely_text = text if likely is dump else likely.text(likely.low)
+    return [(path, text), (likely_path(path), likely_text), (notes_path(path), notes)]
 
 
 def make(asked: Any) -> int:

@@ -47,7 +47,8 @@ class Reduction:
         others = answer.dependents(self.source.get(at, at))
         if others is None:
             return None
-        return [it for it in dict.fromkeys(map(self.stands_for, others)) if self.there[it]]
+        stands = map(self.stands_for, others) if self.over else others
+        return [it for it in dict.fromkeys(stands) if self.there[it]]
 
     def parts(self, answers: Sequence[Answer]) -> List[List[int]]:
         """Returns those that each dump has: all in one, or as many knots as fit, those first that are stuck."""
@@ -108,7 +109,7 @@ class Reduction:
 
     def whom(self, at: int) -> Set[int]:
         """Returns those that stand for the list of one."""
-        there = [it for it in self.waits.left[at] if self.waits.kinds[it] != ENDED]
+        there = self.waits.left_there(at)
         return set(map(self.stands_for, there) if self.over else there)
 
     # The steps
@@ -167,8 +168,7 @@ class Reduction:
 
     def fold(self) -> None:
         """Folds those that have another one's verdict, again and again: each time after those that it waits for."""
-        edges = {at: [it for it in self.waits.left[at] if self.waits.kinds[it] != ENDED]
-                 for at, kind in enumerate(self.waits.kinds) if kind != ENDED}
+        edges = {at: self.waits.left_there(at) for at, kind in enumerate(self.waits.kinds) if kind != ENDED}
         order = [at for members in components(edges) for at in members if self.there[at]]
         before = -1
         while before != len(self.over) and not self.fits():

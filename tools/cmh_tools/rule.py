@@ -24,6 +24,8 @@ PRESENT = frozenset(Sign)  # whoever is in the state has one of these
 NOT_ASIDE = PRESENT - {Sign.UNKNOWN, Sign.RESTS, Sign.TICKS}  # signs of able ones that aren't set aside
 BESIDE_NAMED = NOT_ASIDE - {Sign.BLOCKED}  # the same where a named one is there
 FREEING = PRESENT - {Sign.SLEEPS}  # the end of a sleep alone frees nobody, but for named ones
+ASKED = (PRESENT, NOT_ASIDE, BESIDE_NAMED, FREEING)
+Select = Callable[[str, Part], Optional[List[Sequence[str]]]]
 
 
 class Headline(Enum):
@@ -68,15 +70,20 @@ class Decision:
         self.subjects = [wake(subject) for subject in subjects]
         self.index = {subject.name: number for number, subject in enumerate(subjects)}
         self.signs = {subject.name: subject.sign for subject in self.subjects}
+        self.named = {signs: {name for name, sign in self.signs.items() if sign in signs} for signs in ASKED}
         self.kept: Dict[Tuple[int, FrozenSet[Sign]], Sequence[str]] = {}
+        self.lists = Lists(len(subjects), self.index)
         blocked, resting = self.of_sign(Sign.BLOCKED), self.of_sign(Sign.RESTS)
-        self.left = Graph(self.subjects, self.index, self.left_in)
-        self.certain = Graph(self.subjects, self.index, everybody_in).greatest(blocked | resting)
+        self.left = self.graph(self.left_in)
+        self.certain = self.graph(everybody_in).greatest(blocked | resting)
         self.likely = self.left.greatest(blocked, self.certain)
         self.alone = {number for number in blocked if not self.left.parts[number]}
         moving = self.of_sign(Sign.GOES_ON) | self.of_sign(Sign.SLEEPS)
-        self.freed = Graph(self.subjects, self.index, self.freeing_in).freed(moving, blocked)
+        self.freed = self.graph(self.freeing_in).freed(moving, blocked)
         self.headline = self.headline_of(blocked)
+
+    def graph(self, select: Select) -> Graph:
+        return Graph(self.subjects, self.lists, select)
 
     def of_sign(self, sign: Sign) -> Set[int]:
         return {number for number, subject in enumerate(self.subjects) if subject.sign is sign}
@@ -99,11 +106,11 @@ class Decision:
         """Returns those at rest that wait for a named one, and that nobody who moves gives anything to, in any way."""
         resting = self.of_sign(Sign.RESTS)
         named = {number for number in resting for part in self.subjects[number].parts
-                 if any(self.those(wakers, PRESENT) for wakers in of_strength(part, Strength.NAMED))}
+                 if self.has_named(part)}
         if not named:
             return set()
         moving = self.of_sign(Sign.GOES_ON) | self.of_sign(Sign.SLEEPS)
-        return named - Graph(self.subjects, self.index, self.feeding_in).freed(moving, blocked | resting).keys()
+        return named - self.graph(self.feeding_in).freed(moving, blocked | resting).keys()
 
     def feeding_in(self, owner: str, part: Part) -> List[Sequence[str]]:
         """Returns those of a part who may end it, of one at rest also those that are against."""
@@ -113,8 +120,7 @@ class Decision:
         """Returns those of a part who aren't set aside, or None if nobody is left but the waiter: it may stand in the
         list that all of its process share, and it wakes nobody while it waits."""
         lists = [names for names in (self.left_of(wakers, part) for wakers in part) if names]
-        is_named = any(self.those(named, PRESENT) for named in of_strength(part, Strength.NAMED))
-        is_alone = not is_named and all(len(names) == 1 and names[0] == owner for names in lists)
+        is_alone = all(len(names) == 1 and names[0] == owner for names in lists) and not self.has_named(part)
         return None if is_alone else lists
 
     def left_of(self, wakers: Wakers, part: Part) -> Sequence[str]:
@@ -123,8 +129,14 @@ class Decision:
             return self.those(wakers, PRESENT)
         if wakers.strength is not Strength.ABLE:
             return ()
-        is_named = any(self.those(named, PRESENT) for named in of_strength(part, Strength.NAMED))
-        return self.those(wakers, BESIDE_NAMED if is_named else NOT_ASIDE)
+        return self.those(wakers, BESIDE_NAMED if self.has_named(part) else NOT_ASIDE)
+
+    def has_named(self, part: Part) -> bool:
+        """Whether a named one of a part is there."""
+        for wakers in part:
+            if wakers.strength is Strength.NAMED and self.those(wakers, PRESENT):
+                return True
+        return False
 
     def freeing_in(self, owner: str, part: Part) -> List[Sequence[str]]:
         """Returns those of a part who end it once they go on."""
@@ -135,7 +147,9 @@ class Decision:
         """Returns those of some wakers who have one of these signs: one list for all waits that share theirs."""
         key = id(wakers.who), signs
         if key not in self.kept:
-            self.kept[key] = [name for name in wakers.names() if self.signs.get(name) in signs]
+            names, named = wakers.names(), self.named[signs]
+            kept = [name for name in names if name in named]
+            self.kept[key] = kept if len(kept) < len(names) else names
         return self.kept[key]
 
     def doubts(self, root: Collection[int]) -> List[Doubt]:
@@ -188,29 +202,53 @@ def wake(subject: Subject) -> Subject:
 
 def everybody_in(owner: str, part: Part) -> Optional[List[Sequence[str]]]:
     """Returns all wakers of a part, or None where they may be anybody."""
-    return None if any(isinstance(wakers.who, Anybody) for wakers in part) else [wakers.names() for wakers in part]
+    lists = [wakers.who for wakers in part if not isinstance(wakers.who, Anybody)]
+    return lists if len(lists) == len(part) else None
+
+
+class Lists:
+    """Lists of wakers by numbers, so that waits and graphs may share them. A node is a process, or a list of several,
+    with a number behind those of the processes. `of` has the lists that a process is in, and `lost` those lists with
+    somebody who isn't there."""
+
+    def __init__(self, number: int, index: Dict[str, int]) -> None:
+        self.number, self.index = number, index
+        self.known: Dict[int, Tuple[int, Sequence[str]]] = {}  # by their ids, which are theirs as long as they are kept
+        self.of: Dict[int, List[int]] = {}
+        self.lost: List[int] = []
+
+    def node_of(self, names: Sequence[str]) -> int:
+        """Returns the number of one, or of a list of several."""
+        if len(names) == 1 and names[0] in self.index:
+            return self.index[names[0]]
+        if id(names) not in self.known:
+            self.known[id(names)] = self.number + len(self.known), names
+            self.add_list(self.known[id(names)][0], names)
+        return self.known[id(names)][0]
+
+    def add_list(self, number: int, names: Sequence[str]) -> None:
+        there = [self.index[name] for name in names if name in self.index]
+        for member in there:
+            self.of.setdefault(member, []).append(number)
+        if len(there) < len(names):
+            self.lost.append(number)
 
 
 class Graph:
-    """Who counts of the parts of all waits, by numbers. `select` gives the names that count of a part of the wait of
-    one, or None where the part doesn't. A node is a process, or a list of several, with a number behind those of the
-    processes: so waits may share it."""
+    """Who counts of the parts of all waits, by the numbers of `lists`. `select` gives the names that count of a part of
+    the wait of one, or None where the part doesn't."""
 
-    def __init__(self, subjects: Sequence[Subject], index: Dict[str, int],
-                 select: Callable[[str, Part], Optional[List[Sequence[str]]]]) -> None:
-        self.subjects, self.index = subjects, index
-        self.lists: Dict[int, Tuple[int, Sequence[str]]] = {}  # by their ids, with their numbers
-        self.lists_of: Dict[int, List[int]] = {}  # the lists that a process is in
-        self.lost: List[int] = []  # lists with somebody who isn't there
+    def __init__(self, subjects: Sequence[Subject], lists: Lists, select: Select) -> None:
+        self.subjects, self.lists = subjects, lists
         self.waits: List[Tuple[int, Part]] = []  # each part, with whose wait it is of
         self.nodes: List[Set[int]] = []  # of each part
         self.users: Dict[int, List[int]] = {}  # the parts that have a node
         self.parts: List[List[int]] = [[] for _ in subjects]
         self.outside: AbstractSet[int] = frozenset()  # nodes outside of the greatest set, once that is known
         for number, part in ((number, part) for number, subject in enumerate(subjects) for part in subject.parts):
-            lists = select(subjects[number].name, part)
-            if lists is not None:
-                self.add_part(number, part, {self.node_of(names) for names in lists if names})
+            selected = select(subjects[number].name, part)
+            if selected is not None:
+                self.add_part(number, part, {lists.node_of(names) for names in selected if names})
 
     def add_part(self, owner: int, part: Part, nodes: Set[int]) -> None:
         number = len(self.waits)
@@ -220,29 +258,13 @@ class Graph:
         for node in nodes:
             self.users.setdefault(node, []).append(number)
 
-    def node_of(self, names: Sequence[str]) -> int:
-        """Returns the number of one, or of a list of several."""
-        if len(names) == 1 and names[0] in self.index:
-            return self.index[names[0]]
-        if id(names) not in self.lists:
-            self.lists[id(names)] = len(self.subjects) + len(self.lists), names
-            self.add_list(self.lists[id(names)][0], names)
-        return self.lists[id(names)][0]
-
-    def add_list(self, number: int, names: Sequence[str]) -> None:
-        there = [self.index[name] for name in names if name in self.index]
-        for member in there:
-            self.lists_of.setdefault(member, []).append(number)
-        if len(there) < len(names):
-            self.lost.append(number)
-
     def greatest(self, candidates: AbstractSet[int], sure: AbstractSet[int] = frozenset()) -> Set[int]:
         """Returns the greatest set of candidates, and of those that are sure, in which each candidate has a part with
         all of its wakers in the set. Who has ended frees nobody, and counts as one of the set."""
         inside = {number for number in candidates if self.parts[number]}.union(sure)
         outside = [number for number, subject in enumerate(self.subjects)
                    if number not in inside and subject.sign is not Sign.ENDED]
-        self.outside = self.reach([*self.lost, *outside], inside - sure).keys()
+        self.outside = self.reach([*self.lists.lost, *outside], inside - sure).keys()
         return inside - self.outside
 
     def whole_parts(self, number: int) -> List[Part]:
@@ -265,7 +287,7 @@ class Graph:
             node = todo.popleft()
             cause = self.subjects[node].name if node < len(self.subjects) else causes[node]
             owners = self.end_parts(node, over, left)
-            reached = [*self.lists_of.get(node, ()), *(owner for owner in owners if owner in through)]
+            reached = [*self.lists.of.get(node, ()), *(owner for owner in owners if owner in through)]
             new = {other: cause for other in reached if other not in causes}
             causes.update(new)
             todo.extend(new)

@@ -117,7 +117,7 @@ class Process:
 
     def is_for_all(self) -> bool:
         """Whether all of some have to come, or one who comes to an end does."""
-        return len(self.parts) > 1 or any(some.how == COMES for some in self.parts[0])
+        return len(self.parts) > 1 or COMES in [some.how for some in self.parts[0]]
 
     def is_open(self) -> bool:
         """Whether somebody may end a part of its wait who isn't in the state."""
@@ -300,16 +300,16 @@ def near_name(name: str, names: Iterable[str]) -> str:
 
 def check_wakers(process: Process, names: Set[str], sound: Set[int]) -> None:
     """Raises Refusal if one of those that may end a wait is nobody. `sound` has the lists that were looked at."""
-    for some in (some for part in process.parts for some in part):
-        lost = next((name for name in some.names() if name not in names), None) if id(some.who) not in sound else None
-        if lost is not None:
+    for some in (some for part in process.parts for some in part if id(some.who) not in sound):
+        if not names.issuperset(some.names()):
+            lost = next(name for name in some.names() if name not in names)
             raise Refusal(f"process {quote(process.name)}: '{process.kind}' names {quote(lost)}, and no process "
                           f"has that name{near_name(lost, names)}")
         sound.add(id(some.who))
 
 
 def check_reasons(process: Process, premises: Dict[str, str]) -> None:
-    if process.kind != UNKNOWN and not process.because:
+    if not process.because and process.kind != UNKNOWN:
         raise Refusal(f"process {quote(process.name)}: '{process.kind}' has no reason ('because')")
     for reason in process.because:
         word, _, rest = reason.partition(" ")

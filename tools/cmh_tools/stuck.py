@@ -23,13 +23,15 @@ MOST = 5_000_000  # names in all lists; more would take more memory than a machi
 Key = Tuple[int, int]  # of a list: its length, and the sum of its hashes
 
 
-def share_lists(sketch: Sketch) -> None:
+def share_lists(sketch: Sketch) -> int:
     """Has those waits whose lists of wakers are equal have one list, if all lists together are long. Lists of a wait
     for any that differ in the waiting process itself alone are equal, and become whole: to wait for oneself as well
     changes nothing, unless one has sent a message to itself. It ends where nothing is left to do, so that notes give
-    the same lists again."""
-    while sum(map(len, lists_of_wakers(sketch.processes))) > MANY and share_more(sketch):
-        pass
+    the same lists again. Returns how many names all lists have."""
+    while True:
+        number = sum(map(len, lists_of_wakers(sketch.processes)))
+        if number <= MANY or not share_more(sketch):
+            return number
 
 
 def share_more(sketch: Sketch) -> bool:
@@ -93,9 +95,8 @@ class Waits:
     wait for it. `decision` is what the rule says."""
 
     def __init__(self, sketch: Sketch) -> None:
-        share_lists(sketch)
+        total = share_lists(sketch)
         self.processes = sketch.processes
-        total = sum(map(len, lists_of_wakers(self.processes)))
         if total > MOST:
             raise Refusal(f"too many dependents: the lists have {total:,} names in all, and {MOST:,} is the most")
         self.index = {process.name: at for at, process in enumerate(self.processes)}
@@ -107,6 +108,7 @@ class Waits:
         self.subjects = [self.subject(at) for at in range(self.number)]
         self.decision = Decision(self.subjects)
         self.kinds = [self.kind_of(at) for at in range(self.number)]
+        self.has_ended = ENDED in self.kinds
         self.left: List[List[int]] = [[] for _ in self.processes]
         self.hubs: Dict[int, int] = {}
         self.shared = shared_lists(self.processes)
@@ -146,16 +148,14 @@ class Waits:
 
     def kind_of(self, at: int) -> str:
         """Returns which of KINDS is left of one."""
-        subject = self.subjects[at]
-        if subject.sign is Sign.GOES_ON:
-            return self.processes[at].kind if self.processes[at].kind in (ANY, ALL) else RUNS
-        return self.processes[at].kind
+        kind = self.processes[at].kind
+        return RUNS if self.subjects[at].sign is Sign.GOES_ON and kind not in (ANY, ALL) else kind
 
     def nodes_of(self, parts: Sequence[Part]) -> List[int]:
         """Returns the nodes of a wait: those of its part, or one for each of several."""
-        closed = [part for part in parts if all(some.names() or not part for some in part) or not part]
-        if len(parts) == 1 and not parts[0][0:1] or len(parts) == 1 and parts[0][0].how != COMES:
+        if len(parts) == 1 and (not parts[0] or parts[0][0].how != COMES):
             return self.nodes_of_part(parts[0])
+        closed = [part for part in parts if all(some.names() for some in part)]
         if id(parts) not in self.alike:
             return [self.node_of_part(part) for part in closed]
         return [self.hub(id(parts), lambda: [self.node_of_part(part) for part in closed], ALL)]
@@ -185,6 +185,10 @@ class Waits:
         return self.hubs[key]
 
     # What is asked of them
+
+    def left_there(self, at: int) -> List[int]:
+        """Returns the nodes that one still waits for, without those who have ended."""
+        return [node for node in self.left[at] if self.kinds[node] != ENDED] if self.has_ended else self.left[at]
 
     def all_left(self, at: int) -> List[int]:
         """Returns those that one still waits for, without hubs."""
@@ -292,21 +296,21 @@ class Answer:
         if kind == ALL:
             first = waits.left[at][0]
             return self.pick(first if first >= waits.number and waits.kinds[first] == ALL else at)
-        there = [other for other in waits.left[at] if waits.kinds[other] != ENDED]
-        return [] if self.inside[at] and not all(self.inside[it] for it in there) else there
+        there = waits.left_there(at)
+        return [] if self.inside[at] and not all(map(self.inside.__getitem__, there)) else there
 
     def sent(self, at: int) -> Optional[List[int]]:
         """Returns whom the dump names for one whose message is in transit: its list, with one of the senders."""
         waits = self.waits
         if any(waits.kinds[it] == ENDED for it in waits.senders[at]):
             return None
-        there = [other for other in waits.left[at] if waits.kinds[other] != ENDED]
+        there = waits.left_there(at)
         return there + ([min(waits.senders[at])] if waits.has_hub(at) else [])
 
     def pick(self, at: int) -> List[int]:
         """Returns whom the dump names for one that waits for all: the first that is stuck, or else the first."""
         if at not in self.picks:
-            there = [other for other in self.waits.left[at] if self.waits.kinds[other] != ENDED]
+            there = self.waits.left_there(at)
             picks = [other for other in there if self.inside[other]] or (there if not self.inside[at] else [])
             self.picks[at] = [min(picks)] if picks else []
         return self.picks[at]
