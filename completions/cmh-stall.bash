@@ -3,15 +3,28 @@
 _cmh_stall() {
     local word=${COMP_WORDS[COMP_CWORD]} before=${COMP_WORDS[COMP_CWORD - 1]}
     local options='--seconds --with --stacks --kill --heap --yes --cookie-file'
-    options+=' --output --redact --true --all --why --help --version'
+    options+=' --output --redact --true --all --why --timeout --grace --help --version'
     local systems='linux jvm go python erlang mpi rabbitmq postgres mariadb'
     COMPREPLY=()
-    [[ $before != --seconds ]] || return
+    case " ${COMP_WORDS[*]:1:COMP_CWORD-1} " in
+        *' --timeout '*' -- '*) _command_of_cmh_stall && return ;;
+    esac
+    [[ $before != --@(seconds|timeout|grace) ]] || return
     case $before:$word in
         *:-*) mapfile -t COMPREPLY < <(compgen -W "$options" -- "$word") ;;
         cmh-stall:* | --with:*) mapfile -t COMPREPLY < <(compgen -W "$systems" -o plusdirs -- "$word") ;;
         *) compopt -o default ;;
     esac
+}
+
+# Completes the words behind -- as those of a command, if bash-completion is there.
+_command_of_cmh_stall() {
+    local at
+    declare -F _command_offset >/dev/null || return
+    for ((at = 1; at < COMP_CWORD; at++)); do
+        [[ ${COMP_WORDS[at]} != -- ]] || break
+    done
+    _command_offset $((at + 1))
 }
 
 complete -F _cmh_stall cmh-stall

@@ -31,6 +31,7 @@ from .screen import BESIDE, More, screen
 from .sketch import Sketch, quote, read_json, sketch_of
 from .start import SIGNALS
 from .terminal import style_of_output
+from .timeout_command import add_options, seconds_of
 
 RECORD = "stall.json"  # what a folder has, by which it is explained again
 NO_STACKS = '"with_stacks": false'  # in a state of Linux
@@ -42,14 +43,18 @@ USAGE = """cmh-stall SYSTEM TARGET.. [--seconds S] [--with SYSTEM TARGET..] [-o 
        cmh-stall jvm PID --heap --yes
        cmh-stall FOLDER [--true 1,3] [--all | --why NAME]
        cmh-stall FOLDER --redact
+       cmh-stall --timeout TIME [--grace TIME] [--seconds S] [-o FOLDER] -- COMMAND [WORD..]
        cmh-stall"""
 ABOUT = """Takes the state of a system that hangs twice, and says who is stuck. All that it saw is kept in a new folder.
 SYSTEM TARGET is one of: linux PID.., jvm PID, go HOST:PORT, python PID.., erlang NODE.. [MODULE..], mpi PROGRAM,
 rabbitmq, postgres [CONNINFO], mariadb [HOST]. linux with --stacks and jvm with --heap show more, and stop more
 meanwhile. With a FOLDER that it made, it says the answer again, with the facts that you have written there. Alone, it
-says what runs here, and the command for each."""
+says what runs here, and the command for each. With --timeout it runs a command, looks at all its processes if that
+takes longer, and then ends them."""
 MORE = """status: 0 no process is stuck, 3 some process is stuck, 5 none is stuck for certain and some are undecided,
-1 the state is refused, 2 the command line is, 4 out of memory, an I/O error, or the state couldn't be taken"""
+1 the state is refused, 2 the command line is, 4 out of memory, an I/O error, or the state couldn't be taken;
+of --timeout as for timeout(1): 124 it took longer, 125 a fault of cmh-stall, 126 and 127 it can't be run, or else its
+own"""
 
 
 def parser() -> Parser:
@@ -73,15 +78,9 @@ def parser() -> Parser:
     it.add_argument("-o", "--output", metavar="FOLDER", help="the new folder (stall-SYSTEM-TIME)")
     it.add_argument("--redact", action="store_true",
                     help="of a folder: write a copy of dump and answer without names and arguments, for mailing")
+    add_options(it)
     it.add_version()
     return it
-
-
-def seconds_of(text: str) -> float:
-    found = float(text)
-    if not 0 < found <= 3600:
-        raise ValueError
-    return found
 
 
 def main(words: Sequence[str]) -> int:

@@ -1,0 +1,70 @@
+"""The processes below this one: who they are, and how all of them are ended."""
+from __future__ import annotations
+
+import contextlib
+import os
+import signal
+from typing import Dict, List, NamedTuple, Tuple
+
+PR_SET_CHILD_SUBREAPER = 36
+
+
+class Descendant(NamedTuple):
+    """A process, with the time at which it began: another one may get its number."""
+
+    pid: int
+    start: bytes
+
+    def is_there(self) -> bool:
+        return row_of(self.pid)[1:] == (self.start, True)
+
+    def send(self, number: int) -> None:
+        """Sends a signal, but to nobody else who has its number by now. Raises PermissionError if it may not be sent.
+        """
+        handle = os.pidfd_open(self.pid) if hasattr(os, "pidfd_open") else None
+        try:
+            if self.is_there() and handle is not None:
+                signal.pidfd_send_signal(handle, number)
+            elif self.is_there():
+                os.kill(self.pid, number)
+        finally:
+            if handle is not None:
+                os.close(handle)
+
+    def name(self) -> str:
+        with contextlib.suppress(OSError), open(f"/proc/{self.pid}/comm", "rb") as file:
+            return f"{file.read().decode(errors='backslashreplace').strip()} ({self.pid})"
+        return str(self.pid)
+
+
+def adopt_orphans() -> bool:
+    """Has those below this process whose parent ends become its own children. Returns whether the kernel does so."""
+    try:
+        from ctypes import CDLL, c_ulong
+        nothing = [c_ulong(0)] * 3
+        return int(CDLL(None).prctl(PR_SET_CHILD_SUBREAPER, c_ulong(1), *nothing)) == 0
+    except (ImportError, OSError, AttributeError):
+        return False
+
+
+def row_of(pid: int) -> Tuple[int, bytes, bool]:
+    """Returns the parent of a process, when it began, and whether it lives: one that has ended may wait to be reaped.
+    """
+    with contextlib.suppress(OSError, IndexError), open(f"/proc/{pid}/stat", "rb") as file:
+        words = file.read().rpartition(b")")[2].split()
+        return int(words[1]), words[19], words[0] not in (b"Z", b"X")
+    return 0, b"", False
+
+
+def descendants(pid: int) -> List[Descendant]:
+    """Returns the living processes below one, each behind its parent."""
+    children: Dict[int, List[Descendant]] = {}
+    living = set()
+    for number in map(int, filter(str.isdigit, os.listdir("/proc"))):
+        parent, start, is_living = row_of(number)
+        children.setdefault(parent, []).append(Descendant(number, start))
+        living.update([number] if is_living else [])
+    below = children.get(pid, [])
+    for process in below:
+        below.extend(children.get(process.pid, []))
+    return [process for process in below if process.pid in living]
