@@ -32,6 +32,7 @@ from .sketch import Sketch, quote, read_json, sketch_of
 from .start import SIGNALS
 from .terminal import style_of_output
 from .timeout_command import add_options, seconds_of
+from .watch import KEPT, Check, watch
 
 RECORD = "stall.json"  # what a folder has, by which it is explained again
 NO_STACKS = '"with_stacks": false'  # in a state of Linux
@@ -43,14 +44,15 @@ USAGE = """cmh-stall SYSTEM TARGET.. [--seconds S] [--with SYSTEM TARGET..] [-o 
        cmh-stall jvm PID --heap --yes
        cmh-stall FOLDER [--true 1,3] [--all | --why NAME]
        cmh-stall FOLDER --redact
+       cmh-stall --service UNIT [--keep N] [--seconds S] [-o FOLDER]
        cmh-stall --timeout TIME [--grace TIME] [--seconds S] [-o FOLDER] -- COMMAND [WORD..]
        cmh-stall"""
 ABOUT = """Takes the state of a system that hangs twice, and says who is stuck. All that it saw is kept in a new folder.
 SYSTEM TARGET is one of: linux PID.., jvm PID, go HOST:PORT, python PID.., erlang NODE.. [MODULE..], mpi PROGRAM,
 rabbitmq, postgres [CONNINFO], mariadb [HOST]. linux with --stacks and jvm with --heap show more, and stop more
 meanwhile. With a FOLDER that it made, it says the answer again, with the facts that you have written there. Alone, it
-says what runs here, and the command for each. With --timeout it runs a command, looks at all its processes if that
-takes longer, and then ends them."""
+says what runs here, and the command for each. With --service it looks at a service of systemd, as a timer may do. With
+--timeout it runs a command, looks at all its processes if that takes longer, and then ends them."""
 MORE = """status: 0 no process is stuck, 3 some process is stuck, 5 none is stuck for certain and some are undecided,
 1 the state is refused, 2 the command line is, 4 out of memory, an I/O error, or the state couldn't be taken;
 of --timeout as for timeout(1): 124 it took longer, 125 a fault of cmh-stall, 126 and 127 it can't be run, or else its
@@ -78,6 +80,9 @@ def parser() -> Parser:
     it.add_argument("-o", "--output", metavar="FOLDER", help="the new folder (stall-SYSTEM-TIME)")
     it.add_argument("--redact", action="store_true",
                     help="of a folder: write a copy of dump and answer without names and arguments, for mailing")
+    it.add_argument("--service", metavar="UNIT", help="look at the processes of a service of systemd, also while that "
+                    "is started anew; -o is the folder for the folders of the last look and of stalls (stalls-UNIT)")
+    it.add_argument("--keep", metavar="N", type=int, default=KEPT, help="of --service: how many stalls are kept (10)")
     add_options(it)
     it.add_version()
     return it
@@ -86,9 +91,11 @@ def parser() -> Parser:
 def main(words: Sequence[str]) -> int:
     it = parser()
     asked = it.parse_args(words)
-    if not asked.words:
+    if not asked.words and not asked.service:
         return show_what_runs()
     os.umask(0o077)
+    if asked.service:
+        return look_at_service(it, asked)
     if asked.words[0] in SYSTEMS:
         if asked.kill and (asked.words[0] != "go" or asked.others or len(asked.words) != 2):
             it.error("--kill is of one Go program alone: go PID --kill")
@@ -148,14 +155,30 @@ def captured(it: Parser, words: List[str], asked: argparse.Namespace) -> List[Ca
     return captures_for(system, targets, asked.kill, asked.heap)
 
 
-def stall(parts: List[Capture], asked: argparse.Namespace) -> int:
-    """Takes the states, keeps them, and explains them."""
+def look_at_service(parser: Parser, asked: argparse.Namespace) -> int:
+    """Looks at a service as Linux sees it, which stops nothing."""
+    if asked.words or asked.others or asked.keep < 1:
+        parser.error("--service UNIT stands alone: what is taken is its main process, and --keep is 1 or more")
+
+    def look(pid: str, path: str, check: Check) -> int:
+        return stall(captures_for("linux", [pid], False, False), replaced(asked, output=path), check)
+
+    return watch(asked.service, asked.output or f"stalls-{asked.service}", asked.keep, look)
+
+
+def replaced(asked: argparse.Namespace, **values: object) -> argparse.Namespace:
+    return argparse.Namespace(**{**vars(asked), **values})
+
+
+def stall(parts: List[Capture], asked: argparse.Namespace, check: Check = lambda: None) -> int:
+    """Takes the states, keeps them, and explains them, once they are checked."""
     for part in parts:
         check_needs(part)
         say(f"{part.system} {' '.join(part.targets)}: {part.how or SYSTEMS[part.system].says}")
     with new_folder(asked.output or f"stall-{parts[0].system}-{time.strftime('%Y%m%d-%H%M%S')}") as folder:
         with home_with(asked.cookie_file) as env:
             texts = {name: text for some in take(parts, asked.seconds, env) for name, text in some.items()}
+        check()
         record = {"version": 1, "parts": [{"system": it.system, "targets": it.targets, "states": it.names(),
                                            **({"beside": it.beside} if it.beside else {})} for it in parts]}
         texts[RECORD] = json.dumps(record, indent=1) + "\n"
