@@ -153,7 +153,8 @@ def look_words(sort: str) -> str:
 def words_line(at: int, arrow: Arrow) -> str:
     """Returns the line of the words on an arrow. They are a node of their own, for Graphviz drops the label of an
     arrow when it packs frames."""
-    return f'  w{at} [label="{arrow.words}", shape=plaintext, height=0.2, margin="0.04,0.01", fontsize=10];'
+    look = 'shape=plaintext, height=0.2, margin="0.04,0.01", fontsize=11'
+    return f'  w{at} [label="{arrow.words}", {look}, class=a{at}];'
 
 
 def arrow_lines(picture: Picture, at: int, arrow: Arrow) -> Iterator[str]:
@@ -162,7 +163,8 @@ def arrow_lines(picture: Picture, at: int, arrow: Arrow) -> Iterator[str]:
     start, end = picture.boxes[arrow.start].part, picture.boxes[arrow.end].part
     is_within = start == end and start.sort == ROOT and arrow.style != MESSAGE
     looks = [ARROWS[arrow.style].look] if ARROWS[arrow.style].look else []
-    looks += ["constraint=false, class=message"] if arrow.style == MESSAGE else []
+    looks += ["constraint=false"] if arrow.style == MESSAGE else []
+    looks.append(f'class="message a{at}"' if arrow.style == MESSAGE else f"class=a{at}")
     head = ["dir=back"] if is_within else [f"lhead=cluster_root_{end.root}"] if arrow.to_root else []
     if end.sort == ROOT != start.sort:
         head.append(f"minlen={min(sum(box.part == end for box in picture.boxes), LONG)}")

@@ -11,6 +11,7 @@ from .answer import Tree, answer, text_of_answer
 from .check import describe_fault
 from .command import Parser, Read, dump_of_notes, is_dump, is_notes, notes_path, run, sketch_of_dump
 from .dot import dot
+from .drawing import drawing
 from .dump import Dump
 from .explain import Explanation
 from .files import (Failure, Refusal, hindrance, read_bytes, read_text, say, shown, text_of_bytes, write_out,
@@ -137,13 +138,8 @@ def write_page(asked: Any, explanation: Explanation, tree: Tree, at: Optional[in
     states = [(os.path.basename(path), read_text(path)) for path in asked.state]
     if sum(len(lines) for _, lines in states) > MOST_OF_STATES:
         raise Refusal(f"--state: a page takes states of at most {MOST_OF_STATES:,} characters")
-    picture = None
-    try:
-        picture = svg(Picture(explanation, at))
-    except Failure as failure:
-        say(f"cmh-explain: the page has no picture: {failure}")
     summary = explanation.summary(at)
-    write_texts([(asked.html, page(explanation, tree, picture, states))])
+    write_texts([(asked.html, page(explanation, tree, drawing(explanation, at), states))])
     write_out(summary)
 
 

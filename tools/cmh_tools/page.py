@@ -1,5 +1,5 @@
 """The answer as a page: one file of HTML that needs no network, and no script to be read. All that comes from a dump
-is a text there: it is escaped, and no link is made of it, since links lead to numbers."""
+is a text there: it is escaped, and no link is made of it, since links lead to numbers. What a script shows is data."""
 from __future__ import annotations
 
 import base64
@@ -11,18 +11,20 @@ from . import VERSION
 from .answer import Tree
 from .explain import Explanation, number_of
 from .files import MOST_OF_LINE, escaped, shown
-from .page_look import PAGE, SCRIPT, STYLE
+from .drawing import Drawing
+from .page_data import WORDS, Data, end_words, said_of, text_of_data
+from .page_look import FILTER, PAGE, PANEL, VIEW, script, style
 from .picture import headline, restarts
 from .proposals import legend
-from .sketch import ALL, ANY, ENDED, RUNS, UNKNOWN
+from .sketch import ALL, ANY, UNKNOWN
 from .steps import next_steps, ways_of
 
-ROWS, ROOTS, NAMES, STEPS, LINES = 5_000, 50, 5, 3, 100  # as many are shown, unless all are asked for
+ROWS, ROOTS, NAMES, STEPS, LINES = 100_000, 50, 5, 3, 100  # as many are shown, unless all are asked for
+PAPER = 100  # rows of the table that needs no script, and is printed
 LONG, LONG_LINK = 400, 80  # characters of a text in the table, and of a link
 HEADS = ("Process", "Answer", "Site", "What it does", "What it waits for", "Chain", "Rests on")
 ANSWERS = (("", "all"), ("stuck", "stuck"), ("likely", "likely stuck"), ("inroot", "in a root"),
            ("undecided", "undecided"), ("not_stuck", "not stuck"), ("ended", "has ended"))
-WORDS = {"system": "what the system keeps", "by hand": "the sketch", "an older version": "an older version"}
 NO_PICTURE = "There is no picture here: where this page was made, Graphviz isn't installed, or couldn't draw it. " \
     "The table has it all."
 MADE = "Made by cmh-explain {}. The program cmh, with the SHA-256 {}, has confirmed this answer. What cmh says of " \
@@ -55,9 +57,9 @@ def listed(items: Iterable[str]) -> List[str]:
 
 
 class Page:
-    """The page of an answer, which is `tree`. `picture` is an SVG, and `states` are texts with their names."""
+    """The page of an answer, which is `tree`. `states` are texts with their names."""
 
-    def __init__(self, this: Explanation, tree: Tree, picture: Optional[str], states: States) -> None:
+    def __init__(self, this: Explanation, tree: Tree, picture: Optional[Drawing], states: States) -> None:
         self.this, self.tree, self.picture, self.states = this, tree, picture, states
         self.rows: List[Tree] = tree["processes"]
         self.index, self.restarts = this.waits.index, restarts(this)
@@ -65,7 +67,8 @@ class Page:
         self.ways = ways_of(self.steps)
         order = sorted(range(len(self.rows)), key=self.place)
         self.order = order if this.everything else order[:ROWS]
-        self.in_table = {*self.order}
+        self.on_paper = self.order[:PAPER]
+        self.in_table = {*self.on_paper}
         self.reasons = {f"{kind} {row[key]}": at for kind, key, row, at in self.all_reasons()}
 
     def all_reasons(self) -> Iterator[Tuple[str, str, Tree, int]]:
@@ -90,13 +93,19 @@ class Page:
                     Section("reasons", "On what the answer rests", "Reasons", self.reason_parts()),
                     Section("warnings", "Warnings", "Warnings", listed(map(text, self.tree["warnings"]))),
                     Section("state", "The state", "State", list(self.state_parts()))]
-        there = [it for it in sections if it.parts]
+        there = [section for section in sections if section.parts]
+        looks, acts = style(), script()
         return PAGE.format(
-            policy=f"style-src 'sha256-{digest(STYLE)}'; script-src 'sha256-{digest(SCRIPT)}'", style=STYLE,
-            script=SCRIPT, title=text(headline(self.this)), about=text(self.about()),
-            links="\n".join(f'<a href="#{it.name}">{it.word}</a>' for it in there),
-            sections="\n".join(map(section, there)),
+            policy=f"style-src 'sha256-{digest(looks)}'; script-src 'sha256-{digest(acts)}'", style=looks, script=acts,
+            title=text(headline(self.this)), about=text(self.about()),
+            links="\n".join(f'<a href="#{section.name}">{section.word}</a>' for section in there),
+            sections="\n".join(map(text_of_section, there)), panel=PANEL, data=text_of_data(self.data()),
             made=MADE.format(VERSION, text(self.tree["program"]["sha256"])))
+
+    def data(self) -> Tree:
+        """Returns what the script knows."""
+        data = Data(self.this, self.tree, self.order, self.steps, self.reasons)
+        return data.tree_of(self.picture.picture if self.picture else None)
 
     def about(self) -> str:
         """Returns what stands below the headline."""
@@ -224,26 +233,27 @@ class Page:
     def picture_parts(self) -> List[str]:
         if self.picture is None:
             return [f"<p>{NO_PICTURE}</p>"]
-        return [f'<figure>\n<div class="wide" role="region" aria-labelledby="picture" tabindex="0">\n{self.picture}'
-                "</div>\n<figcaption>Who waits for whom. Processes that are alike, or at one line of source, share a "
-                "box.</figcaption>\n</figure>"]
+        return [VIEW.format(picture=self.picture.svg, more="")]
 
     # The table
 
     def table(self) -> List[str]:
+        """Returns the whole table, which the script fills, and the short one, which needs none."""
         counts = self.tree["counts"]
         options = "".join(f'<option value="{value}">{words}</option>' for value, words in ANSWERS)
-        heads = "".join(f'<th scope="col">{head}</th>' for head in HEADS)
-        left = len(self.rows) - len(self.order)
+        heads = "".join(f'<th scope="col"><button type="button">{head}</button></th>' for head in HEADS)
         total = number_of(counts["processes"] + counts["ended"])
-        caption = f"{total}: those of roots first, those behind them, the undecided ones, and the others."
-        caption += f" {number_of(left, 'more row is', 'more rows are')} left out here (--all)." if left else ""
-        return [f'<form id="filter" hidden>\n<label>Rows with these words <input id="text" type="search" '
-                f'autocomplete="off"></label>\n<label>Answer <select id="answer">{options}</select></label>\n'
-                '<output id="shown" for="text answer"></output>\n</form>',
-                '<div class="wide rows" role="region" aria-labelledby="processes" tabindex="0">\n<table>',
-                f"<caption>{caption}</caption>\n<thead><tr>{heads}</tr></thead>\n<tbody>",
-                *map(self.row, self.order), "</tbody>\n</table>\n</div>"]
+        sorts = f"{total}: those of roots first, those behind them, the undecided ones, and the others."
+        left, off = len(self.rows) - len(self.order), len(self.order) - len(self.on_paper)
+        more = f" {number_of(left, 'more row is', 'more rows are')} left out here (--all)." if left else ""
+        short = f" The first {len(self.on_paper)}; a script shows {off:,} more." if off else ""
+        return [FILTER.format(answers=options),
+                '<div class="wide" id="list" role="region" aria-labelledby="processes">\n<table id="table">\n'
+                f"<caption>{sorts}{more}</caption>\n<thead><tr>{heads}</tr></thead>\n<tbody></tbody>\n</table>\n</div>",
+                '<div class="wide paper" role="region" aria-labelledby="processes" tabindex="0">\n<table>',
+                f"<caption>{sorts}{more}{short}</caption>\n<thead><tr>",
+                *(f'<th scope="col">{head}</th>' for head in HEADS), "</tr></thead>\n<tbody>",
+                *map(self.row, self.on_paper), "</tbody>\n</table>\n</div>"]
 
     def row(self, at: int) -> str:
         row = self.rows[at]
@@ -263,10 +273,8 @@ class Page:
         """Returns whom one waits for, with links, or why it doesn't."""
         row, lists = self.rows[at], self.tree["lists"]
         names = row["waits_for"] or lists.get(row["waits_for_list"], [])
-        if row["kind"] not in (ANY, ALL):
-            return text(self.this.wait(at))
-        if not names:
-            return "can never be unblocked" if row["kind"] == ANY else "has all that it waited for"
+        if row["kind"] not in (ANY, ALL) or not names:
+            return text(said_of(self.this, row, self.tree))
         several = {ANY: "any of ", ALL: "all of "}[row["kind"]] if names[1:] or row["kind"] == ALL else ""
         sent = f"; a message is in transit from {self.links(row['in_transit_from'])}" if row["in_transit_from"] else ""
         return f"{several}{self.links(names)}{sent}"
@@ -274,7 +282,7 @@ class Page:
     def way(self, at: int) -> str:
         """Returns the way from one to what its answer rests on: the first few steps, and the last one."""
         if at not in self.ways:
-            return text(self.end_words(at))
+            return text(end_words(self.this, self.rows[at], at))
         length, end = self.ways[at]
         steps, last = [], at
         for _ in range(min(length, STEPS)):
@@ -284,16 +292,7 @@ class Page:
         links = [self.link(self.rows[it]["name"]) for it in steps]
         if length > len(steps):
             links.insert(-1, f"{length - len(steps):,} more")
-        return f"→ {' → '.join(links)}, {text(self.end_words(end))}"
-
-    def end_words(self, at: int) -> str:
-        """Returns what is at the end of a way."""
-        row = self.rows[at]
-        if row["root"]:
-            return f"in root {row['root']}"
-        if row["kind"] in (UNKNOWN, RUNS, ENDED):
-            return self.this.answer(at)
-        return self.this.goes_on_words(at) if row["goes_on"] else ""
+        return f"→ {' → '.join(links)}, {text(end_words(self.this, self.rows[end], end))}"
 
     def rests(self, row: Tree) -> str:
         return ", ".join(self.rest(it) for it in row["rests_on"]) or text(row["reason"])
@@ -317,7 +316,8 @@ class Page:
 
     def state_parts(self) -> Iterator[str]:
         for name, lines in self.states:
-            yield f"<h3>{text(name)}</h3>\n<pre>{html.escape(escaped_lines(lines))}</pre>"
+            yield f'<details class="lines" data-name="{text(name)}"><summary><h3>{text(name)}</h3></summary>\n' \
+                f"<pre>{html.escape(escaped_lines(lines))}</pre></details>"
 
 
 def hang(number: int, before: str, behind: str) -> str:
@@ -325,9 +325,10 @@ def hang(number: int, before: str, behind: str) -> str:
     return f"{before}{number_of(number, 'other hangs', 'others hang')}{behind}" if number else ""
 
 
-def section(it: Section) -> str:
-    body = "\n".join(it.parts)
-    return f'<section aria-labelledby="{it.name}">\n<h2 id="{it.name}">{it.head}</h2>\n{body}\n</section>\n'
+def text_of_section(section: Section) -> str:
+    body = "\n".join(section.parts)
+    head = f'<h2 id="{section.name}">{section.head}</h2>'
+    return f'<section aria-labelledby="{section.name}" id="{section.name}part">\n{head}\n{body}\n</section>\n'
 
 
 def escaped_lines(lines: str) -> str:
@@ -339,6 +340,6 @@ def text_of_lines(lines: Iterable[str]) -> str:
     return "\n".join(map(text, lines))
 
 
-def page(this: Explanation, tree: Tree, picture: Optional[str], states: States = ()) -> str:
+def page(this: Explanation, tree: Tree, picture: Optional[Drawing], states: States = ()) -> str:
     """Returns the text of the page of an answer."""
     return Page(this, tree, picture, states).html()

@@ -15,6 +15,7 @@ from .start import SIGNALS
 SPACE = "http://www.w3.org/2000/svg"
 SECONDS = 120  # that a layout may take: one of 40 boxes takes less than one
 NO_GRAPHVIZ = "the command dot isn't there, which lays out pictures (Debian: apt-get install graphviz)"
+ROOT = "cluster_root_"
 FORMS = {"g", "path", "polygon", "polyline", "ellipse", "text"}
 ATTRIBUTES = {"class", "transform", "fill", "stroke", "stroke-width", "stroke-dasharray", "points", "d", "cx", "cy",
               "rx", "ry", "x", "y", "text-anchor", "font-family", "font-size", "font-weight"}
@@ -67,14 +68,19 @@ def laid_out(text: str) -> bytes:
 
 
 def copies(tree: ElementTree.Element, boxes: Dict[str, str]) -> Iterator[ElementTree.Element]:
-    """Yields the forms and texts below an element. What Graphviz calls one of the boxes gets its words as a title."""
+    """Yields the forms and texts below an element. What Graphviz calls one of the boxes gets its words as a title, and
+    its number; the frame of a root has the number of that."""
     for it in tree:
         name = it.tag.replace(f"{{{SPACE}}}", "")
         if name in FORMS:
             made = ElementTree.Element(name, {key: value for key, value in it.attrib.items() if key in ATTRIBUTES})
             made.text = it.text if name == "text" else None
             title = it.find(f"{{{SPACE}}}title")
-            if title is not None and title.text in boxes and it.get("class", "").startswith("node"):
-                ElementTree.SubElement(made, "title").text = boxes[title.text]
+            called, sort = "" if title is None else title.text or "", it.get("class", "")
+            if called in boxes and sort.startswith("node"):
+                made.attrib.update({"id": f"b{called[1:]}", "data-box": called[1:]})
+                ElementTree.SubElement(made, "title").text = boxes[called]
+            if called.startswith(ROOT) and "rootframe" in sort:
+                made.set("data-root", str(int(called[len(ROOT):]) + 1))
             made.extend(list(copies(it, boxes)))
             yield made

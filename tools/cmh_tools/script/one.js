@@ -1,0 +1,144 @@
+// One process, or one box of the picture: all that is known of it, with ways to its row, to its box and to its lines.
+
+const panel = element("one");
+const mostLines = 14, mostPlaces = 4;
+let cameFrom = null;
+
+function partOf(head, ...parts) {
+  return parts.length ? [make("dt", {textContent: head}), make("dd", {}, ...parts)] : [];
+}
+
+function codeOf(lines) { return make("pre", {textContent: lines.join("\n")}); }
+
+// Returns the words by which the lines of a state may name a process, the most telling one first.
+function needlesOf(row) {
+  const name = fullName(row), last = name.split("/").pop();
+  const digits = (data.thread[row] || "").split("/").pop();
+  return Array.from(new Set([name, data.texts[data.operation[row]] ? last : "", last, digits])).filter(Boolean);
+}
+
+// Yields the places of a state whose lines name a process: the number of the first line, and the lines.
+function placesIn(lines, needle) {
+  const pattern = patternOf(needle), found = [];
+  for (let at = 0; at < lines.length && found.length < mostPlaces; at += 1) {
+    if (!pattern.test(lines[at])) { continue; }
+    let end = at + 1;
+    while (end < lines.length && lines[end].trim() && end - at < mostLines && !pattern.test(lines[end])) { end += 1; }
+    found.push([at, lines.slice(at, end)]);
+    at = end;
+  }
+  return found;
+}
+
+// Opens a state at a line.
+function showLine(state, at) {
+  const pre = state.querySelector("pre");
+  const text = pre.textContent.split("\n");
+  state.open = true;
+  const mark = make("mark", {id: "stateline", tabIndex: -1, textContent: text[at]});
+  pre.replaceChildren(text.slice(0, at).join("\n") + (at ? "\n" : ""), mark, "\n" + text.slice(at + 1).join("\n"));
+  mark.scrollIntoView({block: "center"});
+  mark.focus({preventScroll: true});
+}
+
+function stateParts(row) {
+  return Array.from(document.querySelectorAll("details.lines")).flatMap((state) => {
+    const lines = state.querySelector("pre").textContent.split("\n");
+    const places = needlesOf(row).map((needle) => placesIn(lines, needle)).find((some) => some.length) || [];
+    return places.flatMap(([at, some]) => {
+      const way = make("button", {type: "button", textContent: state.dataset.name + ", line " + (at + 1)});
+      way.addEventListener("click", () => showLine(state, at));
+      return [way, codeOf(some.map((line) => line.slice(0, 400)))];
+    });
+  });
+}
+
+function waysOf(row) {
+  const inTable = make("button", {type: "button", id: "torow", textContent: "Its row"});
+  inTable.addEventListener("click", () => { const line = showRow(row, true); line.scrollIntoView({block: "center"}); });
+  const box = data.box[row];
+  if (!boxElement(box)) { return [inTable]; }
+  const inPicture = make("button", {type: "button", id: "tobox", textContent: "Its box"});
+  inPicture.addEventListener("click", () => focusBox(box));
+  return [inTable, inPicture];
+}
+
+function fillPanel(title, ways, parts) {
+  if (panel.hidden) { cameFrom = document.activeElement; }
+  element("onename").textContent = title;
+  element("oneways").replaceChildren(...ways);
+  element("oneparts").replaceChildren(...parts);
+  panel.hidden = false;
+  panel.scrollTop = 0;
+  element("onename").focus({preventScroll: true});
+}
+
+function textOf(numbers) { return numbers.map((it) => data.texts[it]); }
+
+// Shows all of one process.
+function showOne(row) {
+  const [whom, more] = whomOf(row), by = waitersOf(row), frames = textOf(data.frames[row] || []);
+  const site = data.texts[data.site[row]], place = data.texts[data.place[row]];
+  fillPanel(data.names[row], waysOf(row), [
+    ...partOf("Answer", ...answerParts(row)), ...(site ? partOf("Site", site) : []),
+    ...(place ? partOf("What it does", place) : []), ...partOf("Waits for", ...waitParts(row, 40)),
+    ...(by.length ? partOf("Who waits for it", ...linksOf(by, 0, 40, ", ")) : []),
+    ...partOf("Chain", ...chainParts(row, 12)), ...(frames.length ? partOf("Frames", codeOf(frames)) : []),
+    ...partOf("Rests on", ...reasonParts(row)), ...partOf("Lines of the state", ...stateParts(row))]);
+  relateBox(data.box[row], whom.length + more + by.length > 0);
+}
+
+// Shows a box of several, and its rows alone.
+function showBox(box) {
+  const rows = everyRow.filter((row) => data.box[row] === box);
+  if (!rows.length) { return; }
+  if (rows.length === 1) { choose(rows[0]); return; }
+  query.box = box;
+  element("ofbox").textContent = "Of one box: " + data.boxes[box][0] + " ×";
+  update();
+  const inTable = make("button", {type: "button", id: "torow", textContent: "Its rows"});
+  inTable.addEventListener("click", () => { goTo(0, true); list.scrollIntoView({block: "center"}); });
+  const inPicture = make("button", {type: "button", id: "tobox", textContent: "Its box"});
+  inPicture.addEventListener("click", () => focusBox(box));
+  fillPanel(data.boxes[box][0], [inTable, inPicture], [...partOf("Where", data.boxes[box].slice(1).join("; ")),
+    ...partOf("Who", ...linksOf(rows, 0, 60, ", "))]);
+  relateBox(box, true);
+}
+
+function hidePanel() {
+  if (panel.hidden) { return; }
+  panel.hidden = true;
+  relateBox(-1, false);
+  if (cameFrom && cameFrom.isConnected) { cameFrom.focus({preventScroll: true}); }
+  if (/^#[pb]=/.test(location.hash)) { history.replaceState(null, "", "#processes"); }
+}
+
+// Goes to a process by its address, which the browser keeps, so that its own way back leads back.
+function choose(row) {
+  if (location.hash === addressOf(row)) { showAddress(); } else { location.hash = addressOf(row); }
+}
+
+function decoded(text) {
+  try { return decodeURIComponent(text); } catch (fault) { return text; }
+}
+
+// Shows what the address names: a process by its name, or by the number that a link of the page has; or a box.
+function showAddress() {
+  const [, sort, rest] = /^#([pb])=?(.*)$/s.exec(location.hash) || [];
+  const isNumber = /^#p\d+$/.test(location.hash);
+  const row = isNumber ? data.numbers.indexOf(Number(rest)) : rowOfName.get(decoded(rest || ""));
+  if (sort === "b" && /^#b=\d+$/.test(location.hash)) {
+    showBox(Number(rest));
+  } else if (sort === "p" && row !== undefined && row >= 0) {
+    showRow(row, false);
+    showOne(row);
+  } else if (!panel.hidden) {
+    panel.hidden = true;
+  }
+}
+
+function startOne() {
+  element("oneclose").addEventListener("click", hidePanel);
+  window.addEventListener("hashchange", showAddress);
+  document.addEventListener("keydown", (event) => { if (event.key === "Escape") { hidePanel(); } });
+}
