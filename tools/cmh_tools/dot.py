@@ -28,6 +28,16 @@ class Look(NamedTuple):
     width: float = 1
 
 
+class Plan(NamedTuple):
+    """How a graph is laid out: how wide the text of a box is, how far ranks are apart, whether boxes of one site have a
+    frame, and whether ranks are below each other."""
+
+    width: int = WIDTH
+    gap: float = 0.55
+    has_site_frames: bool = True
+    is_upright: bool = False
+
+
 class Line(NamedTuple):
     """How an arrow looks, and what the legend says of both its ends."""
 
@@ -64,17 +74,18 @@ WITHIN = "Those of a box who are on no arrow wait for others in it"
 Frames = Dict[str, List[Box]]
 
 
-def dot(picture: Picture) -> str:
+def dot(picture: Picture, plan: Plan = Plan()) -> str:
     """Returns the text of a graph for Graphviz."""
     lines = ["digraph stall {",
-             '  graph [rankdir=RL, compound=true, nodesep=0.22, ranksep=0.55, pack=12, packmode="array_ctu1",',
+             f'  graph [rankdir={"BT" if plan.is_upright else "RL"}, compound=true, nodesep=0.22, ranksep={plan.gap}, '
+             'pack=12, packmode="array_ctu1",',
              f'    labelloc=t, labeljust=l, fontname="{FONT}", fontsize=15, '
              f'label={label(filter(None, [picture.cure(), picture.caption()]), CAPTION, LEFT)}];',
              f'  node [shape=box, fontname="{FONT}", fontsize=11, margin="0.14,0.07", color="#222222"];',
-             f'  edge [fontname="{FONT}", fontsize=10, color="#222222", arrowsize=0.8];', *legend(picture)]
+             f'  edge [fontname="{FONT}", fontsize=11, color="#222222", arrowsize=0.8];', *legend(picture)]
     for name, boxes in from_below(picture):
-        lines += frame(picture, name, boxes)
-    between = (line for at, arrow in enumerate(picture.arrows) for line in arrow_lines(picture, at, arrow))
+        lines += frame(picture, name, boxes, plan)
+    between = (line for at, arrow in enumerate(picture.arrows) for line in arrow_lines(picture, at, arrow, plan))
     return "\n".join([*lines, *between, "}"]) + "\n"
 
 
@@ -105,13 +116,15 @@ def is_root(name: str) -> bool:
     return name.startswith("root_")
 
 
-def frame(picture: Picture, name: str, boxes: List[Box]) -> List[str]:
+def frame(picture: Picture, name: str, boxes: List[Box], plan: Plan) -> List[str]:
     """Returns the lines of the boxes of a frame, and of the words on arrows that stay in it."""
-    lines, inside = list(site_frames(name, boxes)), {box.number for box in boxes}
+    is_ring = any(box.number in picture.ring for box in boxes)
+    lines = list(site_frames(name, boxes, plan._replace(has_site_frames=plan.has_site_frames and not is_ring)))
+    inside = {box.number for box in boxes}
     lines += [words_line(at, arrow) for at, arrow in enumerate(picture.arrows)
               if arrow.words and inside.issuperset((arrow.start, arrow.end))]
     if is_root(name):
-        words = label(picture.root_lines(boxes[0].part.root or 0), HEAD, LEFT)
+        words = label(picture.root_lines(boxes[0].part.root or 0), HEAD * plan.width // WIDTH, LEFT)
         head = f'label={words}, style="rounded,filled", color="#b3261e", ' \
             'fillcolor="#fff4f2", penwidth=2, fontsize=12, margin=18, class=rootframe, labeljust=r'
     elif name in FRAME_WORDS:
@@ -121,28 +134,30 @@ def frame(picture: Picture, name: str, boxes: List[Box]) -> List[str]:
     return [f"  subgraph cluster_{name} {{", f"    graph [{head}];", *lines, "  }"]
 
 
-def site_frames(name: str, boxes: List[Box]) -> Iterator[str]:
-    """Yields the lines of the boxes of a frame, those of each site in a frame of its own, if some site has several."""
+def site_frames(name: str, boxes: List[Box], plan: Plan) -> Iterator[str]:
+    """Yields the lines of the boxes of a frame, those of each site in a frame of its own, if some site has several. In
+    a ring, which sites would pull apart, each box says its own."""
     sites: Frames = {}
     for box in boxes:
         sites.setdefault(box.site, []).append(box)
     if len(sites) == 1 or len(sites) > FRAMES or max(map(len, sites.values())) == 1:
         is_said = len(sites) == 1 and is_root(name)
-        yield from (box_line(box, not is_said) for box in boxes)
+        yield from (box_line(box, not is_said, plan.width) for box in boxes)
         return
     for number, (site, some) in enumerate(sites.items()):
-        is_framed = site != "" and some[0].is_at_one_site and (len(some) > 1 or is_root(name))
-        lines = [box_line(box, not is_framed) for box in some]
-        head = f'graph [label={label(["on " + site], WIDTH)}, style=dashed, color="#777777", fontsize=10, class=site];'
+        is_framed = site != "" and some[0].is_at_one_site and (len(some) > 1 or is_root(name)) and plan.has_site_frames
+        lines = [box_line(box, not is_framed, plan.width) for box in some]
+        head = f'graph [label={label(["on " + site], plan.width)}, style=dashed, color="#777777", class=site, ' \
+            "fontsize=11];"
         yield from [f"  subgraph cluster_{name}_{number} {{ {head}", *lines, "  }"] if is_framed else lines
 
 
 # Boxes and arrows
 
 
-def box_line(box: Box, has_site: bool) -> str:
+def box_line(box: Box, has_site: bool, width: int) -> str:
     lines = [box.lines[0], *([f"on {box.site}"] if has_site and box.site else []), *box.lines[1:]]
-    return f"  p{box.number} [label={label(lines, WIDTH)}, {look_words(box.part.sort)}];"
+    return f"  p{box.number} [label={label(lines, width)}, {look_words(box.part.sort)}];"
 
 
 def look_words(sort: str) -> str:
@@ -157,17 +172,20 @@ def words_line(at: int, arrow: Arrow) -> str:
     return f'  w{at} [label="{arrow.words}", {look}, class=a{at}];'
 
 
-def arrow_lines(picture: Picture, at: int, arrow: Arrow) -> Iterator[str]:
+def arrow_lines(picture: Picture, at: int, arrow: Arrow, plan: Plan) -> Iterator[str]:
     """Yields the lines of an arrow. Graphviz draws from the right to the left. Within a root those who wait stand at
     the left of whom they wait for, as one reads, and all others at the right of the whole root."""
     start, end = picture.boxes[arrow.start].part, picture.boxes[arrow.end].part
     is_within = start == end and start.sort == ROOT and arrow.style != MESSAGE
+    turn = picture.turn(arrow) if is_within else 0
     looks = [ARROWS[arrow.style].look] if ARROWS[arrow.style].look else []
-    looks += ["constraint=false"] if arrow.style == MESSAGE else []
+    looks += ["constraint=false"] if arrow.style == MESSAGE or is_within and not turn else []
+    is_within = is_within and turn >= 0
     looks.append(f'class="message a{at}"' if arrow.style == MESSAGE else f"class=a{at}")
     head = ["dir=back"] if is_within else [f"lhead=cluster_root_{end.root}"] if arrow.to_root else []
     if end.sort == ROOT != start.sort:
-        head.append(f"minlen={min(sum(box.part == end for box in picture.boxes), LONG)}")
+        length = min(sum(box.part == end for box in picture.boxes), LONG) if plan.width == WIDTH else 1
+        head.append(f"minlen={length}")
     if arrow.words:
         yield words_line(at, arrow)
         yield line_between(f"p{arrow.start}", f"w{at}", is_within, [*looks, "dir=none"])
@@ -186,12 +204,7 @@ def legend(picture: Picture) -> List[str]:
     arrows = [f'    a{at} [label="{line.start}", height=0.2]; '
               f'b{at} [label="{line.end}", shape=plaintext, height=0.2]; '
               f"a{at} -> b{at} [{line.look}];" for at, line in enumerate(styles)]
-    notes = ["An arrow to the frame of a root leads to several in it"] * any(it.to_root for it in picture.arrows)
-    notes += [MANY] * any(it.words and not it.is_far for it in picture.arrows)
-    notes += [FAR] * any(it.is_far for it in picture.arrows)
-    notes += [WITHIN] * any(it.words and not it.is_far and it.start in picture.within for it in picture.arrows)
-    left = number_of(picture.left_out, "more arrow isn't drawn", "more arrows aren't drawn")
-    notes += [f"{left} (--all)"] if picture.left_out else []
+    notes = notes_of(picture)
     arrows += [f"    notes [label={label(notes, HEAD, LEFT)}, shape=plaintext];"] if notes else []
     boxes = [f'    k{at} [label="{LOOKS[sort].text}", {look_words(sort)}];' for at, sort in enumerate(sorts)]
     boxes += [f"    k{at + 1} -> k{at} [style=invis];" for at in range(len(sorts) - 1)]
@@ -199,6 +212,20 @@ def legend(picture: Picture) -> List[str]:
     frames = ("arrows", "What an arrow is", arrows), ("boxes", "What a box is", boxes)
     return [line for name, words, lines in frames if lines for line in
             [f'  subgraph cluster_{name} {{ graph [label="{words}", {head}];', *lines, "  }"]]
+
+
+def notes_of(picture: Picture) -> List[str]:
+    """Returns what has to be said of arrows, and of what isn't drawn."""
+    notes = ["An arrow to the frame of a root leads to several in it"] * any(it.to_root for it in picture.arrows)
+    notes += [MANY] * any(it.words and not it.is_far for it in picture.arrows)
+    notes += [FAR] * any(it.is_far for it in picture.arrows)
+    notes += [WITHIN] * any(it.words and not it.is_far and it.start in picture.within for it in picture.arrows)
+    stand_ins = "1 who only stands for others isn't drawn" if picture.stand_ins == 1 else \
+        f"{picture.stand_ins:,} who only stand for others aren't drawn"
+    notes += [stand_ins] if picture.stand_ins else []
+    left = number_of(picture.left_out, "more arrow isn't drawn", "more arrows aren't drawn")
+    notes += [f"{left} (--all)"] if picture.left_out else []
+    return notes
 
 
 # Texts

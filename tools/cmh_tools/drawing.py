@@ -1,12 +1,18 @@
 """The picture of an answer as it stands in a page: laid out, and folded until its letters are large enough."""
 from __future__ import annotations
 
-from typing import NamedTuple, Optional
+from typing import Callable, List, NamedTuple, Optional
+from xml.etree.ElementTree import Element
 
 from .explain import Explanation
 from .files import Failure, say
+from .folding import MOST
+from .layers_svg import layered_tree
 from .picture import Picture
-from .svg import svg
+from .svg import FIT, best_tree, check_graphviz, text_of_tree, width_of
+
+
+SIZES = (MOST, 24, 16, 10, 6, 3)  # boxes, of which the first are tried that fit
 
 
 class Drawing(NamedTuple):
@@ -16,11 +22,25 @@ class Drawing(NamedTuple):
     svg: str
 
 
-def drawing(this: Explanation, at: Optional[int]) -> Optional[Drawing]:
-    """Returns the drawing of an answer, or nothing, and says why, if there is none."""
-    picture = Picture(this, at)
+def drawing(this: Explanation, at: Optional[int]) -> Drawing:
+    """Returns the drawing of an answer, laid out by Graphviz, or, where that isn't there or fails, here."""
     try:
-        return Drawing(picture, svg(picture))
+        check_graphviz()
+        return fitting(this, at, best_tree)
     except Failure as failure:
-        say(f"cmh-explain: the page has no picture: {failure}")
-    return None
+        say(f"cmh-explain: the page has a simple picture: {failure}")
+    return fitting(this, at, layered_tree)
+
+
+def fitting(this: Explanation, at: Optional[int], laid_out: Callable[[Picture], Element]) -> Drawing:
+    """Returns a drawing that is narrow enough for its letters, if one is."""
+    sizes: List[int] = []
+    for most in SIZES:
+        picture = Picture(this, at, most=most)
+        if len(picture.boxes) in sizes:
+            continue
+        sizes.append(len(picture.boxes))
+        tree = laid_out(picture)
+        if width_of(tree) <= FIT:
+            break
+    return Drawing(picture, text_of_tree(picture, tree))

@@ -8,11 +8,12 @@ site; on any; all but the largest groups; all. A small picture is only folded by
 from __future__ import annotations
 
 from collections import Counter
-from typing import Collection, Dict, Iterable, List, NamedTuple, Optional, Tuple
+from typing import Collection, Dict, Iterable, List, NamedTuple, Optional, Set, Tuple
 
 from .explain import Explanation
 from .files import shown
-from .sketch import ENDED, RUNS, UNKNOWN
+from .model import Strength
+from .sketch import ENDED, RUNS, UNKNOWN, Process
 
 ALIKE, LINE_OF_SITE, LINE, LARGEST, ONE = range(5)  # the steps
 ROOT, BEHIND, SHARED, MORE, UNDECIDED, OPEN, FREE, RUNNING, OVER = SORTS = (
@@ -32,12 +33,15 @@ class Part(NamedTuple):
 
 
 class Folding:
-    """The rows of each part. `alone` are those that share no box, as they are asked for; if `is_whole`, nobody does."""
+    """The rows of each part, at most `most`. `alone` are those that share no box, as they are asked for; if `is_whole`,
+    nobody does."""
 
-    def __init__(self, explanation: Explanation, some: Iterable[int], alone: Collection[int], is_whole: bool) -> None:
+    def __init__(self, explanation: Explanation, some: Iterable[int], alone: Collection[int], is_whole: bool,
+                 most: int = MOST) -> None:
         self.this, self.waits, self.alone, self.is_whole = explanation, explanation.waits, alone, is_whole
+        self.small, self.few, self.most = min(SMALL, most), min(FEW, most), most
         self.senders = {it for some in self.waits.senders for it in some}
-        self.apart = set(range(len(explanation.roots.roots)) if is_whole else roots_apart(explanation))
+        self.apart = set(range(len(explanation.roots.roots)) if is_whole else roots_apart(explanation, most))
         self.parts: Dict[Part, Row] = {}
         some = list(some)
         for at in some:
@@ -70,10 +74,10 @@ class Folding:
         if self.is_whole:
             return {part: [[at] for at in some] for part, some in self.parts.items()}
         rows = {part: self.groups(part, ONE if part.sort == MORE else ALIKE) for part in self.parts}
-        if count(rows) > SMALL:
+        if count(rows) > self.small:
             rows = {part: self.groups(part, self.first_step(part)) for part in self.parts}
         by_size = sorted(rows, key=lambda part: len(rows[part]))
-        for most, some in ((FEW, [part for part in by_size if part.sort != ROOT]), (MOST, by_size)):
+        for most, some in ((self.few, [part for part in by_size if part.sort != ROOT]), (self.most, by_size)):
             while count(rows) > most and some:
                 part = some.pop()
                 rows[part] = self.groups(part, ONE)
@@ -119,13 +123,33 @@ class Folding:
         return (sort, place, process.site if step == LINE_OF_SITE else None) if place else at
 
 
-def roots_apart(this: Explanation) -> List[int]:
-    """Returns the roots that are drawn: one of those that are alike, and at most a few."""
+def roots_apart(this: Explanation, most: int) -> List[int]:
+    """Returns the roots that are drawn: one of those that are alike, and at most a few, fewer where boxes are few."""
     found: Dict[object, List[int]] = {}
     for number, members in enumerate(this.roots.roots):
         found.setdefault(tuple(sorted(map(this.note, members))), []).append(number)
     drawn = (number for some in found.values() for number in some[:1 if len(some) >= ALIKE_ROOTS else None])
-    return sorted(drawn)[:ROOTS]
+    return sorted(drawn)[:min(ROOTS, max(most // 4, 1))]
+
+
+def stand_for_others(this: Explanation) -> Set[int]:
+    """Returns those who only stand for others: with no place of their own, waiting for nobody, and named by no wait but
+    as somebody who isn't in the state, or who may end it in another way."""
+    named: Dict[int, Iterable[str]] = {}
+    beside: Dict[int, Iterable[str]] = {}
+    for process in this.original.sketch.processes:
+        for group in (group for part in process.parts for group in part):
+            is_beside = group.strength in (Strength.AGAINST, Strength.UNSEEN)
+            (beside if is_beside else named).setdefault(id(group.who), group.names())
+    needed = {name for names in named.values() for name in names}
+    others = {name for names in beside.values() for name in names}.difference(needed)
+    numbers = [this.waits.index[name] for name in others if name in this.waits.index]
+    return {number for number in numbers if is_without_place(this.process(number))}
+
+
+def is_without_place(process: Process) -> bool:
+    is_bare = process.frames in ([], [process.name])
+    return is_bare and not (process.parts or process.site or process.operation or process.thread)
 
 
 def known_by(lists: List[List[int]], some: Iterable[int]) -> Dict[int, Tuple[int, ...]]:

@@ -9,8 +9,8 @@ from typing import Collection, Dict, FrozenSet, Iterator, List, NamedTuple, Opti
 from .arrow_words import by_first, far_words, reach_of, words_of
 from .explain import Explanation, number_of
 from .files import short_name, shown
-from .folding import (BEHIND, FREE, MORE, OPEN, OVER, ROOT, RUNNING, SHARED, SMALL, SORTS, UNDECIDED, Folding, Part,
-                      Row)
+from .folding import (BEHIND, FREE, MORE, MOST, OPEN, OVER, ROOT, RUNNING, SHARED, SMALL, SORTS, UNDECIDED, Folding,
+                      Part, Row, stand_for_others)
 from .sketch import ALL, ANY, UNKNOWN
 
 NAMES, ARROWS, WAYS = 3, 6, 2  # of a box: names, arrows, and those of several behind a root
@@ -50,14 +50,19 @@ class Arrow(NamedTuple):
 
 class Picture:
     """The boxes and arrows of all processes, or of the chain of one, with all of the root that it ends in. If
-    `is_whole`, nothing is folded or left out."""
+    `is_whole`, nothing is folded or left out; else there are at most `most` boxes, and who only stands for others has
+    none."""
 
-    def __init__(self, explanation: Explanation, at: Optional[int] = None, is_whole: bool = False) -> None:
+    def __init__(self, explanation: Explanation, at: Optional[int] = None, is_whole: bool = False,
+                 most: int = MOST) -> None:
         self.this, self.waits, self.at, self.is_whole = explanation, explanation.waits, at, is_whole
         chain = [] if at is None else explanation.chain(at)
-        some = range(self.waits.number) if at is None else self.with_root(chain)
+        some = list(range(self.waits.number)) if at is None else self.with_root(chain)
+        others = set() if is_whole else stand_for_others(explanation).difference(chain)
+        self.stand_ins = len(others.intersection(some)) if not others.issuperset(some) else 0
+        some = [number for number in some if number not in others] if self.stand_ins else some
         self.has_sites = len({process.site for process in self.waits.processes}) > 1
-        rows = Folding(explanation, some, {*chain[:ENDS], *chain[-ENDS:]}, is_whole).rows()
+        rows = Folding(explanation, some, {*chain[:ENDS], *chain[-ENDS:]}, is_whole, most).rows()
         self.boxes = [self.box(number, part, row) for number, (part, row) in enumerate(rows)]
         self.box_of = {it: box.number for box in self.boxes for it in box.members}
         self.restarts = restarts(explanation)
@@ -65,6 +70,27 @@ class Picture:
         self.left_out = 0  # arrows that aren't drawn
         self.within: Set[int] = set()  # boxes of which some wait for others in them, with no arrow for that
         self.arrows = [it._replace(words=self.words_of(it)) for it in (*self.waits_of_boxes(), *self.messages())]
+        self.ring = self.places_in_rings()
+
+    def places_in_rings(self) -> Dict[int, Tuple[int, int]]:
+        """Returns of each box of a root that is a ring of three or more, none of which is folded, its place in the ring
+        and the length of that."""
+        places: Dict[int, Tuple[int, int]] = {}
+        for number in {box.part.root for box in self.boxes if box.part.sort == ROOT}:
+            members = self.this.cycle(number or 0)
+            boxes = [self.box_of[member] for member in members if member in self.box_of]
+            if 2 < len(members) == len(set(boxes)) and all(len(self.boxes[box].members) == 1 for box in boxes):
+                places.update((box, (place, len(boxes))) for place, box in enumerate(boxes))
+        return places
+
+    def turn(self, arrow: Arrow) -> int:
+        """Returns where an arrow within a root leads: 1 away from its first box, as nearly all do, -1 back to it, or 0
+        where a ring turns."""
+        if arrow.start not in self.ring or arrow.end not in self.ring:
+            return 1
+        (start, length), (end, _) = self.ring[arrow.start], self.ring[arrow.end]
+        far, near = min(end, length - end), min(start, length - start)
+        return (far > near) - (far < near)
 
     def with_root(self, chain: Row) -> Row:
         """Returns a chain with all of the root that it ends in."""

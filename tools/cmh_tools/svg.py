@@ -5,14 +5,20 @@ from __future__ import annotations
 import shutil
 import subprocess
 import xml.etree.ElementTree as ElementTree
-from typing import Dict, Iterator
+from typing import Dict, Iterator, List, Tuple
 
-from .dot import dot, in_svg
+from .dot import Plan, dot, in_svg
 from .files import Failure, shown
+from .folding import MOST
 from .picture import Picture
 from .start import SIGNALS
+from .titles import crossed, free_titles
 
 SPACE = "http://www.w3.org/2000/svg"
+# The layouts that are tried, one after the other.
+PLANS = (Plan(), Plan(has_site_frames=False), Plan(width=28, gap=0.35), Plan(width=28, gap=0.3, has_site_frames=False),
+         Plan(width=28, gap=0.35, is_upright=True), Plan(width=28, gap=0.3, has_site_frames=False, is_upright=True))
+FIT = 1230  # wide at most, in points: its letters of 11 points have 11 pixels on a screen of 1,300
 SECONDS = 120  # that a layout may take: one of 40 boxes takes less than one
 NO_GRAPHVIZ = "the command dot isn't there, which lays out pictures (Debian: apt-get install graphviz)"
 ROOT = "cluster_root_"
@@ -30,10 +36,37 @@ def check_graphviz() -> None:
 def svg(picture: Picture) -> str:
     """Returns the text of a picture as SVG. Raises Failure if Graphviz isn't there, or fails."""
     check_graphviz()
+    return text_of_tree(picture, best_tree(picture))
+
+
+def best_tree(picture: Picture) -> ElementTree.Element:
+    """Returns the first layout that is narrow enough, and whose titles no arrow crosses, or else the best one."""
+    trees: List[Tuple[float, int, int, ElementTree.Element]] = []
+    for plan in PLANS if len(picture.boxes) <= MOST else PLANS[:1]:
+        tree = tree_of(dot(picture, plan))
+        faults = len(crossed(tree)), max(width_of(tree) - FIT, 0)
+        if faults == (0, 0):
+            return tree
+        trees.append((faults[1], faults[0], len(trees), tree))
+    tree = min(trees, key=lambda row: row[:3])[3]
+    free_titles(tree)
+    return tree
+
+
+def width_of(tree: ElementTree.Element) -> float:
+    return float(tree.get("viewBox", "0 0 0 0").split()[2])
+
+
+def tree_of(text: str) -> ElementTree.Element:
+    """Returns what Graphviz makes of the text of a graph."""
     try:
-        tree = ElementTree.fromstring(laid_out(dot(picture)))
+        return ElementTree.fromstring(laid_out(text))
     except ElementTree.ParseError as error:
         raise Failure(f"what dot prints is no SVG: {error}") from None
+
+
+def text_of_tree(picture: Picture, tree: ElementTree.Element) -> str:
+    """Returns the text of an SVG with the words of a picture."""
     made = ElementTree.Element("svg", {"xmlns": SPACE, "role": "img", "aria-labelledby": "cmh-title",
                                        "aria-describedby": "cmh-desc", "viewBox": tree.get("viewBox", "")})
     made.set("width", tree.get("width", ""))
