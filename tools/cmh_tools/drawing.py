@@ -22,21 +22,21 @@ class Drawing(NamedTuple):
     svg: str
 
 
-def drawing(this: Explanation, at: Optional[int]) -> Drawing:
+def drawing(this: Explanation, index: Optional[int]) -> Drawing:
     """Returns the drawing of an answer, laid out by Graphviz, or, where that isn't there or fails, here."""
     try:
         check_graphviz()
-        return fitting(this, at, best_tree)
+        return fitting(this, index, best_tree)
     except Failure as failure:
         say(f"cmh-explain: the page has a simple picture: {failure}")
-    return fitting(this, at, layered_tree)
+    return fitting(this, index, layered_tree)
 
 
-def fitting(this: Explanation, at: Optional[int], laid_out: Callable[[Picture], Element]) -> Drawing:
+def fitting(this: Explanation, index: Optional[int], laid_out: Callable[[Picture], Element]) -> Drawing:
     """Returns a drawing that is narrow enough for its letters, if one is."""
     sizes: List[int] = []
     for most in SIZES:
-        picture = Picture(this, at, most=most)
+        picture = Picture(this, index, most=most)
         if len(picture.boxes) in sizes:
             continue
         sizes.append(len(picture.boxes))

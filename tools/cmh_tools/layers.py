@@ -111,7 +111,8 @@ class Layers:
             arrow = self.picture.arrows[number]
             if link:
                 by_box.setdefault(arrow.end if arrow.style == MESSAGE else arrow.start, []).append(number)
-        return {number: (place + 1) / (len(some) + 1) for some in by_box.values() for place, number in enumerate(some)}
+        return {number: (place + 1) / (len(arrows) + 1) for arrows in by_box.values()
+                for place, number in enumerate(arrows)}
 
     def arrows_within(self, numbers: Iterable[int]) -> List[Tuple[int, Arrow]]:
         inside = set(numbers)
@@ -146,7 +147,7 @@ class Layers:
         wide, tall = (max(size[side] for size in sizes.values()) for side in (0, 1))
         first, second = MARGIN + LINE * len(title) + 6, MARGIN + LINE * len(title) + 6 + tall + 3 * LANE
         boxes = {number: Spot(MARGIN + place * (wide + 36), row, wide, tall)
-                 for row, some in ((first, upper), (second, lower)) for place, number in enumerate(some)}
+                 for row, members in ((first, upper), (second, lower)) for place, number in enumerate(members)}
         width = MARGIN + len(upper) * (wide + 36) - 36 + MARGIN
         paths: Dict[int, List[Point]] = {}
         pairs: Dict[FrozenSet[int], int] = {}

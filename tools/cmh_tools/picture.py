@@ -57,12 +57,12 @@ class Picture:
                  most: int = MOST) -> None:
         self.this, self.waits, self.at, self.is_whole = explanation, explanation.waits, at, is_whole
         chain = [] if at is None else explanation.chain(at)
-        some = list(range(self.waits.number)) if at is None else self.with_root(chain)
+        drawn = list(range(self.waits.number)) if at is None else self.with_root(chain)
         others = set() if is_whole else stand_for_others(explanation).difference(chain)
-        self.stand_ins = len(others.intersection(some)) if not others.issuperset(some) else 0
-        some = [number for number in some if number not in others] if self.stand_ins else some
+        self.stand_ins = len(others.intersection(drawn)) if not others.issuperset(drawn) else 0
+        drawn = [number for number in drawn if number not in others] if self.stand_ins else drawn
         self.has_sites = len({process.site for process in self.waits.processes}) > 1
-        rows = Folding(explanation, some, {*chain[:ENDS], *chain[-ENDS:]}, is_whole, most).rows()
+        rows = Folding(explanation, drawn, {*chain[:ENDS], *chain[-ENDS:]}, is_whole, most).rows()
         self.boxes = [self.box(number, part, row) for number, (part, row) in enumerate(rows)]
         self.box_of = {it: box.number for box in self.boxes for it in box.members}
         self.restarts = restarts(explanation)

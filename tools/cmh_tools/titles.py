@@ -78,7 +78,7 @@ def crossed(tree: Element) -> List[Element]:
     curves = [point for group in tree.iter() if "edge" in group.get("class", "").split()
               for path in group if tag_of(path) == "path" for point in points(path.get("d", ""))]
     areas = [(group, [area_of(text) for text in texts(group)]) for group in titled(tree)]
-    return [group for group, some in areas if any(area.has(point) for area in some for point in curves)]
+    return [group for group, lines in areas if any(area.has(point) for area in lines for point in curves)]
 
 
 def free_titles(tree: Element) -> None:
@@ -110,5 +110,5 @@ def line_of(text: Element) -> float:
 
 def shift_of(graph: Element) -> Point:
     """Returns by how much Graphviz moves all of a graph."""
-    found = re.search(r"translate\((-?[\d.]+)[ ,]+(-?[\d.]+)\)", graph.get("transform", ""))
-    return (float(found[1]), float(found[2])) if found else (0, 0)
+    moved = re.search(r"translate\((-?[\d.]+)[ ,]+(-?[\d.]+)\)", graph.get("transform", ""))
+    return (float(moved[1]), float(moved[2])) if moved else (0, 0)
