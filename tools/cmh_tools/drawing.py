@@ -1,6 +1,7 @@
 """The picture of an answer as it stands in a page: laid out, and folded until its letters are large enough."""
 from __future__ import annotations
 
+import re
 from typing import Callable, List, NamedTuple, Optional
 from xml.etree.ElementTree import Element
 
@@ -20,6 +21,11 @@ class Drawing(NamedTuple):
 
     picture: Picture
     svg: str
+
+    def beside(self) -> str:
+        """Returns the SVG as it stands in a page beside another, whose parts alone have numbers."""
+        words = re.sub(r' (?:id="b\d+"|data-(?:box|root)="\d+")', "", self.svg)
+        return re.sub(r'"cmh-(title|desc)"', r'"cmh-older-\1"', words)
 
 
 def drawing(this: Explanation, index: Optional[int]) -> Drawing:

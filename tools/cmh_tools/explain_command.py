@@ -9,6 +9,7 @@ from typing import Any, Iterator, Optional, Sequence, Tuple
 
 from .answer import Tree, answer, text_of_answer
 from .check import describe_fault
+from .comparison import Comparison
 from .command import Parser, Read, dump_of_notes, is_dump, is_notes, notes_path, run, sketch_of_dump
 from .dot import dot
 from .drawing import drawing
@@ -16,7 +17,7 @@ from .dump import Dump
 from .explain import Explanation
 from .files import (Failure, Refusal, hindrance, read_bytes, read_text, say, shown, text_of_bytes, write_out,
                     write_texts)
-from .page import page
+from .page import Older, page
 from .picture import Picture
 from .screen import screen
 from .program import compare, confirm, deadlocked_names, identity
@@ -36,6 +37,8 @@ MOST_OF_STATES = 2_000_000  # characters, in a page
 def parser() -> Parser:
     it = Parser("cmh-explain", description=ABOUT, epilog=MORE)
     it.add_argument("dump", metavar="DUMP", help="a dump; its notes are read from DUMP.notes.json")
+    it.add_argument("newer", metavar="NEW", nargs="?",
+                    help="a newer dump of the same system, for a page of both: --html FILE DUMP NEW")
     it.add_argument("--all", action="store_true", help="show all that is known, in place of the first screen")
     it.add_argument("--why", metavar="NAME", help="show the chain from one process to what its answer rests on")
     how = it.add_mutually_exclusive_group()
@@ -125,21 +128,25 @@ def index_of(dump: Dump, name: str) -> int:
 def check_page(asked: Any) -> None:
     """Raises Failure if no page can be written where it is asked for, or there is none for a state."""
     if asked.html is None:
-        if asked.state:
-            raise Failure("--state is for a page: it needs --html", 2)
+        if asked.state or asked.newer is not None:
+            what = "--state is for a page" if asked.state else "two dumps are for a page of both"
+            raise Failure(f"{what}: it needs --html", 2)
         return
-    why = hindrance(asked.html, [asked.dump, notes_path(asked.dump), *asked.state])
+    dumps = [asked.dump] if asked.newer is None else [asked.dump, asked.newer]
+    why = hindrance(asked.html, [*dumps, *map(notes_path, dumps), *asked.state])
     if why:
         raise Failure(f"--html {shown(asked.html)}: the page goes to a file of its own: {why}", 2)
 
 
-def write_page(asked: Any, explanation: Explanation, tree: Tree, at: Optional[int]) -> None:
-    """Writes the page of an answer, and prints its first line."""
+def write_page(asked: Any, explanation: Explanation, tree: Tree, at: Optional[int],
+               old: Optional[Explanation]) -> None:
+    """Writes the page of an answer, with an older one beside it, if there is one, and prints its first line."""
     states = [(os.path.basename(path), read_text(path)) for path in asked.state]
     if sum(len(lines) for _, lines in states) > MOST_OF_STATES:
         raise Refusal(f"--state: a page takes states of at most {MOST_OF_STATES:,} characters")
     summary = explanation.summary(at)
-    write_texts([(asked.html, page(explanation, tree, drawing(explanation, at), states))])
+    older = None if old is None else Older(Comparison(old, explanation), drawing(old, None).beside())
+    write_texts([(asked.html, page(explanation, tree, drawing(explanation, at), states, older))])
     write_out(summary)
 
 
@@ -162,13 +169,15 @@ def is_file(stream: Any) -> bool:
 
 
 def main(words: Sequence[str]) -> int:
-    asked = parser().parse_args(words)
+    asked = parser().parse_intermixed_args(words)  # (so that --html FILE may stand between both dumps)
     check_page(asked)
     if asked.svg:
         with words_for_picture():
             check_graphviz()
-    dump, noted = load(asked.dump, asked.without_notes)
-    explanation = Explanation(dump, asked.all, style_of_output(asked.color))
+    style = style_of_output(asked.color)
+    old = None if asked.newer is None else Explanation(load(asked.dump, asked.without_notes)[0], asked.all, style)
+    dump, noted = load(asked.dump if asked.newer is None else asked.newer, asked.without_notes)
+    explanation = Explanation(dump, asked.all, style)
     at, status = None if asked.why is None else index_of(dump, asked.why), explanation.status()
     if asked.json:
         write_out(text_of_answer(answer(explanation, noted, at)))
@@ -179,7 +188,7 @@ def main(words: Sequence[str]) -> int:
             picture = svg(Picture(explanation, at, asked.all))
         write_out(picture)
     elif asked.html is not None:
-        write_page(asked, explanation, answer(explanation, noted, at), at)
+        write_page(asked, explanation, answer(explanation, noted, at), at, old)
     elif asked.summary:
         write_out(explanation.summary(at))
     elif not asked.quiet:

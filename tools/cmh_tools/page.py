@@ -9,6 +9,7 @@ from typing import Dict, Iterable, Iterator, List, NamedTuple, Optional, Sequenc
 
 from . import VERSION
 from .answer import Tree
+from .comparison import CHANGES, Comparison, RootChange
 from .explain import Explanation, number_of
 from .files import MOST_OF_LINE, escaped, shown
 from .drawing import Drawing
@@ -30,6 +31,13 @@ NO_PICTURE = "There is no picture here: where this page was made, Graphviz isn't
 MADE = "Made by cmh-explain {}. The program cmh, with the SHA-256 {}, has confirmed this answer. What cmh says of " \
     "the dump is proved. What is said of the state is tested, not proved."
 States = Sequence[Tuple[str, str]]
+
+
+class Older(NamedTuple):
+    """An older answer that stands beside: how the newer one compares with it, and its picture."""
+
+    comparison: Comparison
+    picture: str
 
 
 class Section(NamedTuple):
@@ -59,8 +67,9 @@ def listed(items: Iterable[str]) -> List[str]:
 class Page:
     """The page of an answer, which is `tree`. `states` are texts with their names."""
 
-    def __init__(self, this: Explanation, tree: Tree, picture: Optional[Drawing], states: States) -> None:
-        self.this, self.tree, self.picture, self.states = this, tree, picture, states
+    def __init__(self, this: Explanation, tree: Tree, picture: Optional[Drawing], states: States,
+                 older: Optional[Older] = None) -> None:
+        self.this, self.tree, self.picture, self.states, self.older = this, tree, picture, states, older
         self.rows: List[Tree] = tree["processes"]
         self.index, self.restarts = this.waits.index, restarts(this)
         self.steps = next_steps(this)
@@ -85,7 +94,8 @@ class Page:
 
     def html(self) -> str:
         """Returns the text of the page."""
-        sections = [Section("roots", "Roots: where it has to be broken", "Roots", list(self.roots())),
+        sections = [Section("since", "Since the older answer", "Since then", list(self.since())),
+                    Section("roots", "Roots: where it has to be broken", "Roots", list(self.roots())),
                     Section("picture", "Picture", "Picture", self.picture_parts()),
                     Section("undecided", "Undecided", "Undecided", list(self.undecided())),
                     Section("processes", "Processes", "Processes", self.table()),
@@ -104,7 +114,8 @@ class Page:
 
     def data(self) -> Tree:
         """Returns what the script knows."""
-        data = Data(self.this, self.tree, self.order, self.steps, self.reasons)
+        changes = self.older.comparison.changes if self.older else {}
+        data = Data(self.this, self.tree, self.order, self.steps, self.reasons, changes)
         return data.tree_of(self.picture.picture if self.picture else None)
 
     def about(self) -> str:
@@ -114,6 +125,43 @@ class Page:
         words = f"{number_of(counts['processes'])}: {counts['stuck']:,} stuck, {counts['likely']:,} likely stuck, " \
             f"{counts['undecided']:,} undecided, {counts['not_stuck']:,} not stuck{ended}."
         return words + (f" This is {self.tree['as_of']}." if self.tree["as_of"] else "")
+
+    # Two answers
+
+    def since(self) -> Iterator[str]:
+        """Yields what changed since an older answer, beside which this one stands."""
+        if self.older is None:
+            return
+        compared = self.older.comparison
+        heads = [f"<p>{text(headline(explanation))}</p>" for explanation in (compared.old, compared.new)]
+        yield f'<div class="beside"><div><h3>Older</h3>{heads[0]}</div><div><h3>Newer</h3>{heads[1]}</div></div>'
+        rows = [f"<tr><td>{self.cell(compared.old, change.old)}</td><td>{self.cell(compared.new, change.new)}</td>"
+                f"<td>{self.root_words(change)}</td></tr>"
+                for change in compared.roots[:None if self.this.everything else ROOTS]]
+        if rows:
+            yield '<table class="roots"><thead><tr><th scope="col">Older</th><th scope="col">Newer</th>' \
+                '<th scope="col">Which is</th></tr></thead><tbody>'
+            yield from (*rows, "</tbody></table>")
+        yield from listed(f"{number_of(len(names))} {several(change, len(names))}: {self.links_or_names(names)}"
+                          for change, names in ((change, compared.names(change)) for change in CHANGES) if names)
+        yield f"<details><summary>The older picture</summary>{self.older.picture}</details>"
+
+    def cell(self, explanation: Explanation, root: int) -> str:
+        """Returns a root of an answer with its first members, or nothing where it isn't in it."""
+        members = explanation.roots.roots[root - 1] if root else []
+        names = [explanation.process(index).name for index in members]
+        return f"Root {root}: {self.links_or_names(names)}" if root else ""
+
+    def root_words(self, change: RootChange) -> str:
+        came, left = (f"; {word} {self.links_or_names(names)}" if names else ""
+                      for word, names in (("more:", change.came), ("no more:", change.left)))
+        return f"{change.word}{came}{left}"
+
+    def links_or_names(self, names: Sequence[str]) -> str:
+        """Returns the first few names, with links to those that are there."""
+        most = len(names) if self.this.everything else NAMES
+        words = [self.link(name) if name in self.index else self.short(shown(name), LONG_LINK) for name in names[:most]]
+        return ", ".join(words) + (f" and {len(names) - most:,} more" if names[most:] else "")
 
     # Roots
 
@@ -325,6 +373,12 @@ def hang(number: int, before: str, behind: str) -> str:
     return f"{before}{number_of(number, 'other hangs', 'others hang')}{behind}" if number else ""
 
 
+def several(change: str, number: int) -> str:
+    """Returns what became of some, as one says it of one or of several."""
+    verb, _, rest = change.partition(" ")
+    return change if number == 1 else f"{({'is': 'are', 'has': 'have'})[verb]} {rest}"
+
+
 def text_of_section(section: Section) -> str:
     body = "\n".join(section.parts)
     head = f'<h2 id="{section.name}">{section.head}</h2>'
@@ -340,6 +394,7 @@ def text_of_lines(lines: Iterable[str]) -> str:
     return "\n".join(map(text, lines))
 
 
-def page(this: Explanation, tree: Tree, picture: Optional[Drawing], states: States = ()) -> str:
-    """Returns the text of the page of an answer."""
-    return Page(this, tree, picture, states).html()
+def page(this: Explanation, tree: Tree, picture: Optional[Drawing], states: States = (),
+         older: Optional[Older] = None) -> str:
+    """Returns the text of the page of an answer, beside which an older one may stand."""
+    return Page(this, tree, picture, states, older).html()

@@ -32,10 +32,11 @@ class Texts:
 
 class Data:
     """The data of the rows of an answer, which are the processes of `order`. `steps` has the next one on the way from
-    each, and `reasons` the anchors of facts and premises."""
+    each, `reasons` the anchors of facts and premises, and `changes` what became of some since an older answer."""
 
     def __init__(self, this: Explanation, tree: Tree, order: Sequence[int], steps: Dict[int, int],
-                 reasons: Dict[str, int]) -> None:
+                 reasons: Dict[str, int], changes: Dict[str, str]) -> None:
+        self.changes = changes
         self.this, self.tree, self.order, self.steps, self.anchors = this, tree, order, steps, reasons
         self.rows: List[Tree] = tree["processes"]
         self.place = {index: row for row, index in enumerate(order)}
@@ -70,6 +71,7 @@ class Data:
             "next": [self.place.get(self.steps.get(index, -1), -1) for index in self.order],
             "end": [self.texts.number(end_words(self.this, self.rows[index], index)) for index in self.order],
             "rests": [self.rests(self.rows[index]) for index in self.order],
+            "change": [self.texts.number(self.changes.get(name, "")) for name in self.some("name")],
             "operation": [self.texts.number(word) for word in self.some("operation")],
             "frames": {row: [self.texts.number(shown(frame)) for frame in self.rows[index]["frames"][:FRAMES]]
                        for row, index in enumerate(self.order) if self.rows[index]["frames"]},

@@ -64,9 +64,10 @@ FILTER = """<form id="filter" hidden>
 <label>Root <select id="root"><option value="">all</option></select></label>
 <label>Site <select id="site"><option value="">all</option></select></label>
 <label>Waits at <select id="place"><option value="">all</option></select></label>
+<label>Since then <select id="change"><option value="">all</option></select></label>
 <label class="check"><input type="checkbox" id="fold"> Fold those that are alike</label>
 <button type="button" id="ofbox" hidden></button>
-<output id="shown" for="text answer root site place fold"></output>
+<output id="shown" for="text answer root site place change fold"></output>
 </form>"""
 VIEW = """<figure>
 <div id="tools" hidden>

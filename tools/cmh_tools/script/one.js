@@ -80,7 +80,8 @@ function showOne(row) {
   const [whom, more] = whomOf(row), by = waitersOf(row), frames = textOf(data.frames[row] || []);
   const site = data.texts[data.site[row]], place = data.texts[data.place[row]];
   fillPanel(data.names[row], waysOf(row), [
-    ...partOf("Answer", ...answerParts(row)), ...(site ? partOf("Site", site) : []),
+    ...partOf("Answer", ...answerParts(row)),
+    ...(data.change[row] ? partOf("Since then", "It " + data.texts[data.change[row]]) : []), ...(site ? partOf("Site", site) : []),
     ...(place ? partOf("What it does", place) : []), ...partOf("Waits for", ...waitParts(row, 40)),
     ...(by.length ? partOf("Who waits for it", ...linksOf(by, 0, 40, ", ")) : []),
     ...partOf("Chain", ...chainParts(row, 12)), ...(frames.length ? partOf("Frames", codeOf(frames)) : []),

@@ -42,6 +42,7 @@ function rowsOf(query) {
     (!query.root || rootsOf(row).includes(Number(query.root))) &&
     (!query.site || data.site[row] === Number(query.site)) &&
     (!query.place || data.place[row] === Number(query.place)) &&
+    (!query.change || data.change[row] === Number(query.change)) &&
     (query.box < 0 || data.box[row] === query.box));
   return query.sort ? sorted(rows, query.sort, query.isDown) : rows;
 }

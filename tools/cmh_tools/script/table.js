@@ -2,7 +2,7 @@
 
 const heads = Array.from(document.querySelectorAll("#table thead th"));
 const list = element("list"), body = document.querySelector("#table tbody");
-const query = {words: "", answer: "", root: "", site: "", place: "", box: -1, sort: "", isDown: false};
+const query = {words: "", answer: "", root: "", site: "", place: "", change: "", box: -1, sort: "", isDown: false};
 const table = {lines: [], open: new Set(), current: 0, height: 28, isTall: false};
 const few = 200, spare = 10;
 
@@ -109,8 +109,8 @@ function showRow(row, takesFocus) {
 }
 
 function clearQuery() {
-  Object.assign(query, {words: "", answer: "", root: "", site: "", place: "", box: -1});
-  ["text", "answer", "root", "site", "place"].forEach((id) => { element(id).value = ""; });
+  Object.assign(query, {words: "", answer: "", root: "", site: "", place: "", change: "", box: -1});
+  ["text", "answer", "root", "site", "place", "change"].forEach((id) => { element(id).value = ""; });
 }
 
 function sortBy(at) {
@@ -175,19 +175,20 @@ function optionsOf(select, column) {
   const found = Array.from(counts).sort((one, other) => other[1] - one[1]).slice(0, 500);
   found.forEach(([it, many]) => select.append(make("option", {value: String(it),
     textContent: data.texts[it].slice(0, 80) + " (" + many.toLocaleString("en") + ")"})));
-  select.parentNode.hidden = found.length < 2;
+  select.parentNode.hidden = found.length < (column === "change" ? 1 : 2);
 }
 
 function startTable() {
   optionsOf(element("site"), "site");
   optionsOf(element("place"), "place");
+  optionsOf(element("change"), "change");
   for (let root = 1; root <= data.roots; root += 1) {
     element("root").append(make("option", {value: String(root), textContent: "root " + root}));
   }
   element("root").parentNode.hidden = data.roots < 2;
   element("fold").checked = number > 400;
   element("fold").parentNode.hidden = new Set(data.alike).size === number;
-  ["answer", "root", "site", "place"].forEach((id) => element(id).addEventListener("change", (event) => {
+  ["answer", "root", "site", "place", "change"].forEach((id) => element(id).addEventListener("change", (event) => {
     query[id] = event.target.value;
     update();
   }));
