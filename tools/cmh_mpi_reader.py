@@ -1,7 +1,7 @@
 #!/usr/bin/env python3
-"""Prints twice what cmh_mpi.so keeps of the ranks of an MPI job on this node, as a state for cmh-dump.
+"""Prints twice, or more often, what cmh_mpi.so keeps of the ranks of an MPI job on this node, as a state for cmh-dump.
 
-    cmh_mpi_reader.py PROGRAM|PID.. [--seconds 5] > NODE.raw
+    cmh_mpi_reader.py PROGRAM|PID.. [--seconds 5] [--looks 2] > NODE.raw
 
 Run it on each node of the job, by the job's user or root. Nothing is stopped and no signal is sent. A record is a file
 in memory that its rank has open, and is taken only if it belongs to the user of that process, and has its number.
@@ -390,16 +390,18 @@ def reading(pids: Sequence[int], number: int) -> Iterator[Row]:
     yield {"end": number, "ranks": len(rows)}
 
 
-def state(words: Sequence[str], seconds: float) -> str:
-    """Returns the state of a job as a text. Raises LookupError if none of it is here."""
+def state(words: Sequence[str], seconds: float, looks: int) -> str:
+    """Returns the state of a job as a text, with so many readings some seconds apart. Raises LookupError if none of it is here."""
     pids = processes_of(words)
     if not pids:
         raise LookupError(f"no process of {' '.join(words)} here has a rank that this user can see")
     rows: List[Row] = [{"version": 1, "host": os.uname().nodename,
                         "space": f"{os.uname().nodename} {os.readlink('/proc/self/ns/pid')}"}]
     rows += reading(pids, 1)
-    time.sleep(seconds)
-    rows += [*reading(pids, 2), {"end": "state"}]
+    for number in range(2, looks + 1):
+        time.sleep(seconds)
+        rows += reading(pids, number)
+    rows.append({"end": "state"})
     return "".join(f"cmh-mpi {json.dumps(row)}\n" for row in rows)
 
 
@@ -407,10 +409,12 @@ def main() -> int:
     it = argparse.ArgumentParser(description=(__doc__ or "").split("\n", 1)[0])
     it.add_argument("words", metavar="PROGRAM|PID", nargs="+", help="the name of the job's executable file, or a rank")
     it.add_argument("--seconds", type=float, default=float(os.environ.get("CMH_SECONDS", "5")),
-                    help="the time between both readings (5, or $CMH_SECONDS)")
+                    help="the time from one reading to the next (5, or $CMH_SECONDS)")
+    it.add_argument("--looks", type=int, default=int(os.environ.get("CMH_LOOKS", "2")),
+                    help="as many readings (2, or $CMH_LOOKS)")
     asked = it.parse_args()
     try:
-        text = state(asked.words, max(0.0, min(3600.0, asked.seconds)))
+        text = state(asked.words, max(0.0, min(3600.0, asked.seconds)), max(2, asked.looks))
     except LookupError as error:
         print(f"cmh_mpi_reader: {error.args[0]}", file=sys.stderr)
         return 1

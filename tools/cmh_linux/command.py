@@ -1,4 +1,4 @@
-"""Both readings, and the command that prints them."""
+"""The readings, and the command that prints them."""
 from __future__ import annotations
 
 import argparse
@@ -19,8 +19,9 @@ from .proc import Row, try_lines
 from .reading import Reading
 
 
-def collect(pids: Sequence[int], seconds: float = 5.0, stacks: bool = False) -> str:
-    """Returns the state of some processes as a text. Raises LookupError if one isn't there, OSError if /proc isn't."""
+def collect(pids: Sequence[int], seconds: float = 5.0, stacks: bool = False, looks: int = 2) -> str:
+    """Returns the state of some processes as a text, with so many readings some seconds apart. Raises LookupError if
+    one isn't there, OSError if /proc isn't."""
     if platform.machine() not in ("x86_64", "aarch64"):
         raise OSError(f"the numbers of calls aren't known on {platform.machine()}")
     if stacks and not debugger():
@@ -34,15 +35,16 @@ def collect(pids: Sequence[int], seconds: float = 5.0, stacks: bool = False) -> 
     near = readings[0].rows_of(kept_of(readings, pids, True))
     add_frames(near)
     add_ages(near)
-    time.sleep(seconds)
-    readings.append(Reading())
+    for _ in range(looks - 1):
+        time.sleep(seconds)
+        readings.append(Reading())
     kept = kept_of(readings, pids)
     rows: List[Row] = [{"version": 1, "machine": platform.machine(), "release": platform.release(),
                         "asked": list(pids), "seconds": seconds, "outside": outside(), "space": space(),
                         "with_stacks": stacks}]
     for number, reading in enumerate(readings, 1):
         rows += reading.text(number, kept)
-    rows += stacks_of(sorted(kept_of(readings, pids, True)), readings[1]) if stacks else []
+    rows += stacks_of(sorted(kept_of(readings, pids, True)), readings[-1]) if stacks else []
     rows.append({"end": "state"})
     return "".join(f"cmh-linux {json.dumps(row)}\n" for row in rows)
 
@@ -95,10 +97,12 @@ def add_options(it: argparse.ArgumentParser, is_needed: bool) -> None:
 def main() -> int:
     it = argparse.ArgumentParser(description="Prints what the kernel keeps of the waits of some processes.")
     add_options(it, True)
+    it.add_argument("--looks", type=int, choices=range(2, 1001), metavar="NUMBER", default=2,
+                    help="as many readings (2)")
     asked = it.parse_args()
     signal.signal(signal.SIGTERM, lambda *_: sys.exit(128 + signal.SIGTERM))  # (so that whom it holds goes on)
     try:
-        sys.stdout.write(collect(asked.pid, asked.seconds, asked.stacks))
+        sys.stdout.write(collect(asked.pid, asked.seconds, asked.stacks, asked.looks))
         sys.stdout.flush()
     except Exception as error:
         is_ours = type(error) is not LookupError and not isinstance(error, OSError)

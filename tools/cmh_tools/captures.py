@@ -17,6 +17,9 @@ from .files import Failure, say, shown
 from .folder import user_of
 
 HOME = os.path.dirname(os.path.dirname(os.path.realpath(__file__)))
+READER = f"{HOME}/cmh_python_reader.py"  # which two looks alone tell from what it does itself
+LONG = 10  # seconds beyond which there is a third look halfway: no more, as each may hold the system, and takes memory
+TIMES = {2: "twice", 3: "three times"}
 PATIENCE = 10  # seconds in which a command that is ended puts away what it has begun
 REST = 1  # seconds in which a process goes on, or stands still, once its debugger has ended
 OURS = ("take-", "cmh_")  # how lines begin that our own scripts say, and no program that they run
@@ -26,11 +29,13 @@ STOP = 1 << (signal.SIGSTOP - 1)  # in a mask of signals
 @dataclass(frozen=True)
 class System:
     """A system, or one way to take it. `says` is what it stops, and for how long; `needs` has the commands that it
-    takes, each with Debian's package; `is_once` says that its recipe prints one state, so that it is run twice."""
+    takes, each with Debian's package; `is_once` says that its recipe prints one state, so that it is run for each look;
+    `is_counted` says that a look counts whatever one has done since the first, so that two show as much as more do."""
 
     says: str
     needs: Dict[str, str] = field(default_factory=dict)
     is_once: bool = False
+    is_counted: bool = False
 
 
 SYSTEMS = {
@@ -42,7 +47,7 @@ SYSTEMS = {
     "python": System("nothing is stopped: a signal wakes the thread of cmh_state, and a system call of the main thread "
                      "may return early"),
     "erlang": System("no process is held, but each while its own stack is printed",
-                     {"erl": "erlang-nox", "erlc": "erlang-nox"}),
+                     {"erl": "erlang-nox", "erlc": "erlang-nox"}, is_counted=True),
     "mariadb": System("nothing is stopped: two statements that only read, of 2 s at most each, ask the server",
                       {"mariadb": "mariadb-client"}),
     "mpi": System("gdb stops each rank in turn while it reads it: twice, some 0.6 s", {"gdb": "gdb"}),
@@ -85,12 +90,26 @@ class Capture:
     has_stacks: bool = False  # of Linux: with the stacks of those at a futex
     beside: Sequence[str] = ()  # of Python: the children that would answer too, and aren't taken
 
+    def looks(self, seconds: float) -> int:
+        """Returns how many looks there are within some seconds."""
+        has_two = SYSTEMS[self.system].is_counted or READER in self.command or "--kill" in self.targets
+        return 2 if has_two or seconds <= LONG else 3
+
+    def pause(self, seconds: float) -> float:
+        """Returns the seconds from one look to the next."""
+        return seconds / (self.looks(seconds) - 1)
+
+    def warning(self, seconds: float) -> str:
+        """Returns what the system feels of it."""
+        return (self.how or SYSTEMS[self.system].says).replace("twice", TIMES[self.looks(seconds)])
+
     def words(self, seconds: float) -> List[str]:
         """Returns the command that prints it."""
         if self.command:
             return [*self.command, *self.targets]
         if self.system == "linux":
-            collector = [sys.executable, f"{HOME}/cmh_linux", "--seconds", f"{seconds:g}"]
+            collector = [sys.executable, f"{HOME}/cmh_linux", "--seconds", f"{self.pause(seconds):g}",
+                         "--looks", str(self.looks(seconds))]
             collector += ["--stacks"] if self.has_stacks else []
             return [*collector, *(word for pid in self.targets for word in ("--pid", pid))]
         return [recipe(self.system), *(nodes_first(self.targets) if self.system == "erlang" else self.targets)]
@@ -101,9 +120,10 @@ class Capture:
             return [pid for it in self.targets for pid in pids_of(it)]
         return []
 
-    def names(self) -> List[str]:
+    def names(self, seconds: float) -> List[str]:
         """Returns the names of the files that have its states."""
-        return [f"{self.system}.{at}.state" for at in range(1, 3 if SYSTEMS[self.system].is_once else 2)]
+        number = self.looks(seconds) if SYSTEMS[self.system].is_once else 1
+        return [f"{self.system}.{at}.state" for at in range(1, number + 1)]
 
 
 def nodes_first(words: Sequence[str]) -> List[str]:
@@ -147,7 +167,7 @@ def captures_for(system: str, targets: List[str], may_kill: bool, may_dump: bool
     way = way_to_python(targets) if is_bare else ""
     if not way:
         return [replace(made, how=f"{made.how}; {TO_SEE_INSIDE}")] if is_bare else [made]
-    command = [sys.executable, f"{HOME}/cmh_python_reader.py", way]
+    command = [sys.executable, READER, way]
     frames = Capture("python", targets, PYTHON_WAYS[way], command)
     return [frames, made] if way == "py-spy" else [frames]  # (gdb takes too long for both to be of one time)
 
@@ -312,7 +332,8 @@ class Running:
         self.held = [pid for pid in capture.held() if not standstill(pid)]
         self.process = subprocess.Popen(
             capture.words(seconds), stdin=subprocess.DEVNULL, stdout=subprocess.PIPE, stderr=subprocess.PIPE,
-            start_new_session=True, env={**os.environ, "CMH_SECONDS": f"{seconds:g}", **env})
+            start_new_session=True, env={**os.environ, "CMH_SECONDS": f"{capture.pause(seconds):g}",
+                                         "CMH_LOOKS": str(capture.looks(seconds)), **env})
 
     def text(self, seconds: float) -> Optional[str]:
         """Returns what it printed, or None if it hasn't ended within so many seconds. Then `lacks` has what it couldn't
@@ -347,12 +368,12 @@ def take(captures: Sequence[Capture], seconds: float, env: Dict[str, str]) -> It
     try:
         running += [Running(it, seconds, env) for it in captures]
         for it in tuple(running):
-            texts = [wait(it, begun)]
-            for _ in it.capture.names()[1:]:
-                time.sleep(max(0.0, seconds - (time.monotonic() - begun)))
+            texts, names = [wait(it, begun)], it.capture.names(seconds)
+            for number in range(1, len(names)):
+                time.sleep(max(0.0, number * it.capture.pause(seconds) - (time.monotonic() - begun)))
                 running.append(Running(it.capture, seconds, env))
                 texts.append(wait(running[-1], begun))
-            yield dict(zip(it.capture.names(), texts))
+            yield dict(zip(names, texts))
         for line in dict.fromkeys(line for command in running for line in command.lacks):
             say(f"warning: {line}")
     finally:

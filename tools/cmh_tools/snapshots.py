@@ -11,7 +11,7 @@ from __future__ import annotations
 import functools
 from dataclasses import dataclass, field, replace
 from itertools import zip_longest
-from typing import Any, Dict, FrozenSet, List, Optional, Set, Tuple
+from typing import Any, Dict, FrozenSet, List, Optional, Sequence, Set, Tuple
 
 from .files import escaped, short_name
 from .model import Anybody, Part, Sign, Wakers, unseen
@@ -31,7 +31,8 @@ UNCOUNTED = "nothing counts how often it has waited, so the states may show two 
 GROWN = "it is at the same place with a count that has grown, so the states may show two waits"
 DIFFER = "the states differ in whether it waits for any or for all"
 SHOWN = 5  # names in a reason
-COME_BACK = {Sign.TICKS: Sign.TICKS, Sign.SLEEPS: Sign.POLLS, Sign.POLLS: Sign.POLLS, Sign.GOES_ON: Sign.GOES_ON}
+# What one with a limit does, by what its place says, if a count says that it has come back there.
+COME_BACK = {Sign.TICKS: Sign.TICKS, Sign.SLEEPS: Sign.POLLS, Sign.POLLS: Sign.POLLS}
 COME = "the states differ in who hasn't come yet"
 
 
@@ -64,11 +65,10 @@ def compare(sketches: List[Sketch], extents: List[str], moment: str) -> Sketch:
     """Returns the sketch of the sketches of one system, each as it was read later than the one before, where names
     stand for the same processes. `extents` has how much of the system each has, and `moment` is ONCE, WOKEN or APART
     unless a process has its own."""
-    made = functools.reduce(lambda first, row: both(first, *row), zip(sketches[1:], extents[1:], extents), sketches[0])
+    made = functools.reduce(lambda first, row: merge(first, *row), zip(sketches[1:], extents[1:], extents), sketches[0])
     made.readings = len(sketches)
+    set_signs(made, sketches[1:])
     for process in made.processes:
-        if process.sign is Sign.TICKS and len(sketches) == 1:
-            process.sign = Sign.SLEEPS
         if (process.moment or moment) != ONCE and (len(sketches) == 1 or process.count is None):
             doubt_wait(process, ONE_STATE if len(sketches) == 1 else UNCOUNTED)
     return made
@@ -86,9 +86,27 @@ def doubt_wait(process: Process, doubt: str) -> None:
         process.parts = [(*part, unseen("uncounted", doubt)) for part in process.parts]
 
 
-def both(first: Sketch, second: Sketch, extent: str = PARTS, before: str = PARTS) -> Sketch:
+def both(first: Sketch, second: Sketch) -> Sketch:
+    """Returns the sketch of two sketches of one system, in either of which somebody may be missing."""
+    made = merge(first, second)
+    set_signs(made, [second])
+    return made
+
+
+def set_signs(sketch: Sketch, later: Sequence[Sketch]) -> None:
+    """Says of each one with a limit whether it has come back to its place, by its counts in the first sketch, whose
+    processes these are, and in the last."""
+    last = {process.name: process.count for process in later[-1].processes} if later else {}
+    for process in sketch.processes:
+        if process.sign in COME_BACK:
+            counts = process.count, last.get(process.name)
+            has_come_back = None not in counts and counts[0] != counts[1]
+            process.sign = COME_BACK[process.sign] if has_come_back else Sign.SLEEPS
+
+
+def merge(first: Sketch, second: Sketch, extent: str = PARTS, before: str = PARTS) -> Sketch:
     """Returns the sketch of two sketches of one system. `extent` says how much of the system the second has, and
-    `before` how much the one that was read before it has."""
+    `before` how much the one that was read before it has. Those with a limit have the sign of their place yet."""
     later = {process.name: process for process in second.processes}
     missing = missing_names(first, later, extent)
     processes = [forget(it) if it.name in missing else join(it, later.get(it.name)) for it in first.processes]
@@ -164,16 +182,16 @@ def moved(process: Process, why: str) -> Process:
 
 
 def runner_of(process: Process, later: Process) -> Process:
-    """One that goes on in one of the states at least, at the same place in both. It ticks if it has come back to its
-    place in the loop of its own thread or task, and polls if it has come back to it below a call."""
+    """One that goes on in one of the states at least, at the same place in both. One with a limit keeps its sign and
+    its first count, by which it is seen whether it has come back, unless the states differ in what it does there."""
     one = next(it for it in (process, later) if it.sign in GOING)
     signs = {process.sign, later.sign}
     if Sign.GOES_ON in signs:
         one = next(it for it in (process, later) if it.sign is Sign.GOES_ON)
-    has_come_back = None not in (process.count, later.count) and process.count != later.count
-    limited = COME_BACK[process.sign] if has_come_back and process.sign is later.sign else Sign.SLEEPS
-    sign = Sign.GOES_ON if Sign.GOES_ON in signs else limited
-    return replace(process, sign=sign, parts=[], reason=one.reason, because=one.because)
+    is_same = process.sign is later.sign
+    sign = Sign.GOES_ON if Sign.GOES_ON in signs else process.sign if is_same else Sign.SLEEPS
+    return replace(process, sign=sign, parts=[], reason=one.reason, because=one.because,
+                   count=process.count if is_same else None)
 
 
 def waiter_of(process: Process, later: Process) -> Process:

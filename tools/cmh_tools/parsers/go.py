@@ -25,7 +25,7 @@ from .base import Parser, Reach, Snapshot
 from .go_frames import (CONNECTION, NEEDS_ALL, WATCHER, Place, entry_of, is_at_another, is_jobs, is_of_runtime, is_own,
                         lacks_wait, takes_state)
 from .go_starters import MAIN, UNSEEN, Starters, unseen_starter
-from .go_text import ADDRESS, TAKER, Dump, Goroutine, read_dumps
+from .go_text import ADDRESS, AGAIN, TAKER, Dump, Goroutine, read_dumps
 
 SITE = "the Go program"
 # States in which a goroutine goes on by itself, or the runtime sees to it.
@@ -41,7 +41,7 @@ READER, WRITER = "sync.RWMutex.RLock", "sync.RWMutex.Lock"
 SIGNALS = "os/signal.signal_recv"  # of the goroutine that is there once the program asks for a signal
 NAMED = 3  # names in a reason
 MOST = 200  # more who have what one waits at in a frame tell nothing of it
-SHORT = 2 * 10 ** 9  # nanoseconds: who sleeps no longer has come back to its sleep from one state to the next
+SHORT = 2  # seconds: who sleeps no longer has come back to its sleep from one state to the next
 SLEEP = re.compile(r"0x[0-9a-f]+")
 RECORD = "channels and locks by cmh_go"  # where a record of an older version begins, of which nothing is read
 ENDERS = {
@@ -72,6 +72,7 @@ class GoParser(Parser):
 
     def __init__(self) -> None:
         self.dumps: List[Dump] = []
+        self.seconds = 0.0  # from the first state to the last, as far as that is said
         self.warnings: List[str] = []
         self.names: Dict[str, str] = {}
         self.again: Dict[int, str] = {}  # by the ids of goroutines, what tells their place from that of before
@@ -83,6 +84,7 @@ class GoParser(Parser):
         text = state.text[:start] if state.text.startswith(RECORD, start) else state.text
         dumps = read_dumps(state.path, text)
         self.dumps += dumps
+        self.seconds += sum(map(float, AGAIN.findall(state.text)))
         return [self.reading_of(dump) for dump in dumps]
 
     def reading_of(self, dump: Dump) -> Reading:
@@ -181,9 +183,10 @@ class GoParser(Parser):
 
     def sleeper(self, goroutine: Goroutine, place: Place, name: str) -> Process:
         """One that sleeps. One that sleeps for a short time in the function that it was started with has come back to
-        that sleep from one state to the next."""
+        that sleep from the first state to the last."""
         found = next((frame.arguments for frame in goroutine.frames if frame.function == "time.Sleep"), "")
-        is_short = SLEEP.fullmatch(found) is not None and 0 < int(found, 16) <= SHORT
+        nanoseconds = int(found, 16) if SLEEP.fullmatch(found) else 0
+        is_short = 0 < nanoseconds <= max(SHORT, self.seconds / 2) * 10 ** 9
         sign = Sign.TICKS if is_in_own_loop(goroutine) else Sign.SLEEPS
         count = self.look_of(goroutine) if is_short else None
         return goes_on(name, place.idle or "sleeps", [premise(LIMIT)], sign, operation="timed sleep", count=count)

@@ -14,7 +14,7 @@ from __future__ import annotations
 
 import re
 from dataclasses import dataclass
-from typing import Any, Dict, Iterator, List, Optional, Set
+from typing import Any, Dict, Iterator, List, Optional
 
 from ..model import Part, Sign, unseen
 from ..sketch import Process, Sketch
@@ -26,7 +26,7 @@ from .python_frames import is_of_frames, looks_of_frames
 from .python_job import Job, machine_of
 from .python_names import NEED_ALL, Names, Standing, lasting_objects, operation_of, own_frames
 from .python_tasks import Waits
-from .python_text import Frame, Row, is_number, looks_of
+from .python_text import Frame, Look, Row, is_number, looks_of
 from .python_waits import Wait, is_job, unsure
 
 PLACES, HANDED = ("thread", "task"), ("asked", "caller")  # kinds of subjects: that stand somewhere, or are to begin
@@ -95,7 +95,7 @@ class PythonParser(Parser):
         self.dumps = 0
         self.names = Names([])
         self.is_alone = True
-        self.signals: Dict[Any, Set[Any]] = {}
+        self.looks: Dict[Any, List[Look]] = {}  # of each process
 
     def read(self, state: State) -> List[Reading]:
         looks = looks_of_frames(state.path, state.text) if is_of_frames(state.text) else looks_of(state)
@@ -115,7 +115,7 @@ class PythonParser(Parser):
         places = {look.place() for look in looks}
         self.is_alone = len(places) == 1
         for look in looks:
-            self.signals.setdefault(look.place(), set()).add(look.head.get("signal"))
+            self.looks.setdefault(look.place(), []).append(look)
         for reading, look in zip(readings, looks):
             reading.site = self.names.processes[look.place()]
             lost = [child for child in look.children if look.place(child) not in places]
@@ -159,21 +159,31 @@ class PythonParser(Parser):
         return process
 
     def count(self, process: Process, subject: Subject) -> None:
-        """Gives a process the count of its waits, and says of it how it was read. The main thread is woken by each
-        signal that asks for states, so its count holds only for the states of one signal."""
+        """Gives a process the count of its waits, and says of it how it was read."""
         thread = subject.thread()
         is_held = subject.what in HANDED or subject.what == "task" and \
             subject.job.holder(subject.loop() or {}) is not None
         counts = [subject.row.more["wait"]] if subject.what == "task" else []
         has_grown = False
         if subject.what == "thread" or is_held:
-            counts.append(stops_of(thread, len(self.signals[subject.job.look.place()]) == 1))
+            counts.append(stops_of(thread) if thread is None or thread.more.get("main") is not True else
+                          self.stops_of_main(thread, subject.job.look))
             has_grown = thread is not None and has_stopped(thread)
         process.count = ", ".join(map(str, counts)) if counts and None not in counts else None
         if has_grown:
             doubt_place(process)
         elif self.is_alone and is_vouched(thread, is_held, subject):
             process.moment = ONCE
+
+    def stops_of_main(self, thread: Row, look: Look) -> Optional[int]:
+        """Returns how often the main thread has stopped. Each signal that asks for states wakes it, so that is known of
+        the states of the first signal alone: if there are two, later ones count as the last of these."""
+        looks = self.looks[look.place()]
+        first = [other for other in looks if other.head.get("signal") == looks[0].head.get("signal")]
+        if "new_stops" not in thread.more or look not in first and len(first) < 2:
+            return None
+        row = thread if look in first else first[-1].threads.get(thread.key)
+        return stops_of(row) if len(first) > 1 or len(looks) == 1 else None
 
     def finish(self, sketch: Sketch, snapshots: List[Jobs]) -> None:
         looks = [look for snapshot in snapshots for look in snapshot.rows()]
@@ -182,12 +192,10 @@ class PythonParser(Parser):
         sketch.warnings += dict.fromkeys(line for look in looks for line in look.warnings)
 
 
-def stops_of(thread: Optional[Row], is_one_signal: bool) -> Optional[int]:
-    """How often a thread has stopped to wait, or None if that isn't known, or isn't the same for the same wait."""
-    more = thread.more if thread is not None else {}
-    stops = more.get("stops")
-    holds = more.get("main") is not True or is_one_signal and "new_stops" in more
-    return stops if isinstance(stops, int) and holds else None
+def stops_of(thread: Optional[Row]) -> Optional[int]:
+    """How often a thread has stopped to wait, or None if that isn't known."""
+    stops = thread.more.get("stops") if thread is not None else None
+    return stops if isinstance(stops, int) else None
 
 
 def has_stopped(thread: Row) -> bool:
