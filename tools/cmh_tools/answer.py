@@ -9,7 +9,7 @@ from collections import Counter
 from typing import Any, Dict, Iterable, List, Optional, Sequence
 
 from . import VERSION
-from .cures import Cures, words_of
+from .cures import words_of
 from .explain import Explanation
 from .findings import LIKELY, NOT_STUCK, STUCK, UNDECIDED, Findings
 from .program import identity
@@ -108,7 +108,7 @@ def root_row(found: Findings, number: int) -> Tree:
 
 def cure_rows(found: Explanation) -> List[Tree]:
     """Returns what breaks all roots."""
-    cures = Cures(found)
+    cures = found.cures
     return [{"units": cure.units, "is_all": cure.is_all, "roots": [number + 1 for number in cure.roots],
              "says": words_of(cures, cure)} for cure in cures.least()]
 

@@ -3,7 +3,7 @@ from __future__ import annotations
 
 import re
 from collections import Counter
-from typing import Dict, Iterable, List, NamedTuple, Set
+from typing import Dict, Iterable, List, NamedTuple, Sequence, Set
 
 from .files import short_name, shown
 from .findings import ALONE, WHOLE, Findings
@@ -12,6 +12,10 @@ from .sketch import ENDED
 WITH_NUMBER = re.compile(r"(?P<name>.+)-(?P<pid>\d+)")
 JVM = re.compile(r"JVM (?P<pid>\d+)")
 MOST = 64  # members of a root that are looked at
+SHOWN = 3  # units, or members of a root without any
+NOTICED = ("called", "ends", "owns")  # hows of a wait that ends, perhaps in an error, with the process that is meant
+# Commands that begin again what they have begun, once it ends.
+BEGINS_AGAIN = {"init", "systemd", "supervisord", "runsv", "s6-supervise"}
 
 
 class Cure(NamedTuple):
@@ -24,55 +28,95 @@ class Cure(NamedTuple):
 
 class Cures:
     """The units of a system, each with all that ends with it. A root is broken by those units that have all who may end
-    the wait of one of its members: then that one goes on, or gets an error, and the others follow."""
+    the wait of one of its members: then that one goes on, or gets an error, and the others follow. A process of the
+    machine that another one has begun is restarted with that one, since by itself nobody begins it again."""
 
     def __init__(self, answer: Findings) -> None:
-        self.answer, self.system = answer, answer.dump.sketch.system
+        self.answer, self.system, self.begun_by = answer, answer.dump.sketch.system, answer.dump.sketch.begun_by
         self.members: Dict[str, List[int]] = {}
         for index in range(answer.waits.number):
             self.members.setdefault(self.unit_of(index), []).append(index)
-        self.remedies = {process.site: process.remedy for process in answer.waits.processes if process.remedy}
-        self.broken: Dict[str, List[int]] = {}
-        self.together: Dict[int, List[str]] = {}  # of a root that no unit breaks by itself: those that do so together
-        for number, members in enumerate(answer.roots.roots):
-            least = self.least_of(members)
-            if len(least) == 1 and len(least[0]) > 1 or not least:
-                self.together[number] = [*next(iter(least), ())]
-            for unit in (units[0] for units in least if len(units) == 1):
-                self.broken.setdefault(unit, []).append(number)
+        self.remedies = {self.own_unit(index): process.remedy for index, process in enumerate(answer.waits.processes)
+                         if process.remedy}
+        self.of = [self.cure_of(number, members) for number, members in enumerate(answer.roots.roots)]
 
     def called(self, unit: str) -> str:
         """Returns what people know a unit by that can be restarted: a process by its number, if its threads have it."""
         name, jvm, numbered = short_name(unit), JVM.fullmatch(unit), WITH_NUMBER.fullmatch(unit)
         if jvm:
             return f"the JVM (PID {jvm['pid']})"
-        if numbered and any(self.answer.waits.processes[index].thread.startswith(f"{numbered['pid']}/")
-                            for index in self.members.get(unit, ())):
+        if numbered and self.is_of_machine(unit, numbered["pid"]):
             return f"{short_name(numbered['name'])} (PID {numbered['pid']})"
-        return f"node {name}" if self.system == "erlang" else name
+        is_by_hand = not self.system and " " not in unit
+        return f"node {name}" if self.system == "erlang" else f"site {name}" if is_by_hand else name
+
+    def is_of_machine(self, unit: str, pid: str) -> bool:
+        """Whether a unit is a process of the machine with this number."""
+        is_known = unit in self.begun_by or unit in self.begun_by.values()
+        is_plain = self.system == "python" and unit.count("-") == 1
+        return is_known or is_plain or any(
+            self.answer.waits.processes[index].thread.startswith(f"{pid}/") for index in self.members.get(unit, ()))
+
+    # Units
 
     def unit_of(self, index: int) -> str:
+        """Returns what is restarted for a process: its site, or what has begun that."""
         process = self.answer.waits.processes[index]
         if self.system in WHOLE:
             return WHOLE[self.system]
         if self.system == "erlang" and process.site and "/" in process.name:
             return f"{process.name.split('/')[0]}@{process.site}"
-        return process.name if self.system in ALONE else process.site or ""
+        return process.name if self.system in ALONE else self.top_of(process.site or "")
+
+    def top_of(self, site: str) -> str:
+        """Returns the highest process of the job above one, or that which something else begins again."""
+        seen = {site}
+        while site in self.begun_by and self.begun_by[site] not in seen:
+            above = self.begun_by[site]
+            if above.rpartition("-")[0] in BEGINS_AGAIN:
+                break
+            seen.add(above)
+            site = above
+        return site
+
+    def own_unit(self, index: int) -> str:
+        """Returns the unit of a process that is ended by itself."""
+        process = self.answer.waits.processes[index]
+        return process.name if self.system == "erlang" else process.site or ""
 
     def units_of(self, members: Iterable[int]) -> List[str]:
         return [unit for unit in dict.fromkeys(map(self.unit_of, members)) if unit]
 
-    def least_of(self, members: List[int]) -> List[List[str]]:
-        """Returns the least sets of units each of which breaks a root: several if each is one unit, else the first. A
-        root within one unit is broken by that."""
-        units = self.units_of(members)
-        if len(units) < 2:
-            return [units] if units else []
+    # What breaks a root
+
+    def cure_of(self, number: int, members: List[int]) -> Cure:
+        """Returns the least that breaks a root: several units if each is enough. A root within one unit is broken by
+        that."""
+        ended = [name for name in dict.fromkeys(name for index in members[:MOST] for name in self.ending(index, members))]
+        if ended:
+            return Cure(ended, [number])
+        units = list(dict.fromkeys(map(self.unit_of, members)))
+        if len(units) == 1 and units[0]:
+            return Cure(units, [number])
         sets = [self.units_for(index) for index in members[:MOST]]
-        found = {tuple(some): None for some in sets if some} or {tuple(units): None}
+        found = {tuple(some): None for some in sets if some} or {() if "" in units else tuple(units): None}
         least = min(map(len, found))
         best = [list(some) for some in found if len(some) == least]
-        return best if least == 1 else best[:1]
+        if least > 1:
+            return Cure(best[0], [number], True)
+        return Cure(sorted((some[0] for some in best if some), key=lambda unit: unit not in self.remedies), [number],
+                    not least)
+
+    def ending(self, index: int, members: Sequence[int]) -> List[str]:
+        """Returns the process of a root whose end is noticed by one that waits for its answer, if it can be ended by
+        itself as something begins it again."""
+        if self.system != "erlang":
+            return []
+        waits = self.answer.waits
+        process, names = waits.processes[index], {waits.processes[other].name for other in members}
+        whom = [name for part in process.parts for some in part if some.how in NOTICED for name in some.names()]
+        is_alone = len(process.parts) == 1 == len(set(whom))
+        return [name for name in whom[:1] if is_alone and name in names and name in self.remedies]
 
     def units_for(self, index: int) -> List[str]:
         """Returns the units that have all who may end the wait of one, or nothing if its own unit is among them."""
@@ -83,38 +127,38 @@ class Cures:
 
     def least(self) -> List[Cure]:
         """Returns the fewest cures that break all roots, as far as that is found by taking the best one first."""
-        left: Set[int] = set(range(len(self.answer.roots.roots)))
-        cures: List[Cure] = []
-        for number in sorted(left - {root for roots in self.broken.values() for root in roots}):
-            cures.append(Cure(self.together.get(number, []), [number], True))
-            left.discard(number)
+        left: Set[int] = {number for number, cure in enumerate(self.of) if not cure.is_all}
+        cures = [cure for cure in self.of if cure.is_all]
         while left:
-            counts = Counter({unit: len(left.intersection(roots)) for unit, roots in self.broken.items()})
+            counts = Counter(unit for number in left for unit in self.of[number].units)
             most = max(counts.values())
-            best = [unit for unit, number in counts.items() if number == most]
-            roots = left.intersection(self.broken[best[0]])
-            alike = [unit for unit in best if left.intersection(self.broken[unit]) == roots]
-            cures.append(Cure(alike, sorted(roots)))
-            left -= roots
+            best = sorted((unit for unit in counts if counts[unit] == most), key=lambda unit: unit not in self.remedies)
+            roots = self.broken_by(best[0], left)
+            cures.append(Cure([unit for unit in best if self.broken_by(unit, left) == roots], roots))
+            left.difference_update(roots)
         return sorted(cures, key=lambda cure: cure.roots)
+
+    def broken_by(self, unit: str, numbers: Iterable[int]) -> List[int]:
+        return sorted(number for number in numbers if unit in self.of[number].units)
 
 
 def unit_words(this: Cures, unit: str) -> str:
     """Returns in words what is done with a unit: a command that ends it where there is one, else a restart."""
     remedy = this.remedies.get(unit)
-    return f"end {short_name(unit)} ({shown(remedy)})" if remedy else f"restart {this.called(unit)}"
+    more = ", with what it has begun" if unit in this.begun_by.values() else ""
+    again = ", whose supervisor begins it again" if this.system == "erlang" else ""
+    return f"end {short_name(unit)}{again}: {shown(remedy)}" if remedy else f"restart {this.called(unit)}{more}"
 
 
-def words_of(this: Cures, cure: Cure, most: int = 3) -> str:
-    """Returns in words what is to be restarted or ended for a cure."""
-    units = [unit_words(this, unit) for unit in cure.units]
-    if not units:
+def words_of(this: Cures, cure: Cure) -> str:
+    """Returns in words what is to be restarted or ended for a cure: one step, and what would do as well."""
+    if not cure.units:
         members = this.answer.roots.roots[cure.roots[0]]
         names = [short_name(this.answer.waits.processes[index].name) for index in members]
-        return f"restart what has {', '.join(names[:most])}: the state doesn't say where"
-    last = " and " if cure.is_all else " or "
-    more = [f"{len(units) - most:,} more"] if len(units) > most and not cure.is_all else []
-    told = [*(units if cure.is_all else units[:most]), *more]
-    first = told[0].split(" ")[0]  # (a verb that all have stands once)
-    rest = [words[len(first) + 1:] if words.startswith(f"{first} ") else words for words in told[1:]]
-    return last.join([*filter(None, [", ".join([told[0], *rest][:-1])]), [told[0], *rest][-1]])
+        return f"restart what has {', '.join(names[:SHOWN])}: the state doesn't say where"
+    first, *others = cure.units
+    if cure.is_all:
+        return f"restart {' and '.join(map(this.called, cure.units))}, as none of them alone is enough"
+    names = [short_name(unit) if unit in this.remedies else this.called(unit) for unit in others[:SHOWN - 1]]
+    more = [f"one of {len(others) - len(names):,} more"] if len(others) > len(names) else []
+    return unit_words(this, first) + (f"; or else {', or '.join([*names, *more])}" if names else "")

@@ -3,6 +3,7 @@ of the likely ones, with a number, and with the lines of facts that say that it 
 doubts as facts has the same answer for certain."""
 from __future__ import annotations
 
+import re
 from dataclasses import replace
 from typing import AbstractSet, Dict, Iterable, Iterator, List, NamedTuple, Optional, Sequence, Set, Tuple
 
@@ -25,6 +26,8 @@ UNSEEN = {
     "to-come": "somebody who is still to come",
 }
 UNCOUNTED = "{} went on between the looks, and waits anew, which nothing counts"
+ANEW = "somebody between the looks: nothing counts how often it waits"
+MORE = re.compile(", (?:and|or whom) ")  # before what a clause says besides
 SIGNS = {
     Sign.TICKS: "came back to its loop and freed nobody",
     Sign.SLEEPS: "sleeps",
@@ -166,11 +169,19 @@ def sentence(one: Doubt, who: str, whom: str, reason: str = "") -> str:
     and `reason` why one rests."""
     if one.how == "uncounted":
         return UNCOUNTED.format(whom)
+    comma = "" if one.sign is None else ","
+    return f"{subject(one, who, reason)}{comma} frees {whom}"
+
+
+def subject(one: Doubt, who: str, reason: str = "") -> str:
+    """Returns of whom a doubt says that it frees somebody: 'beat, which sleeps'."""
     if one.sign is None:
-        subject = who or UNSEEN.get(one.how, UNSEEN["unshown"])
-    else:
-        is_against = HOWS[one.how][0] is Strength.AGAINST
-        rests = "has nothing to do" if not reason or ": " in reason else reason
-        clause = HOWS[one.how][1] if is_against else SIGNS.get(one.sign) or rests
-        subject = f"{who}, which {clause},"
-    return f"{subject} frees {whom}"
+        return who or UNSEEN.get(one.how, UNSEEN["unshown"])
+    is_against = HOWS[one.how][0] is Strength.AGAINST
+    rests = "has nothing to do" if not reason or ": " in reason else reason
+    return f"{who}, which {HOWS[one.how][1] if is_against else SIGNS.get(one.sign) or rests}"
+
+
+def short_subject(one: Doubt, who: str, reason: str = "") -> str:
+    """Returns the same for those who know that it is of what frees somebody."""
+    return ANEW if one.how == "uncounted" else MORE.split(subject(one, who, reason))[0]

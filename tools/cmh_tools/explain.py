@@ -2,11 +2,13 @@
 from __future__ import annotations
 
 from collections import Counter
+from functools import cached_property
 from typing import Callable, Dict, Iterable, Iterator, List, Optional, Sequence, Tuple
 
+from .cures import Cures, words_of
 from .dump import Dump
 from .files import MOST_OF_LINE, short_name, shown
-from .doubts import Doubt, sentence
+from .doubts import Doubt, sentence, short_subject
 from .findings import COME, LIKELY, MESSAGE, NOT_STUCK, STUCK, UNDECIDED, Findings, Waiters
 from .proposals import legend
 from .reasons import more_lines, rests_lines
@@ -209,12 +211,23 @@ class Explanation(Findings):
         waits = set(doubt.waits)
         whom = [self.name(at) for at in members if self.waits.processes[at].name in waits] or \
             list(map(short_name, doubt.waits))
-        there = [self.waits.index[name] for name in doubt.who if name in self.waits.index]
-        reasons = {self.waits.processes[at].reason for at in there}
-        reason = shown(reasons.pop()) if len(reasons) == 1 else ""
         who = self.some([short_name(name) for name in doubt.who], " or ")
         several = several or f"one of {self.some(whom, ' and ')}"
-        return sentence(doubt, who, whom[0] if len(whom) == 1 else several, reason)
+        return sentence(doubt, who, whom[0] if len(whom) == 1 else several, self.reason_of_doubt(doubt))
+
+    def doubter_words(self, doubt: Doubt, called: Callable[[str], str], most: int) -> str:
+        """Returns in words of whom a doubt says that it frees somebody, by what each is `called`: by the first name
+        alone where that makes more than so many letters."""
+        names, reason = [shown(called(name)) for name in doubt.who], self.reason_of_doubt(doubt)
+        words = short_subject(doubt, self.some(names, " or "), reason)
+        if len(words) <= most or not names[1:]:
+            return words
+        return short_subject(doubt, f"{names[0]} or {len(names) - 1:,} more", reason)
+
+    def reason_of_doubt(self, doubt: Doubt) -> str:
+        """Returns why all of those rest of whom a doubt is, or nothing."""
+        reasons = {self.waits.processes[self.waits.index[name]].reason for name in doubt.who if name in self.waits.index}
+        return shown(reasons.pop()) if len(reasons) == 1 else ""
 
     def behind_several(self) -> List[str]:
         lines: List[str] = [painted(f"Stuck behind more than one root: {number_of(len(self.roots.shared))}", STUCK)]
@@ -230,8 +243,8 @@ class Explanation(Findings):
         roots = self.roots.roots
         hidden = " There may be more roots among the undecided ones." if self.undecided else ""
         lines = [f"What can be done.{hidden} Restarting a process behind a root doesn't break it."]
-        lines += self.first([f"  Break root {number + 1}: {self.restart(members)}" for number, members in
-                             enumerate(roots)], ("root", "roots"))
+        lines += self.first([f"  Break root {number + 1}: {self.restart(number)}" for number in range(len(roots))],
+                            ("root", "roots"))
         if self.left_over:
             names = self.some([self.name(at) for at in self.left_over])
             lines.append(f"Once all roots run, {number_of(len(self.left_over), 'process is', 'processes are')} still "
@@ -247,13 +260,13 @@ class Explanation(Findings):
                          "may show a deadlock that never was: take another, and compare them with 'cmh-dump both'.")
         return lines
 
-    def restart(self, members: List[int], called: Callable[[str], str] = short_name) -> str:
-        """Returns where a root has to be broken. A site is `called` by its name alone, or with what it is."""
-        units, is_some_unsaid = self.units(members, called)
-        if not units:
-            return f"restart what has {self.some([self.name(at) for at in members])}: the state doesn't say where"
-        elsewhere = ", or what runs at a place that isn't said" if is_some_unsaid else ""
-        return f"restart {self.some(units, ' or ')}{elsewhere}"
+    @cached_property
+    def cures(self) -> Cures:
+        return Cures(self)
+
+    def restart(self, number: int) -> str:
+        """Returns what breaks a root."""
+        return words_of(self.cures, self.cures.of[number])
 
     def undecided_lines(self) -> List[str]:
         """The undecided ones, by the unknown ones that they depend on."""

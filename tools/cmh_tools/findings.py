@@ -1,10 +1,9 @@
 """What is known of a dump with both its answers, by index: the text, the JSON and the pictures are all made of this."""
 from __future__ import annotations
 
-from typing import Callable, Dict, Iterable, Iterator, List, NamedTuple, Optional, Tuple
+from typing import Dict, Iterable, Iterator, List, NamedTuple, Optional, Tuple
 
 from .dump import Dump
-from .files import short_name
 from .model import Sign
 from .proposals import Line, Proposal, Words, lines_of, propose
 from .reasons import Reason, Rests, counts_of
@@ -169,17 +168,6 @@ class Findings(Verdicts):
         """Returns the sites of some, and whether some have none."""
         found = dict.fromkeys(self.waits.processes[at].site for at in members)
         return [site for site in found if site is not None], None in found
-
-    def units(self, members: List[int], called: Callable[[str], str] = short_name) -> Tuple[List[str], bool]:
-        """Returns what can be restarted of some, and whether that isn't known of others: their sites, each as it is
-        `called`; the whole; or those themselves."""
-        system = self.dump.sketch.system
-        if system in WHOLE:
-            return [WHOLE[system]], False
-        if system in ALONE:
-            return [short_name(self.waits.processes[at].name) for at in members], False
-        sites, is_some_unsaid = self.sites(members)
-        return list(map(called, sites)), is_some_unsaid
 
     # Who is undecided, and who isn't stuck
 

@@ -85,7 +85,16 @@ def join_two(first: Sketch, second: Sketch) -> Sketch:
                   min(first.readings, second.readings), {**first.groups, **second.groups},
                   first.machine or second.machine,
                   [[min(a[0], b[0]), max(a[1], b[1])] for a, b in zip(first.times, second.times)], sorted(idle),
-                  sorted(readers), sorted(inner), merged(first.connections, second.connections))
+                  sorted(readers), sorted(inner), merged(first.connections, second.connections),
+                  {**begun_by(second, first), **first.begun_by})
+
+
+def begun_by(second: Sketch, first: Sketch) -> Dict[str, str]:
+    """Returns by what the second sketch says which site was begun by which, with the sites of the first where that has
+    a process of them too."""
+    mine = {process.name: process.site for process in first.processes}
+    sites = {process.site or "": mine.get(process.name) or process.site or "" for process in second.processes}
+    return {sites.get(site, site): sites.get(above, above) for site, above in second.begun_by.items()}
 
 
 def freeing_nobody(sketch: Sketch, names: Optional[Dict[str, str]] = None) -> Dict[str, str]:

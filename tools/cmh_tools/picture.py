@@ -323,14 +323,12 @@ def called_site(site: str) -> str:
 
 
 def restarts(this: Explanation) -> List[str]:
-    """Returns for each root what can be restarted. Of those with the same sites, the first one says that this breaks
-    all of them."""
+    """Returns for each root what breaks it. Of those that the same breaks, the first one says so."""
     found: Dict[FrozenSet[str], List[int]] = {}
-    words = [this.restart(members, called_site) for members in this.roots.roots]
-    for number, members in enumerate(this.roots.roots):
-        units, is_some_unsaid = this.units(members, str)
-        if units and not is_some_unsaid:
-            found.setdefault(frozenset(units), []).append(number)
+    words = list(map(this.restart, range(len(this.roots.roots))))
+    for number, cure in enumerate(this.cures.of):
+        if cure.units:
+            found.setdefault(frozenset(cure.units), []).append(number)
     for first, *others in found.values():
         words[first] += breaks_words(this, [first, *others]) if others else ""
         for number in others:
@@ -339,13 +337,13 @@ def restarts(this: Explanation) -> List[str]:
 
 
 def restart_of_all(this: Explanation, words: List[str]) -> str:
-    """Returns in a sentence what breaks all roots: one restart, or one for each if they are at one site each."""
+    """Returns in a sentence what breaks all roots: one restart, or one for each if there is one of each."""
     if all(it == f"{TOGETHER}1 breaks it too" for it in words[1:]):
         return f"{words[0][:1].upper()}{words[0][1:]}."
-    units = [this.units(members, called_site) for members in this.roots.roots]
-    if any(len(some) != 1 or is_some_unsaid for some, is_some_unsaid in units):
+    units = [cure.units for cure in this.cures.of]
+    if any(len(some) != 1 or some[0] in this.cures.remedies for some in units):
         return ""
-    names = list(dict.fromkeys(some[0] for some, _ in units))
+    names = list(dict.fromkeys(this.cures.called(some[0]) for some in units))
     each = "each breaks one root" if len(names) == len(units) else "each breaks those in it"
     return f"Restart {this.some(names, ' and ')}: {each}."
 

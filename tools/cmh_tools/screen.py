@@ -9,7 +9,7 @@ import shlex
 import textwrap
 from typing import Dict, Iterable, List, NamedTuple, Optional, Set, Tuple
 
-from .cures import Cures, unit_words, words_of
+from .cures import unit_words, words_of
 from .explain import Explanation, number_of
 from .files import short_name, shown
 from .model import Sign, Wakers
@@ -25,6 +25,9 @@ HEAD = 7  # columns of the word before a line
 NAME, LONGEST = 28, 44  # letters of the names in a line, and of what one waits at
 END_OF_WHAT = re.compile(r"; | at | in |: | \[|, which | \(descriptor")
 OTHERS = "of the others"
+ANY_OTHER = f"any {OTHERS}"
+NOT_SHOWN = ("listed", "reaches", "same-process", "inside", "subscribes", "guess")  # hows of those who may have it
+LINES = 10  # before what to do, if there is one group
 # Operations of those that wait for the end or the answer of others, and have nothing themselves that others want.
 FOR_OTHERS = re.compile(r"join|WaitGroup|CountDownLatch|HttpClient|http|sync$|invokeAll|awaitTermination", re.I)
 ADDRESS = re.compile(r"0x0*([0-9a-f]{6,})")
@@ -52,7 +55,8 @@ class Screen:
         self.this, self.more, self.waits = this, more, this.waits
         self.style, self.width = this.style, min(WIDTH, this.style.width)
         self.system = this.dump.sketch.system
-        self.cures = Cures(this)
+        self.cures = this.cures
+        self.members = [set(members) for members in this.roots.roots[:ROOTS]]
         self.known: Dict[Tuple[int, ...], Tuple[Dict[int, None], Optional[int]]] = {}
         self.prefix = prefix_of([process.name for process in this.waits.processes])
 
@@ -75,6 +79,10 @@ class Screen:
                  Headline.IDLE: self.idle_words, Headline.NOT_KNOWN: self.open_words}[headline]()
         return [painted(f"{headline.value}: {words}", (headline.value, COLOURS.get(headline, "undecided")))]
 
+    def height(self, lines: List[str]) -> int:
+        """Returns how many lines of the screen some take."""
+        return len(fill([lines], self.style._replace(width=self.width)).splitlines()) if lines else 0
+
     def name(self, index: int) -> str:
         """Returns the name of one, without what all names begin with."""
         return self.this.name(index)[len(self.prefix):]
@@ -94,7 +102,10 @@ class Screen:
         more += f"{',' if more else ';'} {len(behind) - len(sure):,} more likely" if len(behind) > len(sure) else ""
         others = len(self.this.roots.roots) - len(roots)
         likely = f" {number_of(others, 'more group is', 'more groups are')} likely to." if others else ""
-        return f"{self.group_words(roots, members)}{more}. {self.life()}{likely}"
+        rest = f"{more}. {self.life()}{likely}"
+        words = self.group_words(roots, members) + rest
+        is_long = len(f"{self.this.headline.value}: {words}") > self.width
+        return self.group_words(roots, members, False) + rest if is_long else words
 
     def told_roots(self) -> List[int]:
         """Returns the roots that the headline is of."""
@@ -102,9 +113,11 @@ class Screen:
         certain = [number for number in numbers if self.this.is_certain(number)]
         return certain or list(numbers)
 
-    def group_words(self, roots: List[int], members: List[int]) -> str:
+    def group_words(self, roots: List[int], members: List[int], has_unit: bool = True) -> str:
+        """Returns who is meant, and where it is, if there is room for that: what to do names it too."""
         units = self.cures.units_of(members)
-        where = f" of {self.cures.called(units[0])}" if len(units) == 1 and self.system != "rabbitmq" else ""
+        is_told = has_unit and len(units) == 1 and self.system != "rabbitmq"
+        where = f" of {self.cures.called(units[0])}" if is_told else ""
         if len(roots) > 1:
             return f"{len(roots):,} groups wait, each for itself: {self.noun(len(members))}{where} in all"
         if len(members) == 1:
@@ -150,31 +163,57 @@ class Screen:
         members = self.this.roots.roots[number]
         lines = [f"Group {number + 1}{'' if self.this.is_certain(number) else ', likely'}"] \
             if len(self.this.roots.roots) > 1 else []
-        lines += self.member_lines(members)
+        unless = self.unless(members)
+        wide = self.member_lines(members)
+        has_room = self.height([*self.head(), *lines, *wide, *unless]) <= LINES
+        return [*lines, *(wide if has_room else self.member_lines(members, False)), *unless]
+
+    def unless(self, members: List[int]) -> List[str]:
+        """Returns the first few doubts on which it hangs that some are stuck."""
         doubts = self.this.doubts_of(members)
-        if doubts:
-            lines += ["Unless", *(self.numbered(doubt.number, self.this.doubt_words(doubt, members, "one of them"))
-                                  for doubt in doubts[:DOUBTS])]
-            lines += [f"     or one of {len(doubts) - DOUBTS:,} more is so"] if doubts[DOUBTS:] else []
-        return lines
+        waits = {name for doubt in doubts for name in doubt.waits}
+        freed = [self.name(index) for index in members if self.waits.processes[index].name in waits]
+        whom = "it" if len(members) == 1 else freed[0] if len(freed) == 1 else "one of them"
+        more = f"one of these, or of {len(doubts) - DOUBTS:,} more" if doubts[DOUBTS:] else ""
+        lines = [self.numbered(doubt.number, self.this.doubter_words(doubt, self.called, self.width - HEAD))
+                 for doubt in doubts[:DOUBTS]]
+        return [f"Unless {whom} is freed by {more}".rstrip(), *lines] if lines else []
+
+    def called(self, name: str) -> str:
+        """Returns the name of one without what all names begin with."""
+        return self.name(self.waits.index[name]) if name in self.waits.index else name
 
     def numbered(self, number: int, words: str) -> str:
         lines = textwrap.wrap(words, self.width - HEAD, break_on_hyphens=False)
         return AsItIs("\n".join(f"{f'  {number:<3}' if not row else '':<{HEAD - 2}}{line}"
                                 for row, line in enumerate(lines)))
 
-    def member_lines(self, members: List[int]) -> List[str]:
-        """Returns a line for each member; those that wait alike share one."""
+    def member_lines(self, members: List[int], is_wide: bool = True) -> List[str]:
+        """Returns a line for each member, or if there is room two; those that wait alike share one. Where any other one
+        may free some, that is said once."""
         groups: Dict[Tuple[str, str, str], List[int]] = {}
         for index in sorted(members, key=self.is_of_others):
             frames, whom = self.frames(index), self.whom(index)
             is_alike = frames and whom.endswith(OTHERS)  # (they stand at one line, each at an object of its own)
             groups.setdefault((self.what(index, not is_alike), whom, frames), []).append(index)
+        is_of_any = self.is_of_any(members)
+        if is_of_any:
+            groups = {(what, "" if whom == ANY_OTHER else whom, frames): some
+                      for (what, whom, frames), some in groups.items()}
         shown_groups, left = list(groups.items())[:MEMBERS], list(groups.values())[MEMBERS:]
         names = [self.names_of(list(map(self.name, some))) for _, some in shown_groups]
         wide = max(map(len, names))
-        lines = [self.columns(f"  {name:<{wide}}  ", *columns) for name, (columns, _) in zip(names, shown_groups)]
-        return lines + ([f"  and {sum(map(len, left)):,} more"] if left else [])
+        lines = [self.columns(f"  {name:<{wide}}  ", *columns, is_wide=is_wide)
+                 for name, (columns, _) in zip(names, shown_groups)]
+        lines += [f"  and {sum(map(len, left)):,} more"] if left else []
+        who = "Each waits" if all(whom == "" for _, whom, _ in groups) else "The others wait"
+        return lines + ([f"  {who} for any: the state doesn't show for which."] if is_of_any else [])
+
+    def is_of_any(self, members: List[int]) -> bool:
+        """Whether the state doesn't show who of some has what others of them wait for."""
+        waiting = [index for index in members if self.whom(index) == ANY_OTHER]
+        hows = {some.how for index in waiting for part in self.waits.processes[index].parts for some in part}
+        return bool(waiting) and not hows.isdisjoint(NOT_SHOWN)
 
     def names_of(self, names: List[str]) -> str:
         """Returns some names that share a line, or the first of them."""
@@ -187,13 +226,16 @@ class Screen:
         process = self.waits.processes[index]
         return FOR_OTHERS.search(process.operation) is not None and self.whom(index).endswith(OTHERS)
 
-    def columns(self, name: str, what: str, whom: str, frames: str) -> str:
+    def columns(self, name: str, what: str, whom: str, frames: str, is_wide: bool = True) -> str:
         """Returns one line if it fits, or else two: the second has the frames, and also for whom one waits if the first
-        has no room for that."""
-        arrow, room = f"{self.style.arrow} {whom}", self.width - len(name)
+        has no room for that. Where they may not be wide there is one, with as much as fits."""
+        arrow, room = f"{self.style.arrow} {whom}" if whom else "", self.width - len(name)
         first, second = f"{what} {arrow}".strip(), frames
-        if len(first) + len(frames) + 2 <= room:
-            return AsItIs(f"{name}{first}  {frames}".rstrip())
+        if len(first) + len(frames) + 2 <= room or not is_wide:
+            innermost = frames.split(" < ")[0]
+            shorter = (frames, innermost, innermost.rpartition(" (")[2].rstrip(")"))
+            fitting = next((text for text in shorter if len(first) + len(text) + 2 <= room), "")
+            return AsItIs(cut(f"{name}{first}  {fitting}".rstrip(), self.width))
         if len(first) > room and what:
             first, second = what, f"{arrow}  {frames}".rstrip()
         if len(second) > room:
@@ -353,7 +395,7 @@ class Screen:
         process = None if found is None else self.this.process(found)
         if process is None or not process.remedy or self.this.headline is Headline.NONE:
             return ""
-        return f"{unit_words(self.cures, process.site or '')}: {ends[found or 0]:,} wait for it."
+        return f"{unit_words(self.cures, process.site or '')} ({ends[found or 0]:,} wait for it)."
 
     def sure_words(self) -> str:
         """Returns how the reader says that no doubt of the first likely group holds."""
@@ -362,7 +404,7 @@ class Screen:
         if first is None:
             return ""
         doubts = self.this.doubts_of(first)
-        what = {1: "it isn't so", 2: "neither is so"}.get(len(doubts), "none of them is so")
+        what = {1: "it doesn't", 2: "neither does"}.get(len(doubts), "none does")
         numbers = ",".join(str(doubt.number) for doubt in doubts)
         if self.more.true is None:
             return f"if {what}, it is certain: --all says how to say so."

@@ -56,7 +56,7 @@ KEYS = {"name", *KINDS, *TEXTS, *LISTS, *FLAGS, "count", "sign", "wait", "reason
 OLD_KEYS = {"scope", "candidates", "spared", "besides", "proposal", "idle", "stays"}
 ALL_KEYS = KEYS | OLD_KEYS
 TOP_KEYS = {"processes", "lists", "in_transit", "system", "as_of", "warnings", "premises", "facts", "readings",
-            "machine", "times", "idle", "readers", "inner", "connections"}
+            "machine", "times", "idle", "readers", "inner", "connections", "begun_by"}
 
 
 @dataclass
@@ -230,6 +230,8 @@ class Sketch:
     idle ones that are left out, `readers` those that end nobody's wait, as they print a state or collect garbage, and
     `inner` those of a runtime of which the premise INNER says it. `connections` has by the key of a connection to a
     server which session serves it ('serves'), who has its client's end ('has'), and who waits there ('awaits').
+    `begun_by` has by the site of a process of the machine that of the one that has begun it, if that was read as one of
+    the job too.
     """
 
     processes: List[Process]
@@ -247,6 +249,7 @@ class Sketch:
     readers: List[str] = field(default_factory=list)
     inner: List[str] = field(default_factory=list)
     connections: Dict[str, Dict[str, List[str]]] = field(default_factory=dict)
+    begun_by: Dict[str, str] = field(default_factory=dict)
 
     def check(self) -> None:
         """Raises Refusal if a name stands twice or names nobody, a list of ALL is empty, or a reason is missing."""
@@ -365,7 +368,7 @@ def sketch_of(tree: Any, where: str, because: str = BY_HAND) -> Sketch:
         for key in ("warnings", "idle", "readers", "inner"):
             setattr(sketch, key, texts_of(tree, key, "the sketch"))
         sketch.premises, sketch.facts = premises_of(tree), facts_of(tree)
-        sketch.connections = connections_of(tree)
+        sketch.connections, sketch.begun_by = connections_of(tree), begun_by_of(tree)
         sketch.readings, sketch.times = number_of_readings(tree), times_of(tree)
         sketch.check()
     except Refusal as refusal:
@@ -428,6 +431,14 @@ def connections_of(tree: Dict[str, Any]) -> Dict[str, Dict[str, List[str]]]:
     if not all(isinstance(row, dict) and all(map(is_texts, row.values())) for row in rows):
         raise Refusal("the sketch: 'connections' is no object of objects with lists of texts")
     return dict(tree)
+
+
+def begun_by_of(tree: Dict[str, Any]) -> Dict[str, str]:
+    """Returns by the site of a process that of the one that has begun it."""
+    sites = tree.get("begun_by", {})
+    if not isinstance(sites, dict) or not is_texts(list(sites.values())):
+        raise Refusal("the sketch: 'begun_by' is no object of texts")
+    return sites
 
 
 def facts_of(tree: Dict[str, Any]) -> List[FactRow]:
@@ -588,7 +599,7 @@ def tree_of(sketch: Sketch) -> Dict[str, Any]:
     if lists:
         tree["lists"] = {numbers[key]: list(names) for key, names in lists.items()}
     tree["in_transit"] = [list(pair) for pair in sketch.in_transit]
-    rest = ("warnings", "premises", "facts", "times", "idle", "readers", "inner", "connections")
+    rest = ("warnings", "premises", "facts", "times", "idle", "readers", "inner", "connections", "begun_by")
     tree.update({key: getattr(sketch, key) for key in rest if getattr(sketch, key)})
     if sketch.readings != 1:
         tree["readings"] = sketch.readings

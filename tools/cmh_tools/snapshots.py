@@ -124,7 +124,7 @@ def merge(first: Sketch, second: Sketch, extent: str = PARTS, before: str = PART
     readings = first.readings + second.readings
     return Sketch(processes, pairs, first.system or second.system, AS_OF.format("two" if readings == 2 else readings),
                   warnings, {**second.premises, **first.premises}, [*first.facts, *second.facts], readings,
-                  {**second.groups, **first.groups})
+                  {**second.groups, **first.groups}, begun_by={**second.begun_by, **first.begun_by})
 
 
 def missing_names(first: Sketch, later: Dict[str, Process], extent: str) -> Set[str]:

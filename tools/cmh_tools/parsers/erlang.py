@@ -97,6 +97,7 @@ class ErlangParser(Parser):
             made.because += [premise(ENDINGS), *([premise(RESTARTS)] if is_spared else [])]
             more = ending(subject, snapshot)
             made.parts = [(*part, *more) for part in made.parts]
+            made.remedy = remedy_of(subject) if subject in snapshot.children else ""
         return made
 
     def finish(self, sketch: Sketch, snapshots: List[Nodes]) -> None:
@@ -157,6 +158,15 @@ def ending(block: Block, snapshot: Nodes) -> Part:
     others = [other for other in snapshot.enders[block.node, block.pid] if other is not block]
     cut = [reading.source for reading in snapshot.readings if reading.extent == PARTS and reading.source == block.node]
     return (*snapshot.some("kills", others), *(snapshot.left_out(*cut) if cut else ()), *snapshot.ending_any)
+
+
+def remedy_of(block: Block) -> str:
+    """Returns the call that ends a process which has a name, and which its supervisor begins again."""
+    if block.role in ("[]", "") or block.is_supervisor():
+        return ""
+    elixir = re.fullmatch(r"'Elixir\.([\w.]+)'", block.role)
+    call = f"Process.exit(Process.whereis({elixir[1]}), :kill)" if elixir else f"exit(whereis({block.role}), kill)"
+    return f"{call} on {block.node}"
 
 
 def may_have_any(block: Block) -> bool:

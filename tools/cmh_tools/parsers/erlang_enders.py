@@ -59,6 +59,7 @@ def add_enders(snapshot: Nodes) -> None:
         enders += ending[block.node] if block.role not in ("[]", "") else []
         enders += stopping[block.node] if block in above else []
         enders += halting[block.node]
+    snapshot.children = {*above}
     snapshot.spared = {(block.node, block.pid) for block in above if is_spared(block, above, below)}
     for block in snapshot.rows():
         for whom in filter(None, [snapshot.find((block.node, pid)) for pid in block.may_end()]):

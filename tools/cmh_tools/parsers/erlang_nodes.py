@@ -2,7 +2,7 @@
 whom the state doesn't show."""
 from __future__ import annotations
 
-from typing import Any, Callable, Dict, Iterable, List, Optional, Sequence, Tuple
+from typing import Any, Callable, Dict, Iterable, List, Optional, Sequence, Set, Tuple
 
 from ..files import escaped
 from ..model import Part, Sign, Wakers, any_of, unseen, wakers
@@ -17,7 +17,7 @@ class Nodes(Snapshot):
     """The processes of all nodes at one time: by what others know them by, and by the tails of the references that they
     have; their names in the sketch; each answer that is under way, as (sender, receiver); who may end a process, by its
     node and pid, and what may end any; who stands below a supervisor that restarts one alone, beside others that may
-    fail; who has a fun that may have any reference; the receives in a function, by its node and its name, and whom it
+    fail; who is the child of a supervisor; who has a fun that may have any reference; the receives in a function, by its node and its name, and whom it
     has asked before; where a reference may be that no process has, in words, or nothing; nodes, by another one and the
     number that they have there; the locks of a node, by it and by what is locked; who has locks of Mnesia, or wants
     one; and those who aren't at rest, of these by a server
@@ -30,6 +30,7 @@ class Nodes(Snapshot):
     enders: Dict[Key, List[Block]]
     ending_any: Part
     spared: Any
+    children: Set[Block]
     closures: List[Block]
     receives: Dict[Tuple[str, ...], Receives]
     asks: Dict[Tuple[str, ...], List[str]]

@@ -65,6 +65,22 @@ def signal_of(thread: Thread, snapshot: Computer) -> str:
     return ""
 
 
+def site_of(owner: Owner) -> str:
+    return f"{owner.command}-{owner.pid}"
+
+
+def begun_by(machine: Machine, asked: Set[int]) -> Dict[str, str]:
+    """Returns by the site of each process below one that was asked for the site of its parent."""
+    sites: Dict[str, str] = {}
+    for owner in machine.owners:
+        above = owner
+        while above.pid not in asked and above.parent in machine.by_pid and above.parent != above.pid:
+            above = machine.by_pid[above.parent]
+        if above.pid in asked and owner is not above:
+            sites[site_of(owner)] = site_of(machine.by_pid[owner.parent])
+    return sites
+
+
 def handlers_of(owner: Owner) -> List[int]:
     """Returns the signals for which a process has a handler of its own, and not of its runtime's."""
     if system_name(owner) in OWN_THREADS:
@@ -159,6 +175,7 @@ class LinuxParser(Parser):
                             if process.frames != [UNREADABLE] or process.name in wanted]
         sketch.processes += [unknown(name, why, frames=[name]) for name, why in self.unseen.items() if name in wanted]
         sketch.connections = connections_of(snapshots[0].machine, snapshots[0].readings[0].machine)
+        sketch.begun_by = begun_by(snapshots[0].machine, self.pids)
         for snapshot in snapshots:
             sketch.warnings += [line for line in snapshot.machine.warnings if line not in sketch.warnings]
         sketch.warnings += filter(None, (self_connections(owner, snapshots[0].machine)
@@ -170,7 +187,7 @@ class LinuxParser(Parser):
         if isinstance(subject, list):
             return unread_one(subject, unread_name(subject) in self.asked)
         thread, name = subject, subject.name
-        more: Dict[str, Any] = {"site": f"{thread.owner.command}-{thread.owner.pid}",
+        more: Dict[str, Any] = {"site": site_of(thread.owner),
                                 "thread": f"{thread.owner.pid}/{thread.tid}"}
         if thread.state in GONE:
             return Process(name, Sign.ENDED, reason=DONE, because=[SYSTEM], **more)

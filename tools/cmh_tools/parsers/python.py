@@ -189,6 +189,9 @@ class PythonParser(Parser):
         looks = [look for snapshot in snapshots for look in snapshot.rows()]
         sketch.readers = list(dict.fromkeys(filter(None, (look.reader() for look in looks))))
         sketch.connections = connections_of(looks, self.names)
+        sites = self.names.sites
+        sketch.begun_by = {sites[look.place()]: sites[above] for look in looks
+                           for above in [look.place(look.head.get("parent"))] if above in sites}
         sketch.warnings += dict.fromkeys(line for look in looks for line in look.warnings)
 
 
