@@ -289,6 +289,8 @@ def stat_of_thread(pid: int, tid: int) -> Row:
     fields, call = stat_of(f"{folder}/stat"), slurp(f"{folder}/syscall").split()
     row: Row = {"tid": tid, "inner": inner_number(folder, tid), "state": fields[0] if fields else "X",
                 "called": text_of(slurp(f"{folder}/comm").strip()), "switches": switches_of(folder)}
+    if len(fields) > 12:
+        row["used"] = sum(map(int, fields[11:13])) / os.sysconf("SC_CLK_TCK")  # seconds of processor time
     if len(call) > 6 and call[0].isdigit():
         row["call"] = name_of_call(int(call[0]), [int(it, 16) for it in call[1:7]])
     return row

@@ -353,14 +353,15 @@ def has_how(process: Process, how: str) -> bool:
     return any(some.how == how for part in process.parts for some in part)
 
 
+BESIDE = {"sends-for", UNCOUNTED}  # hows of those who count whatever a fact says of others
 THERE = {"repeats", "finalizes"}  # hows by which one would end a wait as those do whom a fact names
 
 
 def kept_wakers(process: Process) -> Part:
-    """Returns the wakers of a wait that a fact on it leaves as they are: those that end it in another way, and who may
-    have ended it between the looks."""
+    """Returns the wakers of a wait that a fact on it leaves as they are: those that end it in another way, other threads
+    of its own, and who may have ended it between the looks."""
     return tuple({(id(some.who), some.how): some for part in process.parts for some in part
-                  if some.strength is Strength.AGAINST and some.how not in THERE or some.how == UNCOUNTED}.values())
+                  if some.strength is Strength.AGAINST and some.how not in THERE or some.how in BESIDE}.values())
 
 
 def intersected(process: Process, fact: Fact, whom: List[str]) -> Tuple[List[str], str]:

@@ -64,7 +64,8 @@ def parser() -> Parser:
     it.add_argument("words", metavar="SYSTEM TARGET", nargs="*", help="what to take, or a folder that was made before")
     it.add_argument("--with", dest="others", metavar="WORD", nargs="+", action="append", default=[],
                     help="take another SYSTEM TARGET.. at the same time, and join both")
-    it.add_argument("--seconds", type=seconds_of, default=5.0, help="the time from the first look to the last (5): beyond 10 there is a third one halfway")
+    it.add_argument("--seconds", type=seconds_of, default=5.0,
+                    help="the time from the first look to the last (5): beyond 10 there is a third one halfway")
     it.add_argument("--stacks", action="store_true",
                     help="of linux PID: read the stacks of those at a futex too, which holds each for a moment")
     it.add_argument("--kill", action="store_true",
@@ -170,6 +171,12 @@ def replaced(asked: argparse.Namespace, **values: object) -> argparse.Namespace:
     return argparse.Namespace(**{**vars(asked), **values})
 
 
+def part_row(part: Capture, seconds: float) -> Dict[str, object]:
+    """Returns what the folder keeps of a system, beside its states."""
+    return {"system": part.system, "targets": part.targets, "states": part.names(seconds),
+            **({"beside": part.beside} if part.beside else {})}
+
+
 def stall(parts: List[Capture], asked: argparse.Namespace, check: Check = lambda: None) -> int:
     """Takes the states, keeps them, and explains them, once they are checked."""
     for part in parts:
@@ -179,8 +186,7 @@ def stall(parts: List[Capture], asked: argparse.Namespace, check: Check = lambda
         with home_with(asked.cookie_file) as env:
             texts = {name: text for some in take(parts, asked.seconds, env) for name, text in some.items()}
         check()
-        record = {"version": 1, "parts": [{"system": it.system, "targets": it.targets, "states": it.names(asked.seconds),
-                                           **({"beside": it.beside} if it.beside else {})} for it in parts]}
+        record = {"version": 1, "parts": [part_row(part, asked.seconds) for part in parts]}
         texts[RECORD] = json.dumps(record, indent=1) + "\n"
         folder.write([(folder.at(name), text) for name, text in texts.items()])
         status = explain(folder, asked)

@@ -11,7 +11,7 @@ import itertools
 import re
 from collections import Counter
 from dataclasses import dataclass, field
-from typing import Any, Dict, List, Match, Tuple
+from typing import Any, Dict, Iterable, List, Match, Optional, Tuple
 
 from ..files import Refusal, shown
 from ..model import Part, Sign, Wakers, all_of, any_of, unseen, wakers
@@ -33,6 +33,9 @@ STEP = re.compile(r"^#\d+ ", re.M)
 BARE = re.compile(r"^(#\d+ +0x[0-9a-f]+)(?: (?!- )(\S.*?))? - (\S*)$", re.M)
 BARE_THREAD = re.compile(r"^TID (\d+):$", re.M)
 THREAD = re.compile(r"^Thread (\d{1,9}) \(.*$", re.M)
+NUMBER_OF_THREAD = re.compile(r"\bLWP (\d{1,9})\b")
+# How often a thread has given up its processor, as the recipe copies it after the first stacks and before the second.
+SWITCHES = re.compile(r"^# /proc/(\d{1,9})/task/(\d{1,9})/status:voluntary_ctxt_switches:\s*(\d{1,18})$", re.M)
 CALL = re.compile(r"[Pp]?(?:MPI_(?P<name>[A-Z]\w*)|mpi_(?P<fortran>[a-z]\w*?)_+)$")
 OF_LIBRARY = re.compile(r"(ompi|opal|orte|prte|mca|pmix|PMIx|MPI[DRIU]\w*|MPL|ucp|ucs|uct|psm2?|psmx\w*|fi|ofi|rxm)_")
 FINALIZE = re.compile(r"(ompi_mpi_finalize|MPI[DRI]+_Finalize)$")
@@ -61,22 +64,31 @@ POLLS = re.compile(r"(Test|Testall|Testany|Testsome|Iprobe|Improbe|Request_get_s
 # (Open MPI begins to receive, sends, and then waits for what it receives.)
 HALVES = (r"mca_pml_\w+_send$", "sends"), (r"ompi_request_default_wait$", "receives")
 SLEEPS = re.compile(r"(__GI_)?_*(clock_)?(nano|u)?sleep$")
+# Waits for others of the same process, and those of them that have a limit.
+INNER_WAITS = re.compile(r"(__GI_)?_*(new_)?(pthread_(cond|mutex|rwlock|barrier|join|timedjoin|clockjoin)|sem_|"
+                         r"std::condition_variable::)\w*(wait|lock|join)")
+LIMITED = re.compile(r"(timed|clock)(wait|lock|join|rdlock|wrlock)")
 
 FEW = 200  # of more ranks all waits share the list, with the one that waits in it: so it takes time linear in them
 
 
 @dataclass
 class Rank:
-    """A rank as one reading shows it. `threads` are its other stacks, `fault` says what of it isn't understood."""
+    """A rank as one reading shows it, or with a `suffix` another thread of it. `threads` are those that run code of the
+    job's, `fault` says what of it isn't understood, and `cut` which of its other threads isn't shown whole. `peers` are
+    the others of its process, and `count` is how often it has given up its processor."""
 
     pid: str
     number: int
     host: str
     frames: List[Match[str]]
-    threads: List[List[Match[str]]] = field(default_factory=list)
     size: int = 0
     fault: str = ""
-    is_bare: bool = False  # without lines of source
+    suffix: str = ""
+    threads: List[Rank] = field(default_factory=list)
+    peers: List[str] = field(default_factory=list)
+    cut: str = ""
+    count: Optional[str] = None
 
     def __post_init__(self) -> None:
         calls = [place for place, step in enumerate(self.frames) if CALL.match(step["function"])]
@@ -108,7 +120,13 @@ class Rank:
         return operation == "MPI_Finalize" or COLLECTIVES.search(operation) is not None
 
     def name(self) -> str:
-        return f"rank-{self.number}"
+        return f"rank-{self.number}{self.suffix}"
+
+    def inner_wait(self) -> str:
+        """The function in which it waits for another thread of its process, or nothing."""
+        first = self.frames.index(self.own[0]) if self.own else len(self.frames)
+        names = [step["function"].split("@")[0] for step in self.frames[:first]]
+        return next((name for name in reversed(names) if INNER_WAITS.match(name)), "")
 
     def more(self) -> Dict[str, Any]:
         """What tells its wait from the next, and the note."""
@@ -116,7 +134,7 @@ class Rank:
         operation = self.operation()
         note = " ".join([operation, *(["in", frames[0]] if frames else [])]).strip()
         return {"site": self.host or "node-1", "frames": frames, "operation": operation, "objects": self.values(),
-                "note": note, "is_collective": COLLECTIVES.search(operation) is not None,
+                "note": note, "is_collective": COLLECTIVES.search(operation) is not None, "count": self.count,
                 "meeting": self.name() if WAITS.search(operation) else ""}
 
     def between(self, place: int, polls: Rank) -> Tuple[Rank, Dict[str, Any]]:
@@ -155,12 +173,14 @@ class Ranks(Snapshot):
 
 
 def other_thread(rank: Rank, snapshot: Ranks) -> str:
-    """Returns what shows that another thread of a rank may send for it, or nothing."""
-    if not all(stack and OUTERMOST.match(stack[-1]["function"]) for stack in rank.threads):
-        return "the stack of another thread of it isn't whole, so that one may send for it"
-    busy = [step for stack in rank.threads if not is_of_library(stack) for step in stack
-            if CALL.match(step["function"]) or is_own(step) and (step["file"] or rank.is_bare)]
-    return f"another thread of it is in {busy[0]['function']}, and may send for it" if busy else ""
+    """Returns what shows that another thread of a rank may send for it, of whom nothing is known, or nothing."""
+    return rank.cut
+
+
+def is_of_job(stack: List[Match[str]], is_bare: bool) -> bool:
+    """Whether a thread runs code of the job's, which may call MPI. `is_bare` says that no lines of source are there."""
+    return not is_of_library(stack) and any(
+        CALL.match(step["function"]) or is_own(step) and (step["file"] or is_bare) for step in stack)
 
 
 def is_of_library(stack: List[Match[str]]) -> bool:
@@ -195,7 +215,8 @@ class MpiParser(Parser):
             raise Refusal(f"{shown(state.path)}: no line is '# gdb -p PID .. OMPI_COMM_WORLD_RANK=N', or of "
                           "cmh_mpi_reader.py")
         ends = [head.start() for head in heads[1:]] + [len(text)]
-        return [reading_of(state.path, head, text[head.end():end]) for head, end in zip(heads, ends)]
+        return [reading_of(state.path, head, text[head.end():end], counts_near(text, head.start()))
+                for head, end in zip(heads, ends)]
 
     def begin(self, readings: List[Reading]) -> None:
         """Checks that each rank is one process, and says which ranks the job has that the state lacks."""
@@ -213,13 +234,17 @@ class MpiParser(Parser):
 
     def prepare(self, snapshot: Ranks) -> None:
         snapshot.ranks = {rank.number: rank for rank in snapshot.rows()}
-        names = [rank.name() for rank in snapshot.ranks.values()]
+        names = [one.name() for rank in snapshot.ranks.values() for one in (rank, *rank.threads)]
         snapshot.names = self.names = self.names if self.names == names else names
         working = [rank.name() for rank in snapshot.ranks.values() if rank.operation() != "MPI_Finalize"]
         snapshot.to_finalize = all_of(working, "comes", premise(FINALIZED))
         places = {rank.name(): rank.more()["note"] for rank in snapshot.ranks.values() if rank.is_together()}
-        is_one = len({*places.values()}) == 1
-        snapshot.late = [name for name in snapshot.names if is_one and name not in places]
+        threads = [thread for rank in snapshot.ranks.values() for thread in rank.threads]
+        is_one = len({*places.values()}) == 1 and not any(thread.is_together() for thread in threads)
+        snapshot.late = [rank.name() for rank in snapshot.ranks.values() if is_one and rank.name() not in places]
+
+    def processes(self, snapshot: Ranks) -> Iterable[Rank]:
+        return [one for rank in snapshot.rows() for one in (rank, *rank.threads)]
 
     def finish(self, sketch: Sketch, snapshots: List[Any]) -> None:
         doubt_reach(sketch)
@@ -229,10 +254,15 @@ class MpiParser(Parser):
         if rank.fault or not rank.frames:
             return garbled(rank.name(), rank.fault or "no stack could be read", site=more["site"])
         step = next((step for step, one in enumerate(rank.own) if one["function"] in self.polls), None)
-        if step is not None and (not rank.operation() or POLLS.search(rank.operation())):
+        if step is not None and not rank.suffix and (not rank.operation() or POLLS.search(rank.operation())):
             rank, more = rank.between(step, self.polls[rank.own[step]["function"]])
         made = without_call(rank, more) if not more["operation"] else in_call(rank, snapshot, more)
-        made.because.append(premise(ONE_THREAD))
+        made.because += [] if rank.suffix else [premise(ONE_THREAD)]
+        inside = next((thread for thread in subject.threads if thread.operation()), None)
+        if made.sign is Sign.SLEEPS and inside is not None:
+            made.become_unknown(f"it sleeps, while another thread of it is in {inside.operation()}")
+        threads = [thread.name() for thread in subject.threads]
+        made.parts = [(*part, wakers("sends-for", threads)) for part in made.parts] if threads else made.parts
         return made
 
 
@@ -287,9 +317,15 @@ def without_call(rank: Rank, more: Dict[str, Any]) -> Process:
     inside = next((step["function"] for step in rank.frames if OF_LIBRARY.match(step["function"])), None)
     if inside:
         return unknown(name, f"it is in {inside}, and the state doesn't show what it waits for", **more)
-    if SLEEPS.match(top):
-        more["operation"] = "timed sleep"
-        return goes_on(name, "it sleeps", [premise(LIMIT)], Sign.SLEEPS, **more)
+    inner = rank.inner_wait() if rank.peers else ""
+    if SLEEPS.match(top) or LIMITED.search(inner):
+        more["operation"] = "timed sleep" if SLEEPS.match(top) else "timed wait"
+        in_loop = rank.suffix and len(rank.own) == 1  # (of its own thread)
+        return goes_on(name, "it sleeps", [premise(LIMIT)], Sign.TICKS if in_loop else Sign.SLEEPS, **more)
+    if inner:
+        why = "the state doesn't show which thread of its process wakes it"
+        more.update(operation=inner, note=" ".join([inner, "in", *more["frames"][:1]]))
+        return blocked(name, any_of(wakers("same-process", rank.peers), unseen("unshown", why)), [], reason=why, **more)
     if rank.own and rank.frames[0] is rank.own[0]:
         return goes_on(name, "it computes", [SYSTEM, premise(COMPUTES)], **more)
     more["operation"] = top
@@ -304,18 +340,36 @@ def is_own(step: Match[str]) -> bool:
     return not (step["file"] or "").startswith(("../", "./nptl", "./csu"))
 
 
-def reading_of(path: str, heading: Match[str], text: str) -> Reading:
-    """Returns the reading of one rank. Of a heading without a rank nothing is known but that there is one more."""
+def reading_of(path: str, heading: Match[str], text: str, counts: Dict[str, str]) -> Reading:
+    """Returns the reading of one rank, with the counts of threads. Of a heading without a rank nothing is known but
+    that there is one more."""
     head = HEAD.match(heading[0])
     if head is None:
         return Reading(path, heading[0], [], f"a stack has no rank in its heading: {shown(heading[0])[:80]}", PARTS)
     is_bare = heading[0].startswith("# eu-stack")
     stacks, fault = stacks_of(like_gdb(text, head["pid"]) if is_bare else text)
-    fault = fault or lost_of(text)
     size = SIZE.search(heading[0])
-    number, host = int(head["rank"]), head["host"] or ""
-    return Reading(path, number, [Rank(head["pid"], number, host, stacks[0] if stacks else [], stacks[1:],
-                                       int(size[1]) if size else 0, fault, is_bare)])
+    rank = Rank(head["pid"], int(head["rank"]), head["host"] or "", stacks[0][1] if stacks else [],
+                int(size[1]) if size else 0, fault or lost_of(text))
+    if not all(stack and OUTERMOST.match(stack[-1]["function"]) for _, stack in stacks[1:]):
+        rank.cut = "the stack of another thread of it isn't whole, so that one may send for it"
+    elif not rank.fault:
+        rank.threads = [Rank(rank.pid, rank.number, rank.host, stack, suffix=f"/{number}", count=counts.get(number))
+                        for number, stack in stacks[1:] if is_of_job(stack, is_bare)]
+    family = [rank, *rank.threads]
+    for one in family:
+        one.peers = [other.name() for other in family if other is not one]
+    return Reading(path, rank.number, [rank])
+
+
+def counts_near(text: str, place: int) -> Dict[str, str]:
+    """Returns the counts of threads that belong to the stacks at a place of a text: those that were read after them,
+    or else before, while no debugger held a thread."""
+    counts: Dict[str, str] = {}
+    for row in SWITCHES.finditer(text):
+        if row[2] not in counts or row.start() < place:
+            counts[row[2]] = row[3]
+    return counts
 
 
 def like_gdb(text: str, pid: str) -> str:
@@ -340,18 +394,20 @@ def lost_of(text: str) -> str:
     return ""
 
 
-def stacks_of(text: str) -> Tuple[List[List[Match[str]]], str]:
-    """Returns the frames of the first thread and then of each other one, and what isn't understood of them."""
+def stacks_of(text: str) -> Tuple[List[Tuple[str, List[Match[str]]]], str]:
+    """Returns the frames of the first thread and then of each other one, each with its number, and what isn't
+    understood of them."""
     parts = THREAD.split(text)
-    texts = dict(zip(parts[1::2], parts[2::2]))
+    heads = (NUMBER_OF_THREAD.search(head[0]) for head in THREAD.finditer(text))
+    texts = {place: (head[1] if head else place, stack) for place, head, stack in zip(parts[1::2], heads, parts[2::2])}
     first = texts.pop("1", None)
-    texts_in_order = [first, *texts.values()] if first is not None else list(texts.values()) or [parts[0]]
-    stacks: List[List[Match[str]]] = []
+    in_order = [first, *texts.values()] if first is not None else list(texts.values()) or [("1", parts[0])]
+    stacks: List[Tuple[str, List[Match[str]]]] = []
     fault = ""
-    for thread in texts_in_order:
+    for number, thread in in_order:
         one = ENTRY.sub(r"\1=", re.sub(r"\n {4,}(?=\S)", " ", thread))
         frames = list(FRAME.finditer(one))
         if [int(step["at"]) for step in frames] != list(range(len(STEP.findall(one)))):
             fault = "its frames don't run from #0 up, each understood: some are missing, or of another rank"
-        stacks.append(frames)
+        stacks.append((number, frames))
     return stacks, fault

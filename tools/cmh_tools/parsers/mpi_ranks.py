@@ -3,6 +3,7 @@ together."""
 from __future__ import annotations
 
 import functools
+import math
 from dataclasses import dataclass
 from typing import Any, Dict, Iterable, Iterator, List, Optional, Set, Tuple
 
@@ -19,6 +20,7 @@ ASKED = "requests", "more", "number", "comm", "partner", "tag"  # what one looks
 BY_ITSELF = {"sleep": "it sleeps", "limit": "it waits with a limit"}
 PARKED = "private"  # the call of one that waits without a limit at a futex of its process alone
 DEAD = "X", "Z"  # states of threads that have ended
+BUSY = 0.1  # seconds of processor time between two readings, from which on a thread has computed
 OF_RANK = "rank", "size", "level", "asked", "standard", "any_tag", "fortran"  # what stays in a rank
 OF_COMM = "size", "rank", "inter", "ranks", "parent", "made"  # what stays in a communicator
 FEW = 200  # of more ranks all waits share the list, with the one that waits in it: so it takes time linear in them
@@ -266,11 +268,15 @@ def align(ranks: List[Rank]) -> None:
 
 
 def note_ticks(rows: Iterable[Row]) -> None:
-    """Notes of threads that they have slept several times between two readings, as a heartbeat does."""
+    """Notes of threads that they have slept several times between two readings, as a heartbeat does. One that was
+    caught awake in one of them, and has used next to no processor time since, stands where it sleeps."""
     keyed = (((row["pid"], thread["tid"]), thread) for row in rows for thread in row.get("threads", []))
     for was, now in pairs_of(keyed):
-        if was.get("switches") != now.get("switches") and {was.get("call"), now.get("call")} & {*BY_ITSELF}:
+        limited = [row["call"] for row in (was, now) if row.get("call") in BY_ITSELF]
+        if was.get("switches") != now.get("switches") and limited:
             was["ticks"] = now["ticks"] = True
+            if "used" in was and now.get("used", math.inf) - was["used"] < BUSY:
+                was["call"], now["call"] = limited[0], limited[-1]
 
 
 def pairs_of(keyed: Iterable[Tuple[Any, Any]]) -> Iterator[Tuple[Any, Any]]:

@@ -47,7 +47,8 @@ REQUEST = [int, int, PARTNER, int, int, (int, type(None))]
 THREAD = {"tid": int, "inner": int, "state": STATE, "call?": CALL, "calls?": int, "polls?": int, "name?": WORD,
           "kind?": int, "number?": int, "comm?": int, "partner?": PARTNER, "tag?": int, "requests?": [REQUEST],
           "more?": int, "place?": ([str], [str, str, int]), "fault?": str, "called?": str, "switches?": int,
-          "entered?": int, "ahead?": object, "meanwhile?": object, "looks?": object}  # (the last 3: of old states)
+          "used?": float, "entered?": int,
+          "ahead?": object, "meanwhile?": object, "looks?": object}  # (the last 3: of old states)
 COMM = {"id": ID, "number": int, "size": int, "rank": int, "inter": int, "root": int, "name": WORD,
         "ranks?": ([int], type(None)), "parent?": ID, "made?": int, "held?": int, "target?": int,
         "alone?": int, "past?": [WORD]}
