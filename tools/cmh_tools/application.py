@@ -358,10 +358,10 @@ THERE = {"repeats", "finalizes"}  # hows by which one would end a wait as those 
 
 
 def kept_wakers(process: Process) -> Part:
-    """Returns the wakers of a wait that a fact on it leaves as they are: those that end it in another way, other threads
+    """Returns the wakers of a wait that a fact on it leaves as they are: who ends it in another way, other threads
     of its own, and who may have ended it between the looks."""
     return tuple({(id(some.who), some.how): some for part in process.parts for some in part
-                  if some.strength is Strength.AGAINST and some.how not in THERE or some.how in BESIDE}.values())
+                  if some.how in BESIDE or some.strength is Strength.AGAINST and some.how not in THERE}.values())
 
 
 def intersected(process: Process, fact: Fact, whom: List[str]) -> Tuple[List[str], str]:

@@ -161,7 +161,12 @@ def check_user(pid: str, owner: int) -> None:
 
 def captures_for(system: str, targets: List[str], may_kill: bool, may_dump: bool) -> List[Capture]:
     """Returns what is to be taken. Of Python processes that don't answer a signal, a tool that is there shows the
-    places besides what Linux sees."""
+    places besides what Linux sees. Where some answer, and others don't, Linux shows these."""
+    targets = those_there(targets) if system == "python" else targets
+    loaded = [pid for pid in targets if answers(pid)] if system == "python" else []
+    if loaded and loaded != targets:
+        bare = [pid for pid in targets if pid not in loaded]
+        return [capture_for(system, some, may_kill, may_dump) for some in (loaded, bare)]
     made = capture_for(system, targets, may_kill, may_dump)
     is_bare = system == "python" and made.system == "linux"
     way = way_to_python(targets) if is_bare else ""
@@ -170,6 +175,15 @@ def captures_for(system: str, targets: List[str], may_kill: bool, may_dump: bool
     command = [sys.executable, READER, way]
     frames = Capture("python", targets, PYTHON_WAYS[way], command)
     return [frames, made] if way == "py-spy" else [frames]  # (gdb takes too long for both to be of one time)
+
+
+def those_there(pids: List[str]) -> List[str]:
+    """Returns those of some processes that haven't ended, and says which have. Without any all are returned."""
+    left = [pid for pid in pids if stat_of(pid, 0) not in ("Z", "X", "?")]
+    for pid in pids if left else ():
+        if pid not in left:
+            say(f"process {shown(pid)} has ended, and isn't read")
+    return left or pids
 
 
 def fault_of(system: str, targets: Sequence[str]) -> str:

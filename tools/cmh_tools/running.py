@@ -1,51 +1,130 @@
-"""What runs on this machine that a state can be taken of, with the command for it."""
+"""What runs on this machine that a state can be taken of: the command for each, which systems see inside of it, its
+user, its age and its command line. Who has stood still for longest comes first."""
 from __future__ import annotations
 
 import contextlib
 import mmap
 import os
 import re
-from typing import Dict, Iterator, List, Tuple
+import time
+from typing import Dict, Iterator, List, NamedTuple, Optional, Tuple
 
-from .captures import answers, link_of, stat_of
+from .captures import answers, link_of, stat_of, way_to_python
+from .files import shown
+from .folder import user_of
 
 RANK = re.compile(rb"(?:OMPI_COMM_WORLD|PMIX?|MV2_COMM_WORLD)_RANK=|SLURM_PROCID=")
 GO = b"\xff Go buildinf:"
-Row = Tuple[str, str]
+RAN_AT = re.compile(rb"^se\.exec_start *: *([0-9.]+)", re.M)
+OWN = "/proc/thread-self/sched"
+WIDTH = 120  # of a command line
+UNITS = (86400, "days"), (3600, "hours"), (60, "minutes")
+AT_LEAST = 2  # of a unit, or a smaller one is named
+LINUX = "only Linux sees it"
 
 
-def proposals() -> List[Row]:
-    """Returns for each process that a parser sees inside of what it is, and the command that takes its state."""
+class Row(NamedTuple):
+    """A process: what it is, the command that takes its state, and which systems see inside of it."""
+
+    what: str
+    command: str
+    inside: str
+    pid: str
+
+
+def proposals() -> List[str]:
+    """Returns for each process that a parser sees inside of some lines: what it is with the command that takes its
+    state, and who runs it."""
     found: Dict[str, Row] = {}
     for pid in sorted(filter(str.isdigit, os.listdir("/proc")), key=int):
-        for what, command in rows_of(pid):
-            found.setdefault(command, (what, command))
-    return list(found.values())
+        for row in rows_of(pid):
+            found.setdefault(row.command, row)
+    waits = {row.command: waits_of(row.pid) for row in found.values()}
+    rows = sorted(found.values(), key=lambda row: -(waits[row.command] or 0))
+    return [f"{shown(row.what)}: {shown(row.command)}\n    {details(row, waits[row.command])}" for row in rows]
+
+
+def details(row: Row, waited: Optional[float]) -> str:
+    """Returns who runs a process, for how long it has been there and stood still, what sees it, and its words."""
+    still = f"no thread of it ran for {in_words(waited)}" if waited is not None and waited >= 1 else "it runs"
+    line = shown(" ".join(words_of(row.pid)).strip())
+    line = line if len(line) <= WIDTH else f"{line[:WIDTH]} .."
+    return f"{user(row.pid)}, begun {in_words(age_of(row.pid))} ago, {still}; {row.inside}: {line}"
+
+
+def user(pid: str) -> str:
+    with contextlib.suppress(OSError):
+        return shown(user_of(os.stat(f"/proc/{pid}").st_uid))
+    return "?"
+
+
+def in_words(seconds: float) -> str:
+    """Returns a time in its largest unit of which there are several."""
+    size, unit = next(((size, unit) for size, unit in UNITS if seconds >= AT_LEAST * size), (1, "s"))
+    return f"{seconds / size:.0f} {unit}"
+
+
+def age_of(pid: str) -> float:
+    """Returns for how many seconds a process has been there."""
+    begun = stat_of(pid, 19)
+    return max(0.0, time.clock_gettime(time.CLOCK_BOOTTIME) - int(begun) / os.sysconf("SC_CLK_TCK")) \
+        if begun.isdigit() else 0.0
+
+
+def waits_of(pid: str) -> Optional[float]:
+    """Returns for how many seconds no thread of a process has run, or None if the kernel doesn't say that."""
+    now, ran = ran_at(OWN), [ran_at(f"/proc/{pid}/task/{tid}/sched") for tid in threads_of(pid)]
+    last = [at for at in ran if at is not None]
+    return None if now is None or not last or len(last) < len(ran) else max(0.0, now - max(last))
+
+
+def threads_of(pid: str) -> List[str]:
+    with contextlib.suppress(OSError):
+        return os.listdir(f"/proc/{pid}/task")
+    return []
+
+
+def ran_at(path: str) -> Optional[float]:
+    ran = RAN_AT.search(bytes_of(path))
+    return float(ran[1]) / 1000 if ran else None
+
+
+def words_of(pid: str) -> List[str]:
+    return [word.decode(errors="backslashreplace") for word in bytes_of(f"/proc/{pid}/cmdline").split(b"\0")]
 
 
 def rows_of(pid: str) -> Iterator[Row]:
+    for what, command, inside in commands_for(pid):
+        yield Row(f"{what} {pid}", command, inside, pid)
+
+
+def commands_for(pid: str) -> Iterator[Tuple[str, str, str]]:
+    """Yields what a process is, the command for it, and what that sees."""
     path = link_of(f"/proc/{pid}/exe")
     name = os.path.basename(path)
-    words = [word.decode(errors="backslashreplace") for word in bytes_of(f"/proc/{pid}/cmdline").split(b"\0")]
+    words = words_of(pid)
     if name == "java":
-        yield f"java {pid}", f"cmh-stall jvm {pid}, or with --heap, which shows more and stops it for longer"
+        yield ("java", f"cmh-stall jvm {pid}, or with --heap, which shows more and stops it for longer",
+               "jvm and linux see inside")
     elif name == "beam.smp" and any("rabbit" in word for word in words):
-        yield f"rabbitmq {pid}", "cmh-stall rabbitmq"
+        yield "rabbitmq", "cmh-stall rabbitmq", "rabbitmq and erlang see inside"
     elif name == "beam.smp":
         for option, node in zip(words, words[1:]):
             if option in ("-sname", "-name"):
-                yield f"erlang {pid}", f"cmh-stall erlang {full_name(node)}"
+                yield "erlang", f"cmh-stall erlang {full_name(node)}", "erlang sees inside"
     elif name == "postgres" and os.path.basename(link_of(f"/proc/{stat_of(pid, 1)}/exe")) != name:
-        yield f"postgres {pid}", "cmh-stall postgres"
+        yield "postgres", "cmh-stall postgres", "postgres and linux see inside"
     elif name in ("mariadbd", "mysqld"):
-        yield f"{name} {pid}", "cmh-stall mariadb"
+        yield name, "cmh-stall mariadb", "mariadb and linux see inside"
     elif RANK.search(bytes_of(f"/proc/{pid}/environ")):
-        yield f"rank of {name} {pid}", f"cmh-stall mpi {name}"
+        yield f"rank of {name}", f"cmh-stall mpi {name}", "mpi and linux see inside"
     elif name.startswith("python"):
-        way = "python" if answers(pid) else "linux"
-        yield f"python {pid}", f"cmh-stall {way} {pid}"
+        sees = answers(pid) or way_to_python([pid])
+        yield "python", f"cmh-stall {'python' if sees else 'linux'} {pid}", \
+            "python and linux see inside" if sees else LINUX
     elif is_go(f"/proc/{pid}/exe"):
-        yield f"go {pid}", f"cmh-stall go HOST:PORT of net/http/pprof, or cmh-stall linux {pid}"
+        yield ("go", f"cmh-stall go HOST:PORT of net/http/pprof, or cmh-stall linux {pid}",
+               "go sees inside if it serves net/http/pprof, and linux")
 
 
 def full_name(node: str) -> str:

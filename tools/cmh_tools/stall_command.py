@@ -5,6 +5,7 @@ import argparse
 import contextlib
 import json
 import os
+import re
 import shlex
 import shutil
 import tempfile
@@ -35,6 +36,8 @@ from .timeout_command import add_options, seconds_of
 from .watch import KEPT, Check, watch
 
 RECORD = "stall.json"  # what a folder has, by which it is explained again
+# A process in a state of Linux that runs Python.
+PYTHON = re.compile(r'^cmh-linux \{"pid": (\d+),.*"exe": "([^"]*/python3[^"/]*)"', re.M)
 NO_STACKS = '"with_stacks": false'  # in a state of Linux
 ALONE = ("erlang", "go", "rabbitmq")  # whose states don't say of which threads of a machine they are
 MOST_NAMES = 200  # names that stand in a file of facts, for people to choose from
@@ -130,10 +133,7 @@ def check_folder_words(it: Parser, asked: argparse.Namespace) -> None:
 
 
 def show_what_runs() -> int:
-    rows = what_runs()
-    lines = [f"{shown(what)}: {shown(command)}\n" for what, command in rows]
-    lines.append("anything else: cmh-stall linux PID\n")
-    write_out("".join(lines))
+    write_out("".join(f"{text}\n" for text in [*what_runs(), "anything else: cmh-stall linux PID"]))
     return 0
 
 
@@ -321,9 +321,22 @@ def more_ways(parts: List[Dict[str, Any]], explanation: Explanation, folder: Fol
             yield f"Who sleeps may only tick, which a longer look shows: cmh-stall {system} {words} --seconds 60"
         if system == "jvm" and part["targets"] and "--heap" not in part["targets"] and is_open:
             yield f"The heap shows more, and stops the JVM for longer: cmh-stall jvm {words} --heap"
+        if system == "linux" and status and all(other["system"] != "python" for other in parts):
+            yield from to_see_python(part, folder)
         if system == "linux" and part["targets"] and at_futex and lacks_stacks(part, folder):
             yield ("Stacks show more, and hold each process at a futex for a moment: cmh-stall linux "
                    f"{words} --stacks")
+
+
+def to_see_python(part: Dict[str, Any], folder: Folder) -> Iterator[str]:
+    """Yields the command to run now where a target is Python, of which Linux alone was read: it brings what sees inside
+    of it without anything being loaded there."""
+    text = "".join(folder.read_text(folder.at(name)) for name in part["states"])
+    for pid, path in dict(PYTHON.findall(text)).items():
+        if pid in part["targets"]:
+            package = "apt-get install gdb python3-dbg" if path.startswith("/usr/bin/") else "pip install py-spy"
+            yield f"To see inside of Python: {package} && cmh-stall python {command_words(part['targets'])}"
+            return
 
 
 def lacks_stacks(part: Dict[str, Any], folder: Folder) -> bool:
