@@ -72,8 +72,9 @@ def join_two(first: Sketch, second: Sketch) -> Sketch:
     inner = {*first.inner, *second.inner}
     for process in processes:
         is_calm = process.kind == UNKNOWN and process.thread in idle
-        process.sign = Sign.RESTS if is_calm else process.sign
-        if process.thread in readers or process.thread in inner and process.kind == UNKNOWN:
+        if is_calm:
+            process.sign, process.reason = Sign.RESTS, "has nothing to do"
+        if process.thread in readers or process.thread in inner and (process.kind == UNKNOWN or joins(process)):
             process.because = []
             why = SYSTEM if process.thread in readers else premise(INNER)
             process.become(Sign.ENDED, DONE, [why])  # (it ends nobody's wait)
@@ -95,6 +96,12 @@ def begun_by(second: Sketch, first: Sketch) -> Dict[str, str]:
     mine = {process.name: process.site for process in first.processes}
     sites = {process.site or "": mine.get(process.name) or process.site or "" for process in second.processes}
     return {sites.get(site, site): sites.get(above, above) for site, above in second.begun_by.items()}
+
+
+def joins(process: Process) -> bool:
+    """Whether one waits for the end of others alone, as the thread does that a JVM's launcher began with: so it frees
+    nobody before."""
+    return bool(process.parts) and all(some.how == "ends" for part in process.parts for some in part)
 
 
 def freeing_nobody(sketch: Sketch, names: Optional[Dict[str, str]] = None) -> Dict[str, str]:

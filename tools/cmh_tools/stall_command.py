@@ -23,6 +23,7 @@ from .facts import Facts, read_facts
 from .files import Failure, Refusal, decoded, say, shown, write_out
 from .folder import Folder, make_folder
 from .making import sketch_for
+from .model import Sign
 from .proposals import Proposal, propose
 from .redact import redacted_texts
 from .rule import STATUSES, Headline
@@ -40,6 +41,10 @@ RECORD = "stall.json"  # what a folder has, by which it is explained again
 PYTHON = re.compile(r'^cmh-linux \{"pid": (\d+),.*"exe": "([^"]*/python3[^"/]*)"', re.M)
 NO_STACKS = '"with_stacks": false'  # in a state of Linux
 ALONE = ("erlang", "go", "rabbitmq")  # whose states don't say of which threads of a machine they are
+# What of a JVM's heap tells who ends waits by these calls.
+HEAP_SHOWS = (({"get", "join"}, "The heap shows who runs the task or computes the future, or in which queue it stands"),
+              ({"lock", "lockInterruptibly"}, "The heap shows who reads under the lock"),
+              ({"acquire", "take", "put", "await"}, "The heap shows who has a reference to what they wait at"))
 MOST_NAMES = 200  # names that stand in a file of facts, for people to choose from
 USAGE = """cmh-stall SYSTEM TARGET.. [--seconds S] [--with SYSTEM TARGET..] [-o FOLDER]
        cmh-stall linux PID.. --stacks
@@ -320,12 +325,27 @@ def more_ways(parts: List[Dict[str, Any]], explanation: Explanation, folder: Fol
         if explanation.is_hidden_by_sleepers() and part["targets"]:
             yield f"Who sleeps may only tick, which a longer look shows: cmh-stall {system} {words} --seconds 60"
         if system == "jvm" and part["targets"] and "--heap" not in part["targets"] and is_open:
-            yield f"The heap shows more, and stops the JVM for longer: cmh-stall jvm {words} --heap"
+            yield f"{heap_words(explanation)}, and stops the JVM for longer: cmh-stall jvm {words} --heap"
+        if system == "jvm" and part["targets"] and len(parts) == 1 and is_open and waits_outside(explanation):
+            yield f"Who is at the other ends of its sockets: cmh-stall jvm {words} --with linux {words}"
         if system == "linux" and status and all(other["system"] != "python" for other in parts):
             yield from to_see_python(part, folder)
         if system == "linux" and part["targets"] and at_futex and lacks_stacks(part, folder):
             yield ("Stacks show more, and hold each process at a futex for a moment: cmh-stall linux "
                    f"{words} --stacks")
+
+
+def waits_outside(explanation: Explanation) -> bool:
+    """Whether somebody waits for an answer from outside, which may come from within."""
+    return any(process.sign is Sign.BLOCKED and any(some.how == "outside" for part in process.parts for some in part)
+               for process in explanation.waits.processes)
+
+
+def heap_words(explanation: Explanation) -> str:
+    """Returns in words what the heap of a JVM would show of those who wait."""
+    at = {process.operation.rpartition(".")[2] for process in explanation.waits.processes
+          if process.sign in (Sign.BLOCKED, Sign.UNKNOWN)}
+    return next((words for operations, words in HEAP_SHOWS if at & operations), "The heap shows more")
 
 
 def to_see_python(part: Dict[str, Any], folder: Folder) -> Iterator[str]:

@@ -9,10 +9,10 @@ operation says for whom it only waits again and again.
 """
 from __future__ import annotations
 
-from typing import Dict, Iterable, List, Optional
+from typing import Dict, Iterable, List, Optional, Set
 
 from ..model import Sign, wakers
-from ..sketch import WAITING, WORK, Process, Sketch, garbled, premise
+from ..sketch import WAITING, WORK, Process, Sketch, frame, garbled, premise
 from ..snapshots import APART, ONCE, WHOLE, WOKEN, Reading
 from . import State
 from .base import Break, Parser
@@ -40,6 +40,7 @@ class JvmParser(Parser):
         self.names: Dict[str, str] = {}
         self.heap: Optional[Heap] = None
         self.everybody = Everybody([], [], [])
+        self.scheduled: Set[str] = set()
 
     def read(self, state: State) -> List[Reading]:
         dumps = read_dumps(state.path, state.text)
@@ -61,6 +62,7 @@ class JvmParser(Parser):
         before = {thread.key for thread in self.dumps[0].threads}
         newcomers = dict.fromkeys(self.names[thread.key] for thread in threads
                                   if thread.key not in before and self.names[thread.key] in able)
+        self.scheduled = {thread.key for thread in threads if has_limit(thread) and place_of(thread).has(HAS_TIMER)}
         main = next((self.names[thread.key] for thread in threads if thread.name == MAIN), "")
         self.everybody = Everybody(list(able), self.periodic(threads), list(newcomers) if self.heap else [], main)
 
@@ -74,7 +76,8 @@ class JvmParser(Parser):
     def prepare(self, snapshot: Threads) -> None:
         snapshot.dump, = snapshot.rows()
         threads = snapshot.threads = snapshot.dump.threads
-        snapshot.names, snapshot.everybody = self.names, self.everybody
+        snapshot.by_key = {thread.key: thread for thread in threads}
+        snapshot.names, snapshot.everybody, snapshot.scheduled = self.names, self.everybody, self.scheduled
         locks = snapshot.locks = Locks(threads, snapshot.dump.found_owners)
         snapshot.heap = HeapView(self.heap, threads, self.names, locks)
         snapshot.limited = {thread.key for thread in threads if thread.state == "TIMED_WAITING"}
@@ -110,7 +113,9 @@ class JvmParser(Parser):
         process.meeting = snapshot.meetings.get(thread.key, "")
         if NEEDS_ALL.fullmatch(place.call) and not process.is_collective:
             process.meeting = next(iter(here), name)
-        process.note = " at ".join(filter(None, [place.call or own, *place.frames[:1]]))
+        of_class = thread.monitors[0] if thread.state == "BLOCKED" and thread.key in snapshot.locks.wanted else ""
+        call = " ".join(filter(None, [place.call or own, of_class]))
+        process.note = " at ".join(filter(None, [call, *place.frames[:1]])) + taken_in(thread, snapshot)
         process.moment = APART if snapshot.dump.is_file else process.moment
         set_count(process, thread, place, snapshot)
         return process
@@ -125,6 +130,17 @@ class JvmParser(Parser):
             for process in sketch.processes:  # (so that they aren't left out)
                 process.reason = "it waits for work, and no thread is there to give it any"
                 process.parts = [(wakers("same-process", [process.name]), *part) for part in process.parts]
+
+
+def taken_in(thread: Thread, snapshot: Threads) -> str:
+    """Returns who has the monitor that a thread waits to enter, and in which frame it was taken, if the state shows
+    that."""
+    wanted = snapshot.locks.wanted.get(thread.key, "")
+    keys = snapshot.locks.monitor_holders(wanted, thread.key) if wanted else []
+    holder = snapshot.by_key.get(keys[0]) if len(keys) == 1 else None
+    frames = zip(holder.frames, stack_of(holder)) if holder is not None else ()
+    places = [frame(*row) for one, row in frames if ("locked", wanted) in one.marks]
+    return f", which {snapshot.names[keys[0]]} took in {places[-1]}" if places else ""
 
 
 def awake_of(dump: Dump) -> List[Thread]:

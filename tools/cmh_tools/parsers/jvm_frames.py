@@ -26,12 +26,12 @@ MACHINERY = re.compile(
     r"|.*\$\w*Node\.(?:block|await)"
 )
 # Idle frames: a thread with one of them before the first of the job's own waits for work, and tells of no stall.
-WORKER, ACCEPTOR, POLLER, TIMER, CLEANER, CARRIER, REAPER, USED = (
+WORKER, ACCEPTOR, POLLER, TIMER, CLEANER, CARRIER, REAPER, USED, STOPPER = (
     WORK, "waits for a connection", "polls its sockets", "waits for tasks to be scheduled",
     "waits for objects to be cleaned up", "carries a virtual thread", "waits for the end of a child",
-    "waits for events of its windows")
+    "waits for events of its windows", "waits for the end of the server")
 # The ways in which the outside may wake an idle thread, which then runs code of the job.
-FROM_OUTSIDE = frozenset((ACCEPTOR, POLLER, REAPER, USED))
+FROM_OUTSIDE = frozenset((ACCEPTOR, POLLER, REAPER, USED, STOPPER))
 IDLE = [(re.compile(pattern), label) for pattern, label in (
     (r"jdk\.internal\.vm\.Continuation\.run", CARRIER),
     (r"java\.util\.concurrent\.ThreadPoolExecutor\.getTask", WORKER),
@@ -50,6 +50,7 @@ IDLE = [(re.compile(pattern), label) for pattern, label in (
     (r"io\.netty\.channel\.\w+\.Native\.\w*[wW]ait0?", POLLER),
     (r"sun\.nio\.ch\.(?:Poller\.\w*[lL]oop|(?:EPoll|KQueue)Port\$EventHandlerTask\.poll)", POLLER),
     (r"java\.lang\.ProcessHandleImpl\.waitForProcessExit0", REAPER),
+    (r"org\.apache\.catalina\.core\.StandardServer\.await", STOPPER),
 )]
 RUN_WORKER = "java.util.concurrent.ForkJoinPool.runWorker"  # in which workers of JDK 9 to 16 wait for work
 # Waits for a timer rather than for work, if they have a limit.
@@ -270,7 +271,8 @@ def place_at(stack: Stack) -> Place:
         wanted = tuple(row for row in stack[start:] if is_jobs(row[0]))
     frames = [frame(*row) for row in wanted]
     called = [method for method in methods[:start] if not MADE.match(method)]
-    return Place(frames, short(called[-1]) if called else "", above, idle_label(methods[:own]))
+    reached = methods if own is None else methods[:own + 1]
+    return Place(frames, short(called[-1]) if called else "", above, idle_label(reached))
 
 
 @lru_cache(maxsize=4096)

@@ -50,10 +50,12 @@ class Threads(Snapshot):
     at a barrier; `meetings` has by key at which barrier one waits, if the state shows that of all who wait at one.
     `counts` says that processor times tell one wait from the next. `moved` has at what some wait who haven't stood, or
     in another way than for a ReentrantLock, and `shows_owners` says that whoever owns one is shown. `timers` are
-    the JDK's own with something to do for futures."""
+    the JDK's own with something to do for futures. `scheduled` are the keys of those that take tasks of a schedule, and
+    wait with a limit in one state at least: its threads take turns in that."""
 
     dump: Dump
     threads: List[Thread]
+    by_key: Dict[str, Thread]
     names: Dict[str, str]
     everybody: Everybody
     locks: Locks
@@ -66,6 +68,7 @@ class Threads(Snapshot):
     shows_owners: bool
     known_owners: Dict[str, Part]
     timers: List[str]
+    scheduled: Set[str]
 
     def left_out(self) -> Part:
         """Those who may be missing, beside those that are named: whoever is found by a search has them anyway."""
@@ -119,7 +122,7 @@ class Threads(Snapshot):
 def wait_of(thread: Thread, name: str, snapshot: Threads) -> Process:
     """Returns what a thread does, as a process with its sign and its wait alone."""
     place = place_of(thread)
-    is_limited = has_limit(thread)
+    is_limited = has_limit(thread) or thread.key in snapshot.scheduled and place.has(HAS_TIMER)
     if place.idle and not (is_limited and (place.has(HAS_TIMER) or place.has(HAS_TASK))):
         is_outside = place.idle in FROM_OUTSIDE or place.idle == CLEANER
         return rests(name, place.idle, any_of(unseen("outside" if is_outside else TO_COME)), [])

@@ -69,6 +69,7 @@ INNER_WAITS = re.compile(r"(__GI_)?_*(new_)?(pthread_(cond|mutex|rwlock|barrier|
                          r"std::condition_variable::)\w*(wait|lock|join)")
 LIMITED = re.compile(r"(timed|clock)(wait|lock|join|rdlock|wrlock)")
 
+Counts = Dict[str, List[Tuple[int, str]]]
 FEW = 200  # of more ranks all waits share the list, with the one that waits in it: so it takes time linear in them
 
 
@@ -215,8 +216,8 @@ class MpiParser(Parser):
             raise Refusal(f"{shown(state.path)}: no line is '# gdb -p PID .. OMPI_COMM_WORLD_RANK=N', or of "
                           "cmh_mpi_reader.py")
         ends = [head.start() for head in heads[1:]] + [len(text)]
-        return [reading_of(state.path, head, text[head.end():end], counts_near(text, head.start()))
-                for head, end in zip(heads, ends)]
+        counts = counts_in(text)
+        return [reading_of(state.path, head, text[head.end():end], counts) for head, end in zip(heads, ends)]
 
     def begin(self, readings: List[Reading]) -> None:
         """Checks that each rank is one process, and says which ranks the job has that the state lacks."""
@@ -340,7 +341,7 @@ def is_own(step: Match[str]) -> bool:
     return not (step["file"] or "").startswith(("../", "./nptl", "./csu"))
 
 
-def reading_of(path: str, heading: Match[str], text: str, counts: Dict[str, str]) -> Reading:
+def reading_of(path: str, heading: Match[str], text: str, counts: Counts) -> Reading:
     """Returns the reading of one rank, with the counts of threads. Of a heading without a rank nothing is known but
     that there is one more."""
     head = HEAD.match(heading[0])
@@ -354,7 +355,8 @@ def reading_of(path: str, heading: Match[str], text: str, counts: Dict[str, str]
     if not all(stack and OUTERMOST.match(stack[-1]["function"]) for _, stack in stacks[1:]):
         rank.cut = "the stack of another thread of it isn't whole, so that one may send for it"
     elif not rank.fault:
-        rank.threads = [Rank(rank.pid, rank.number, rank.host, stack, suffix=f"/{number}", count=counts.get(number))
+        rank.threads = [Rank(rank.pid, rank.number, rank.host, stack, suffix=f"/{number}",
+                             count=count_at(counts, number, heading.start()))
                         for number, stack in stacks[1:] if is_of_job(stack, is_bare)]
     family = [rank, *rank.threads]
     for one in family:
@@ -362,14 +364,20 @@ def reading_of(path: str, heading: Match[str], text: str, counts: Dict[str, str]
     return Reading(path, rank.number, [rank])
 
 
-def counts_near(text: str, place: int) -> Dict[str, str]:
-    """Returns the counts of threads that belong to the stacks at a place of a text: those that were read after them,
-    or else before, while no debugger held a thread."""
-    counts: Dict[str, str] = {}
+def counts_in(text: str) -> Counts:
+    """Returns how often threads have given up their processors, by their numbers: each time with its place."""
+    counts: Counts = {}
     for row in SWITCHES.finditer(text):
-        if row[2] not in counts or row.start() < place:
-            counts[row[2]] = row[3]
+        counts.setdefault(row[2], []).append((row.start(), row[3]))
     return counts
+
+
+def count_at(counts: Counts, number: str, place: int) -> Optional[str]:
+    """Returns the count of a thread that belongs to the stacks at a place: the one that was read before them, or else
+    after them, while no debugger held a thread."""
+    rows = counts.get(number, [])
+    before = [count for start, count in rows if start < place]
+    return next(iter([*before[-1:], *(count for _, count in rows[:1])]), None)
 
 
 def like_gdb(text: str, pid: str) -> str:
