@@ -393,7 +393,8 @@ def reading(pids: Sequence[int], number: int) -> Iterator[Row]:
 
 
 def state(words: Sequence[str], seconds: float, looks: int) -> str:
-    """Returns the state of a job as a text, with so many readings some seconds apart. Raises LookupError if none of it is here."""
+    """Returns the state of a job as a text, with so many readings some seconds apart. Raises LookupError if none of it
+    is here."""
     pids = processes_of(words)
     if not pids:
         raise LookupError(f"no process of {' '.join(words)} here has a rank that this user can see")

@@ -92,7 +92,7 @@ class Cures:
     def cure_of(self, number: int, members: List[int]) -> Cure:
         """Returns the least that breaks a root: several units if each is enough. A root within one unit is broken by
         that."""
-        ended = [name for name in dict.fromkeys(name for index in members[:MOST] for name in self.ending(index, members))]
+        ended = list(dict.fromkeys(name for index in members[:MOST] for name in self.ending(index, members)))
         if ended:
             return Cure(ended, [number])
         units = list(dict.fromkeys(map(self.unit_of, members)))

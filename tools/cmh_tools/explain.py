@@ -226,7 +226,8 @@ class Explanation(Findings):
 
     def reason_of_doubt(self, doubt: Doubt) -> str:
         """Returns why all of those rest of whom a doubt is, or nothing."""
-        reasons = {self.waits.processes[self.waits.index[name]].reason for name in doubt.who if name in self.waits.index}
+        index = self.waits.index
+        reasons = {self.waits.processes[index[name]].reason for name in doubt.who if name in index}
         return shown(reasons.pop()) if len(reasons) == 1 else ""
 
     def behind_several(self) -> List[str]:

@@ -24,7 +24,8 @@ ORIGIN = re.compile(r"\[originating from goroutine \d+\]:\s*")
 SIGNAL = re.compile(r"SIG[A-Z]+: .*")
 REGISTER = re.compile(r"(?:[re][a-z]{2}|r\d+|lr|sp|pc|fp|fault|[cdefgs]s|rflags|eflags|cpsr|trap)\s+0x[0-9a-f]+\s*")
 BESIDE = re.compile(
-    r"\s*|# cmh .*|PC=.*|signal arrived .*|runtime: .*|exit status \d+|\[signal .*|m\d+: .*|-----\s*|goroutine profile: .*"
+    r"\s*|# cmh .*|PC=.*|signal arrived .*|runtime: .*|exit status \d+|\[signal .*|m\d+: .*|-----\s*"
+    r"|goroutine profile: .*"
 )
 AGAIN = re.compile(r"^# cmh looked again (\d{1,4}(?:\.\d{1,9})?) s later$", re.M)  # before each look but the first
 MINUTES = re.compile(r"(\d{1,9}) minutes")

@@ -113,7 +113,8 @@ class JvmParser(Parser):
         process.meeting = snapshot.meetings.get(thread.key, "")
         if NEEDS_ALL.fullmatch(place.call) and not process.is_collective:
             process.meeting = next(iter(here), name)
-        of_class = thread.monitors[0] if thread.state == "BLOCKED" and thread.key in snapshot.locks.wanted else ""
+        of_class = next(iter(thread.monitors), "") \
+            if thread.state == "BLOCKED" and thread.key in snapshot.locks.wanted else ""
         call = " ".join(filter(None, [place.call or own, of_class]))
         process.note = " at ".join(filter(None, [call, *place.frames[:1]])) + taken_in(thread, snapshot)
         process.moment = APART if snapshot.dump.is_file else process.moment
