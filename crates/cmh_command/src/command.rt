@@ -23,7 +23,7 @@ Exit status:
   4  out of memory, or an I/O error
 
 The dump is one JSON text on standard input, read up to its end.
-In the documents of cmh, DUMPS.md says how to write one, and FORMATS.md what is read
+In the documents of cmh, BY-HAND.md says how to write one, and FORMATS.md what is read
 and printed. Installed, they are in share/doc/cmh, beside bin.";
 
 const ABOUT: &str =
@@ -46,7 +46,7 @@ Examples:
 Exit status: 0 no process is deadlocked, 3 some process is; 1 the dump is refused,
 2 the command line is, 4 out of memory or an I/O error.
 
-In the documents of cmh, DUMPS.md says how to write a dump, and FORMATS.md how to read
+In the documents of cmh, BY-HAND.md says how to write a dump, and FORMATS.md how to read
 the report.";
 
 const AFTER_TRACE: &str = "\
@@ -57,7 +57,7 @@ Examples:
 Exit status: 0 the trace was made; 1 the dump is refused, 2 the command line is, or
 NAME is no idle process of the dump, 4 out of memory or an I/O error.
 
-In the documents of cmh, DUMPS.md says how to write a dump, and FORMATS.md how to read
+In the documents of cmh, BY-HAND.md says how to write a dump, and FORMATS.md how to read
 the trace.";
 
 /// The whole command line.
