@@ -165,7 +165,9 @@ class Supervisor:
 
     def stop_too(self, number: int) -> None:
         """Stops by the signal that has stopped the command, so that a shell sees its job stopped. This time doesn't
-        count."""
+        count. A command that is ended stops nobody."""
+        if time.monotonic() >= self.deadline:
+            return
         if os.getpgid(self.pid) != os.getpgrp() or number == signal.SIGSTOP and not is_in_foreground():
             return
         before = time.monotonic()
