@@ -262,8 +262,8 @@ function fit() {
 function startBoxes() {
   drawing.setAttribute("role", "group");
   drawing.querySelector("g").id = "drawn";
-  everyBox().forEach((box, at) => {
-    box.setAttribute("tabindex", at ? "-1" : "0");
+  everyBox().forEach((box) => {
+    box.setAttribute("tabindex", numberOf(box) ? "-1" : "0");
     box.setAttribute("role", "link");
     box.setAttribute("aria-label", data.boxes[numberOf(box)].join("; "));
   });

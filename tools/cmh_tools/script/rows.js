@@ -20,7 +20,10 @@ function count(many, one, several) { return many.toLocaleString("en") + " " + (m
 
 function fullName(row) { return data.full[row] || data.names[row]; }
 
-function addressOf(row) { return "#p=" + encodeURIComponent(fullName(row)); }
+// Returns the address of a row: its name, or, where that has half of a character, its number.
+function addressOf(row) {
+  try { return "#p=" + encodeURIComponent(fullName(row)); } catch (fault) { return "#p" + data.numbers[row]; }
+}
 
 function linkTo(row) { return make("a", {href: addressOf(row), textContent: data.names[row]}); }
 
@@ -33,14 +36,21 @@ function whomOf(row) {
   return last < 0 ? [list.slice(0, -1), -last] : [list, 0];
 }
 
-// Returns the rows that wait for one.
-const waiters = [];
+// Returns the rows that wait for one. Those who share a list are kept once, beside it.
+const waiters = new Map(), users = data.lists.map(() => []);
 function waitersOf(row) {
-  if (!waiters.length) {
-    everyRow.forEach(() => waiters.push([]));
-    everyRow.forEach((waiting) => whomOf(waiting)[0].forEach((other) => waiters[other].push(waiting)));
+  if (!waiters.size) {
+    waiters.set(-1, []);
+    everyRow.filter((waiting) => data.kind[waiting]).forEach((waiting) => {
+      const whom = data.whom[waiting];
+      if (!Array.isArray(whom)) { users[whom].push(waiting); return; }
+      whom.forEach((other) => {
+        if (waiters.has(other)) { waiters.get(other).push(waiting); } else { waiters.set(other, [waiting]); }
+      });
+    });
   }
-  return waiters[row];
+  const shared = data.lists.flatMap((list, number_) => list.includes(row) ? users[number_] : []);
+  return [...(waiters.get(row) || []), ...shared];
 }
 
 function rootsOf(row) {

@@ -63,6 +63,8 @@ function draw() {
   const rows = [];
   for (let at = first; at < last; at += 1) { rows.push(drawLine(at)); }
   body.replaceChildren(...(first ? [spaceOf(first)] : []), ...rows, ...(last < all ? [spaceOf(all - last)] : []));
+  const height = table.isTall && rows.length ? rows[0].getBoundingClientRect().height : 0;
+  if (height && Math.abs(height - table.height) > 0.1) { table.height = height; }
   if (hadFocus) { (element("line" + table.current) || list).focus({preventScroll: true}); }
 }
 
