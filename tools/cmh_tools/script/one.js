@@ -1,7 +1,7 @@
 // One process, or one box of the picture: all that is known of it, with ways to its row, to its box and to its lines.
 
 const panel = element("one");
-const mostLines = 14, mostPlaces = 4;
+const mostLines = 14, mostPlaces = 4, mostLetters = 400;
 let cameFrom = null;
 
 function partOf(head, ...parts) {
@@ -10,24 +10,38 @@ function partOf(head, ...parts) {
 
 function codeOf(lines) { return make("pre", {textContent: lines.join("\n")}); }
 
-// Returns the words by which the lines of a state may name a process, the most telling one first.
-function needlesOf(row) {
-  const name = fullName(row), last = name.split("/").pop();
-  const digits = (data.thread[row] || "").split("/").pop();
-  return Array.from(new Set([name, data.texts[data.operation[row]] ? last : "", last, digits])).filter(Boolean);
+// Returns what lines of a state are like that name a number: of a process, a thread, a goroutine or a rank.
+function patternOfNumber(digits) {
+  return new RegExp('(?:"(?:pid|tid|thread|number)": ?"?|goroutine |rank[ =]|[Tt]hread )' + digits + "(?![\\d.])", "i");
 }
 
-// Yields the places of a state whose lines name a process: the number of the first line, and the lines.
-function placesIn(lines, needle) {
-  const pattern = patternOf(needle), found = [];
+// Returns what the lines of a state may be like that name a process, the most telling first.
+function patternsOf(row) {
+  const name = fullName(row), last = name.split("/").pop();
+  const words = [name, name.slice(name.indexOf("/") + 1), last, last.replace(/ \(.*\)$/, ""),
+    last.replace(/^coroutine /, "")].filter((word) => word && !/^\d+$/.test(word));
+  const digits = [/\d*$/.exec(name)[0], ...(data.thread[row] || "").split("/").reverse()].filter(Boolean);
+  return [...new Set(words)].map(patternOf).concat([...new Set(digits)].map(patternOfNumber));
+}
+
+// Returns the places of a state whose lines are so: the number of the first line, and the lines.
+function placesIn(lines, pattern) {
+  const found = [];
   for (let at = 0; at < lines.length && found.length < mostPlaces; at += 1) {
     if (!pattern.test(lines[at])) { continue; }
     let end = at + 1;
     while (end < lines.length && lines[end].trim() && end - at < mostLines && !pattern.test(lines[end])) { end += 1; }
     found.push([at, lines.slice(at, end)]);
-    at = end;
+    at = end - 1;
   }
   return found;
+}
+
+// Returns a line, or of a long one the part around what names the process.
+function partOfLine(line, pattern) {
+  if (line.length <= mostLetters) { return line; }
+  const from = Math.max(0, Math.min(line.search(pattern) - mostLetters / 4, line.length - mostLetters));
+  return (from > 0 ? "… " : "") + line.slice(from, from + mostLetters) + " …";
 }
 
 // Opens a state at a line.
@@ -44,11 +58,11 @@ function showLine(state, at) {
 function stateParts(row) {
   return Array.from(document.querySelectorAll("details.lines")).flatMap((state) => {
     const lines = state.querySelector("pre").textContent.split("\n");
-    const places = needlesOf(row).map((needle) => placesIn(lines, needle)).find((some) => some.length) || [];
-    return places.flatMap(([at, some]) => {
+    const pattern = patternsOf(row).find((some) => lines.some((line) => some.test(line)));
+    return (pattern ? placesIn(lines, pattern) : []).flatMap(([at, some]) => {
       const way = make("button", {type: "button", textContent: state.dataset.name + ", line " + (at + 1)});
       way.addEventListener("click", () => showLine(state, at));
-      return [way, codeOf(some.map((line) => line.slice(0, 400)))];
+      return [way, codeOf(some.map((line) => partOfLine(line, pattern)))];
     });
   });
 }
@@ -81,7 +95,8 @@ function showOne(row) {
   const site = data.texts[data.site[row]], place = data.texts[data.place[row]];
   fillPanel(data.names[row], waysOf(row), [
     ...partOf("Answer", ...answerParts(row)),
-    ...(data.change[row] ? partOf("Since then", "It " + data.texts[data.change[row]]) : []), ...(site ? partOf("Site", site) : []),
+    ...(data.change[row] ? partOf("Since then", "It " + data.texts[data.change[row]]) : []),
+    ...(site ? partOf("Site", site) : []),
     ...(place ? partOf("What it does", place) : []), ...partOf("Waits for", ...waitParts(row, 40)),
     ...(by.length ? partOf("Who waits for it", ...linksOf(by, 0, 40, ", ")) : []),
     ...partOf("Chain", ...chainParts(row, 12)), ...(frames.length ? partOf("Frames", codeOf(frames)) : []),
