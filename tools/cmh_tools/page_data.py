@@ -6,7 +6,7 @@ from typing import Any, Dict, Iterator, List, Optional, Sequence, Tuple, Union
 
 from .answer import Tree
 from .explain import Explanation
-from .files import MOST_OF_LINE, escaped, shown
+from .files import MOST_OF_LINE, shown
 from .findings import LIKELY, NOT_STUCK, STUCK, UNDECIDED
 from .picture import Picture
 from .sketch import ALL, ANY, ENDED, RUNS, UNKNOWN
@@ -21,13 +21,13 @@ Whom = Union[int, List[int]]
 
 
 class Texts:
-    """Texts with their numbers. An empty one is number 0."""
+    """Texts, as people are shown them, with their numbers. An empty one is number 0."""
 
     def __init__(self) -> None:
         self.numbers: Dict[str, int] = {"": 0}
 
     def number(self, text: str) -> int:
-        return self.numbers.setdefault(escaped(text), len(self.numbers))
+        return self.numbers.setdefault(shown(text), len(self.numbers))
 
 
 class Data:
@@ -56,13 +56,13 @@ class Data:
             "names": names,
             "numbers": list(self.order),
             "full": {row: self.rows[index]["name"] for row, index in enumerate(self.order)
-                     if self.rows[index]["name"] != names[row]},
+                     if self.rows[index]["name"] != names[row] and len(self.rows[index]["name"]) <= MOST_OF_LINE},
             "verdict": [VERDICTS.index(verdict) for verdict in self.some("verdict")],
             "answer": [self.texts.number(self.this.answer(index)) for index in self.order],
             "root": [root or 0 for root in self.some("root")],
             "behind": [roots[0] if len(roots) == 1 else roots or 0 for roots in self.some("behind")],
             "site": [self.texts.number(site or "") for site in self.some("site")],
-            "place": [self.texts.number(shown(note)) for note in self.some("note")],
+            "place": [self.texts.number(note) for note in self.some("note")],
             "kind": [KINDS.get(kind, 0) for kind in self.some("kind")],
             "whom": [self.whom(index) for index in self.order],
             "said": [self.texts.number(said_of(self.this, self.rows[index], self.tree)) for index in self.order],
@@ -73,7 +73,7 @@ class Data:
             "rests": [self.rests(self.rows[index]) for index in self.order],
             "change": [self.texts.number(self.changes.get(name, "")) for name in self.some("name")],
             "operation": [self.texts.number(word) for word in self.some("operation")],
-            "frames": {row: [self.texts.number(shown(frame)) for frame in self.rows[index]["frames"][:FRAMES]]
+            "frames": {row: [self.texts.number(frame) for frame in self.rows[index]["frames"][:FRAMES]]
                        for row, index in enumerate(self.order) if self.rows[index]["frames"]},
             "thread": {row: self.this.process(index).thread for row, index in enumerate(self.order)
                        if self.this.process(index).thread},
@@ -111,7 +111,7 @@ class Data:
     def rests(self, row: Tree) -> Whom:
         """Returns the numbers of the reasons of a row, or that of a text that says why."""
         numbers = [self.reasons.setdefault(reason, len(self.reasons)) for reason in row["rests_on"]]
-        return numbers or self.texts.number(shown(row["reason"] or ""))
+        return numbers or self.texts.number(row["reason"] or "")
 
     def picture_columns(self, picture: Optional[Picture]) -> Tree:
         if picture is None:
