@@ -1,5 +1,7 @@
 """Browsers without a window, spoken to with Python's own library alone: Chromium by the two pipes of its protocol of
 developer tools, and Firefox by the socket of its Marionette."""
+from __future__ import annotations
+
 import contextlib
 import fcntl
 import json
@@ -11,6 +13,7 @@ import subprocess
 import sys
 import tempfile
 import time
+from typing import Any, Iterable
 
 CHROMES = ("chromium", "chromium-browser", "google-chrome", "google-chrome-stable")
 FIREFOXES = ("firefox-esr", "firefox")
@@ -32,24 +35,24 @@ it.dispatchEvent(new Event('change', {bubbles: true}));
 return it.value;"""
 
 
-def first_of(names):
+def first_of(names: Iterable[str]) -> str | None:
     return next(filter(None, map(shutil.which, names)), None)
 
 
-def chrome():
+def chrome() -> str | None:
     return first_of(CHROMES)
 
 
-def firefox():
+def firefox() -> str | None:
     return first_of(FIREFOXES)
 
 
-def missing():
+def missing() -> str:
     """Returns what isn't there, or nothing."""
     return "" if chrome() else "chromium"
 
 
-def end_process(process):
+def end_process(process: subprocess.Popen[bytes]) -> None:
     """Ends a process that was started here, and waits for it."""
     process.terminate()
     try:
@@ -62,12 +65,14 @@ def end_process(process):
 class Browser:
     """A Chromium with a profile of its own, which ends with `close`, or as its pipes do."""
 
-    def __init__(self):
+    def __init__(self) -> None:
         self.room = tempfile.TemporaryDirectory(prefix="cmh-")
-        self.number, self.session, self.events, self.rest = 0, None, [], b""
+        self.number, self.rest = 0, b""
+        self.session: str | None = None
+        self.events: list[tuple[str, dict[str, Any]]] = []
         ours, theirs = pipes(), pipes()
         self.writes, self.reads = ours[1], theirs[0]
-        words = [sys.executable, "-c", START, str(ours[0]), str(theirs[1]), chrome(), *self.words()]
+        words = [sys.executable, "-c", START, str(ours[0]), str(theirs[1]), chrome() or CHROMES[0], *self.words()]
         self.process = subprocess.Popen(words, stdin=subprocess.DEVNULL, stdout=subprocess.DEVNULL,
                                         stderr=subprocess.DEVNULL, pass_fds=(ours[0], theirs[1]),
                                         env={**os.environ, "HOME": self.room.name, "TMPDIR": self.room.name})
@@ -82,12 +87,12 @@ class Browser:
             self.close()
             raise
 
-    def words(self):
+    def words(self) -> list[str]:
         return ["--headless=new", f"--user-data-dir={self.room.name}/profile", "--disable-gpu",
                 "--window-size=1300,900", "--remote-debugging-pipe", "--disable-dev-shm-usage", "--no-first-run",
                 *(["--no-sandbox"] if os.geteuid() == 0 else []), "about:blank"]
 
-    def close(self):
+    def close(self) -> None:
         """Ends the browser, and removes its folder."""
         with contextlib.suppress(OSError, RuntimeError, EOFError):
             self.session = None
@@ -98,10 +103,10 @@ class Browser:
         shutil.rmtree(self.room.name, ignore_errors=True)
         self.room.cleanup()
 
-    def ask(self, name, **params):
+    def ask(self, name: str, **params: Any) -> Any:
         """Gives a command of the protocol of developer tools, and returns its result."""
         self.number += 1
-        message = {"id": self.number, "method": name, "params": params}
+        message: dict[str, Any] = {"id": self.number, "method": name, "params": params}
         message.update({"sessionId": self.session} if self.session else {})
         data = json.dumps(message).encode() + b"\0"
         while data:
@@ -115,7 +120,7 @@ class Browser:
 
     command = ask
 
-    def next_message(self):
+    def next_message(self) -> dict[str, Any]:
         """Returns the next message. An event is kept too."""
         while b"\0" not in self.rest:
             if not select.select([self.reads], [], [], SECONDS)[0]:
@@ -125,12 +130,12 @@ class Browser:
                 raise EOFError("chromium has ended")
             self.rest += read
         text, _, self.rest = self.rest.partition(b"\0")
-        message = json.loads(text)
+        message: dict[str, Any] = json.loads(text)
         if "method" in message:
             self.events.append((message["method"], message["params"]))
         return message
 
-    def open(self, path):
+    def open(self, path: str) -> None:
         """Opens a file, with what stands behind a # in its address. What was logged before is gone."""
         self.ask("Page.navigate", url="about:blank")
         self.run("return 1")
@@ -139,7 +144,7 @@ class Browser:
         while not any(name == "Page.loadEventFired" for name, _ in self.events):
             self.next_message()
 
-    def run(self, script, *args):
+    def run(self, script: str, *args: Any) -> Any:
         """Runs a script in the page, and returns what it returns, or what it promises."""
         expression = f"(async function () {{ {script} }}).apply(null, {json.dumps(list(args))})"
         found = self.ask("Runtime.evaluate", expression=expression, returnByValue=True, awaitPromise=True)
@@ -147,7 +152,7 @@ class Browser:
             raise RuntimeError(json.dumps(found["exceptionDetails"])[:600])
         return found["result"].get("value")
 
-    def log(self):
+    def log(self) -> list[str]:
         """Returns what the console and the browser itself have said of the page."""
         self.run("return 1")
         found = []
@@ -160,10 +165,11 @@ class Browser:
                 found.append(json.dumps(params["exceptionDetails"])[:300])
         return found
 
-    def requests(self):
+    def requests(self) -> list[str]:
         """Returns the addresses that the page has asked for, itself too, but for those that its policy refused."""
         self.run("return 1")
-        found, refused = {}, set()
+        found: dict[str, str] = {}
+        refused: set[str] = set()
         for name, params in self.events:
             if name == "Network.requestWillBeSent":
                 found[params["requestId"]] = params["request"]["url"]
@@ -171,39 +177,39 @@ class Browser:
                 refused.add(params["requestId"])
         return [url for key, url in found.items() if key not in refused]
 
-    def click(self, selector):
+    def click(self, selector: str) -> None:
         """Clicks on the middle of an element, as a mouse does."""
         x, y = self.run(MIDDLE, selector)
         self.move_to(x, y)
         for kind in ("mousePressed", "mouseReleased"):
             self.ask("Input.dispatchMouseEvent", type=kind, x=x, y=y, button="left", clickCount=1)
 
-    def hover(self, selector):
+    def hover(self, selector: str) -> None:
         self.move_to(*self.run(MIDDLE, selector))
 
-    def move_to(self, x, y):
+    def move_to(self, x: float, y: float) -> None:
         self.ask("Input.dispatchMouseEvent", type="mouseMoved", x=x, y=y)
 
-    def write(self, selector, text):
+    def write(self, selector: str, text: str) -> None:
         self.run("document.querySelector(arguments[0]).focus()", selector)
         self.ask("Input.insertText", text=text)
 
-    def choose(self, selector, value):
+    def choose(self, selector: str, value: str) -> Any:
         """Chooses an option of a list."""
         return self.run(CHOOSE, selector, value)
 
-    def press(self, *keys):
+    def press(self, *keys: str) -> None:
         for key in keys:
             code, text = KEYS[key]
             more = {"key": key, "windowsVirtualKeyCode": code}
             self.ask("Input.dispatchKeyEvent", type="keyDown" if text else "rawKeyDown", text=text, **more)
             self.ask("Input.dispatchKeyEvent", type="keyUp", **more)
 
-    def size(self, width, height=900):
+    def size(self, width: int, height: int = 900) -> None:
         self.ask("Emulation.setDeviceMetricsOverride", width=width, height=height, deviceScaleFactor=1, mobile=False)
 
 
-def pipes():
+def pipes() -> list[int]:
     """Returns the two ends of a pipe, none of which is 3 or 4."""
     found = []
     for descriptor in os.pipe():
@@ -215,13 +221,14 @@ def pipes():
 class Firefox:
     """A Firefox with a profile of its own."""
 
-    def __init__(self):
+    def __init__(self) -> None:
         self.room = tempfile.TemporaryDirectory(prefix="cmh-")
-        self.number, self.socket, self.rest = 0, None, b""
+        self.number, self.rest = 0, b""
+        self.socket: socket.socket | None = None
         with open(f"{self.room.name}/user.js", "w", encoding="utf-8") as file:
             file.write('user_pref("marionette.port", 0);\nuser_pref("browser.shell.checkDefaultBrowser", false);\n'
                        'user_pref("datareporting.policy.dataSubmissionEnabled", false);\n')
-        words = [firefox(), "--headless", "--marionette", "--profile", self.room.name, "--no-remote"]
+        words = [firefox() or FIREFOXES[0], "--headless", "--marionette", "--profile", self.room.name, "--no-remote"]
         self.process = subprocess.Popen(words, stdin=subprocess.DEVNULL, stdout=subprocess.DEVNULL,
                                         stderr=subprocess.DEVNULL, env={**os.environ, "HOME": self.room.name})
         try:
@@ -233,7 +240,7 @@ class Firefox:
             self.close()
             raise
 
-    def port(self):
+    def port(self) -> int:
         """Waits for the port that Firefox has chosen."""
         until = time.monotonic() + SECONDS
         while time.monotonic() < until and self.process.poll() is None:
@@ -243,7 +250,7 @@ class Firefox:
             time.sleep(0.1)
         raise RuntimeError("firefox names no port")
 
-    def close(self):
+    def close(self) -> None:
         with contextlib.suppress(OSError, RuntimeError, EOFError, AttributeError):
             self.ask("Marionette:Quit", flags=["eForceQuit"])
         if self.socket:
@@ -252,16 +259,16 @@ class Firefox:
         shutil.rmtree(self.room.name, ignore_errors=True)
         self.room.cleanup()
 
-    def ask(self, name, **params):
+    def ask(self, name: str, **params: Any) -> Any:
         self.number += 1
         data = json.dumps([0, self.number, name, params]).encode()
-        self.socket.sendall(f"{len(data)}:".encode() + data)
+        self.wire().sendall(f"{len(data)}:".encode() + data)
         _, _, fault, result = self.next_message()
         if fault:
             raise RuntimeError(f"{name}: {fault['message']}")
         return result.get("value") if isinstance(result, dict) and "value" in result else result
 
-    def next_message(self):
+    def next_message(self) -> Any:
         while b":" not in self.rest:
             self.receive()
         number, _, self.rest = self.rest.partition(b":")
@@ -270,37 +277,43 @@ class Firefox:
         text, self.rest = self.rest[:int(number)], self.rest[int(number):]
         return json.loads(text)
 
-    def receive(self):
-        read = self.socket.recv(1 << 20)
+    def wire(self) -> socket.socket:
+        if self.socket is None:
+            raise EOFError("firefox has ended")
+        return self.socket
+
+    def receive(self) -> None:
+        read = self.wire().recv(1 << 20)
         if not read:
             raise EOFError("firefox has ended")
         self.rest += read
 
-    def open(self, path):
+    def open(self, path: str) -> None:
         self.ask("WebDriver:Navigate", url="about:blank")
         self.ask("WebDriver:Navigate", url=f"file://{path}")
 
-    def run(self, script, *args):
+    def run(self, script: str, *args: Any) -> Any:
         return self.ask("WebDriver:ExecuteScript", script=script, args=list(args))
 
-    def element(self, selector):
-        return next(iter(self.ask("WebDriver:FindElement", using="css selector", value=selector).values()))
+    def element(self, selector: str) -> str:
+        found: dict[str, str] = self.ask("WebDriver:FindElement", using="css selector", value=selector)
+        return next(iter(found.values()))
 
-    def click(self, selector):
+    def click(self, selector: str) -> None:
         self.run("document.querySelector(arguments[0]).scrollIntoView({block: 'center'})", selector)
         self.ask("WebDriver:ElementClick", id=self.element(selector))
 
-    def write(self, selector, text):
+    def write(self, selector: str, text: str) -> None:
         self.ask("WebDriver:ElementSendKeys", id=self.element(selector), text=text)
 
-    def choose(self, selector, value):
+    def choose(self, selector: str, value: str) -> Any:
         return self.run(CHOOSE, selector, value)
 
-    def role(self, selector):
+    def role(self, selector: str) -> tuple[str, str]:
         """Returns what an element is to a reader of screens, and its name."""
         found = self.element(selector)
         return (self.ask("WebDriver:GetComputedRole", id=found), self.ask("WebDriver:GetComputedLabel", id=found))
 
-    def print(self):
+    def print(self) -> str:
         """Returns the page as PDF, in base 64."""
-        return self.ask("WebDriver:Print", shrinkToFit=True)
+        return str(self.ask("WebDriver:Print", shrinkToFit=True))
