@@ -29,13 +29,12 @@ class Look(NamedTuple):
 
 
 class Plan(NamedTuple):
-    """How a graph is laid out: how wide the text of a box is, how far ranks are apart, whether boxes of one site have a
-    frame, and whether ranks are below each other."""
+    """How a graph is laid out: how wide the text of a box is, how far ranks are apart, and whether boxes of one site
+    have a frame."""
 
     width: int = WIDTH
     gap: float = 0.55
     has_site_frames: bool = True
-    is_upright: bool = False
 
 
 class Line(NamedTuple):
@@ -77,8 +76,7 @@ Frames = Dict[str, List[Box]]
 def dot(picture: Picture, plan: Plan = Plan()) -> str:
     """Returns the text of a graph for Graphviz."""
     lines = ["digraph stall {",
-             f'  graph [rankdir={"BT" if plan.is_upright else "RL"}, compound=true, nodesep=0.22, ranksep={plan.gap}, '
-             'pack=12, packmode="array_ctu1",',
+             f'  graph [rankdir=RL, compound=true, nodesep=0.22, ranksep={plan.gap}, pack=12, packmode="array_ctu1",',
              f'    labelloc=t, labeljust=l, fontname="{FONT}", fontsize=15, '
              f'label={label(filter(None, [picture.cure(), picture.caption()]), CAPTION, LEFT)}];',
              f'  node [shape=box, fontname="{FONT}", fontsize=11, margin="0.14,0.07", color="#222222"];',
@@ -121,7 +119,7 @@ def frame(picture: Picture, name: str, boxes: List[Box], plan: Plan) -> List[str
     is_ring = any(box.number in picture.ring for box in boxes)
     lines = list(site_frames(name, boxes, plan._replace(has_site_frames=plan.has_site_frames and not is_ring)))
     inside = {box.number for box in boxes}
-    lines += [words_line(at, arrow) for at, arrow in enumerate(picture.arrows)
+    lines += [words_line(at, arrow, plan) for at, arrow in enumerate(picture.arrows)
               if arrow.words and inside.issuperset((arrow.start, arrow.end))]
     if is_root(name):
         words = label(picture.root_lines(boxes[0].part.root or 0), HEAD * plan.width // WIDTH, LEFT)
@@ -165,11 +163,13 @@ def look_words(sort: str) -> str:
     return f'style="{look.style}", fillcolor="{look.fill}", penwidth={look.width}, class={sort}'
 
 
-def words_line(at: int, arrow: Arrow) -> str:
-    """Returns the line of the words on an arrow. They are a node of their own, for Graphviz drops the label of an
-    arrow when it packs frames."""
+def words_line(at: int, arrow: Arrow, plan: Plan) -> str:
+    """Returns the line of the words on an arrow, which are broken where boxes are narrow. They are a node of their own,
+    for Graphviz drops the label of an arrow when it packs frames."""
+    broken = arrow.words.replace(" → ", " →\\n").replace(" of these", "\\nof these")
+    words = arrow.words if plan.width == WIDTH else broken
     look = 'shape=plaintext, height=0.2, margin="0.04,0.01", fontsize=11'
-    return f'  w{at} [label="{arrow.words}", {look}, class=a{at}];'
+    return f'  w{at} [label="{words}", {look}, class=a{at}];'
 
 
 def arrow_lines(picture: Picture, at: int, arrow: Arrow, plan: Plan) -> Iterator[str]:
@@ -187,7 +187,7 @@ def arrow_lines(picture: Picture, at: int, arrow: Arrow, plan: Plan) -> Iterator
         length = min(sum(box.part == end for box in picture.boxes), LONG) if plan.width == WIDTH else 1
         head.append(f"minlen={length}")
     if arrow.words:
-        yield words_line(at, arrow)
+        yield words_line(at, arrow, plan)
         yield line_between(f"p{arrow.start}", f"w{at}", is_within, [*looks, "dir=none"])
     yield line_between(f"w{at}" if arrow.words else f"p{arrow.start}", f"p{arrow.end}", is_within, [*looks, *head])
 

@@ -10,7 +10,8 @@ from .files import Failure, say
 from .folding import MOST
 from .layers_svg import layered_tree
 from .picture import Picture
-from .svg import FIT, best_tree, check_graphviz, text_of_tree, width_of
+from .svg import best_tree, check_graphviz, text_of_tree, width_of
+from .titles import FIT
 
 
 SIZES = (MOST, 24, 16, 10, 6, 3)  # boxes, of which the first are tried that fit

@@ -10,9 +10,9 @@ from .dot import HEAD, wrap
 from .folding import ROOT
 from .picture import MESSAGE, Arrow, Picture
 
-WIDTH = 26  # letters of a line in a box
+WIDTHS = 26, 18  # letters of a line in a box, of which the first is tried that fits
 LETTER, LINE = 6.7, 14.0  # the room of a letter, and of a line
-ROW, COLUMN, MARGIN = 18.0, 60.0, 16.0  # between boxes below each other, between layers, and around boxes
+ROW, COLUMN, MARGIN = 18.0, 44.0, 16.0  # between boxes below each other, between layers, and around boxes
 LANE = 14.0  # between arrows that run side by side
 TALL = 10.0  # of the place by which an arrow goes through a layer
 SWEEPS = 6
@@ -58,11 +58,20 @@ class Path(NamedTuple):
     corners: List[Point]
 
 
-def lines_of(picture: Picture, number: int) -> List[str]:
+def lines_of(picture: Picture, number: int, letters: int) -> List[str]:
     """Returns the lines of a box."""
     box = picture.boxes[number]
     texts = [box.lines[0], *([f"on {box.site}"] if box.site else []), *box.lines[1:]]
-    return [line for text in texts for line in wrap(text, WIDTH)]
+    return [line for text in texts for line in wrap(text, letters)]
+
+
+def broken(words: str) -> List[str]:
+    """Returns the words on an arrow in lines."""
+    return words.replace(" → ", " →\n").replace(" of these", "\nof these").split("\n") if words else []
+
+
+def width_of_words(words: str) -> float:
+    return LETTER * max([0, *map(len, broken(words))])
 
 
 def size_of(lines: List[str]) -> Tuple[float, float]:
@@ -72,14 +81,13 @@ def size_of(lines: List[str]) -> Tuple[float, float]:
 class Layers:
     """The places of all boxes and frames, and the paths of all arrows."""
 
-    def __init__(self, picture: Picture) -> None:
-        self.picture = picture
+    def __init__(self, picture: Picture, letters: int = WIDTHS[0]) -> None:
+        self.picture, self.letters = picture, letters
         self.unit_of = {box.number: -1 - (box.part.root or 0) if box.part.sort == ROOT else box.number
                         for box in picture.boxes}
-        self.blocks = {unit: self.block(unit) for unit in dict.fromkeys(self.unit_of.values())}
         self.links = {number: self.link(arrow) for number, arrow in enumerate(picture.arrows)}
+        self.blocks = {unit: self.block(unit) for unit in dict.fromkeys(self.unit_of.values())}
         self.layer = layers_of(list(self.blocks), [link for link in self.links.values() if link])
-        self.parts = self.parts_of_boxes()
         self.columns = self.ordered(self.filled())
         self.width, self.height = 0.0, 0.0
         self.frames: Dict[Unit, Spot] = {}
@@ -88,31 +96,45 @@ class Layers:
         self.place_columns()
         self.boxes = {number: spot.moved(self.frames[unit].left, self.frames[unit].top)
                       for unit, block in self.blocks.items() for number, spot in block.boxes.items()}
+        self.parts = self.parts_of_boxes()
         self.paths = [Path(number, self.path(number)) for number in self.links]
+
+    def lines(self, number: int) -> List[str]:
+        return lines_of(self.picture, number, self.letters)
 
     # Blocks
 
     def block(self, unit: Unit) -> Block:
         numbers = [number for number, own in self.unit_of.items() if own == unit]
-        sizes = {number: size_of(lines_of(self.picture, number)) for number in numbers}
+        sizes = {number: size_of(self.lines(number)) for number in numbers}
         if unit >= 0:
             width, height = sizes[unit]
+            height = max(height, 3 * LINE * sum(arrow.start == unit and arrow.words != "" for arrow in
+                                                self.picture.arrows))
             spot = Spot(0, 0, width, height)
             return Block(width, height, {unit: spot}, {}, {unit: [(width, height / 2)]}, {unit: [(0, height / 2)]}, [])
-        title = [line for text in self.picture.root_lines(-1 - unit) for line in wrap(text, HEAD)]
+        title = [line for text in self.picture.root_lines(-1 - unit) for line in wrap(text, HEAD * self.letters // WIDTHS[0])]
         is_ring = all(number in self.picture.ring for number in numbers)
         block = self.ring(numbers, sizes, title) if is_ring else self.column(numbers, sizes, title)
         return block._replace(width=max(block.width, LETTER * max(map(len, title)) + 2 * MARGIN))
 
     def parts_of_boxes(self) -> Dict[int, float]:
-        """Returns for each arrow between blocks at which part of the height of its box it begins."""
+        """Returns for each arrow between blocks at which part of the height of its box it begins: the higher the higher
+        it leads."""
         by_box: Dict[int, List[int]] = {}
         for number, link in self.links.items():
             arrow = self.picture.arrows[number]
             if link:
                 by_box.setdefault(arrow.end if arrow.style == MESSAGE else arrow.start, []).append(number)
         return {number: (place + 1) / (len(arrows) + 1) for arrows in by_box.values()
-                for place, number in enumerate(arrows)}
+                for place, number in enumerate(sorted(arrows, key=self.aim))}
+
+    def aim(self, number: int) -> float:
+        """Returns how far down an arrow between blocks leads first."""
+        link, arrow = self.links[number], self.picture.arrows[number]
+        high, low = (self.layer[unit] for unit in link) if link else (0, 0)
+        gates = self.gates.get((number, high - 1 if high > low else high + 1))
+        return gates[0][1] if gates else self.boxes[arrow.start if arrow.style == MESSAGE else arrow.end].middle()
 
     def arrows_within(self, numbers: Iterable[int]) -> List[Tuple[int, Arrow]]:
         inside = set(numbers)
@@ -122,19 +144,20 @@ class Layers:
     def column(self, numbers: List[int], sizes: Dict[int, Tuple[float, float]], title: List[str]) -> Block:
         """Boxes below each other, with their arrows in lanes at the left."""
         arrows = self.arrows_within(numbers)
-        words = max([0, *(len(arrow.words) for _, arrow in arrows)])
-        left, top = MARGIN + LANE * (len(arrows) + 1) + LETTER * words, MARGIN + LINE * len(title) + 6
+        words = sum(width_of_words(arrow.words) for _, arrow in arrows)
+        left, top = MARGIN + LANE * (len(arrows) + 1) + words, MARGIN + LINE * len(title) + 6
         wide = max(width for width, _ in sizes.values())
         boxes: Dict[int, Spot] = {}
         for number in numbers:
             boxes[number] = Spot(left + (wide - sizes[number][0]) / 2, top, *sizes[number])
             top += sizes[number][1] + ROW
-        paths = {}
+        paths, along = {}, left
         for lane, (number, arrow) in enumerate(arrows, 1):
-            first, last, along = boxes[arrow.start], boxes[arrow.end], left - LANE * lane
+            first, last, along = boxes[arrow.start], boxes[arrow.end], along - LANE
             part = lane / (len(arrows) + 1) if arrow.start != arrow.end else 0.3
             down, up = first.top + first.height * part, last.top + last.height * (1 - part)
             paths[number] = [(first.left, down), (along, down), (along, up), (last.left, up)]
+            along -= width_of_words(arrow.words)
         width = left + wide + MARGIN
         inlets = {number: [(width, spot.middle()), (spot.right(), spot.middle())] for number, spot in boxes.items()}
         outlets = {number: [(0.0, spot.middle()), (spot.left, spot.middle())] for number, spot in boxes.items()}
@@ -222,13 +245,13 @@ class Layers:
                 else:
                     self.frames[unit] = Spot(left, top, self.blocks[unit].width, self.blocks[unit].height)
                 top += self.tall((number, unit)) + ROW
-            left += wide + COLUMN + LETTER * self.words_beside(layer)
+            left += wide + COLUMN + self.words_beside(layer)
         self.width, self.height = left - COLUMN + MARGIN, max(heights) + 2 * MARGIN
 
-    def words_beside(self, layer: int) -> int:
-        """Returns how long the words are of arrows that come into a layer from the right."""
-        return max([0, *(len(self.picture.arrows[number].words) for number, link in self.links.items()
-                         if link and self.layer[link[1]] <= layer < self.layer[link[0]])])
+    def words_beside(self, layer: int) -> float:
+        """Returns how wide the words are of arrows that come into a layer from whoever waits at its right."""
+        return max([0.0, *(width_of_words(self.picture.arrows[number].words) for number, link in self.links.items()
+                           if link and self.layer[link[1]] <= layer < self.layer[link[0]] == layer + 1)])
 
     def tall(self, key: Tuple[int, int]) -> float:
         return TALL if key[0] else self.blocks[key[1]].height

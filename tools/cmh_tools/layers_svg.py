@@ -5,9 +5,9 @@ import xml.etree.ElementTree as ElementTree
 from typing import Iterator, List, Tuple
 
 from .dot import ARROWS, CAPTION, FONT, LOOKS, notes_of, wrap
-from .layers import LETTER, LINE, MARGIN, Layers, Point, Spot, lines_of
+from .layers import LETTER, LINE, MARGIN, WIDTHS, Layers, Point, Spot, broken
 from .picture import MESSAGE, Picture
-from .titles import SPACE
+from .titles import FIT, SPACE
 
 HEADLINE = 19.0  # the room of a line of the caption
 KEY = 16.0  # of a form in the legend
@@ -37,6 +37,7 @@ def group(parent: Element, sort: str, title: str) -> Element:
 def layered_tree(picture: Picture) -> Element:
     """Returns a picture as SVG, laid out here."""
     layers = Layers(picture)
+    layers = layers if layers.width <= FIT else Layers(picture, WIDTHS[1])
     caption = [line for words in (picture.cure(), picture.caption()) if words for line in wrap(words, CAPTION)]
     above = MARGIN + HEADLINE * len(caption)
     tree = ElementTree.Element(f"{{{SPACE}}}svg")
@@ -47,7 +48,7 @@ def layered_tree(picture: Picture) -> Element:
     for path in layers.paths:
         draw_arrow(graph, layers, path.arrow, [(right, down + above) for right, down in path.corners])
     for number, spot in layers.boxes.items():
-        draw_box(graph, picture, number, spot.moved(0, above))
+        draw_box(graph, layers, number, spot.moved(0, above))
     bottom = draw_legend(graph, picture, above + layers.height + MARGIN)
     longest = max([0, *(len(line) for line in caption)])
     width = max(layers.width, longest * LETTER * 1.36 + 2 * MARGIN, 30 * LETTER)
@@ -87,12 +88,14 @@ def draw_form(parent: Element, sort: str, spot: Spot) -> None:
                 points=f"{spot.left:.1f},{spot.top + 8:.1f} {spot.left + 8:.1f},{spot.top:.1f}")
 
 
-def draw_box(graph: Element, picture: Picture, number: int, spot: Spot) -> None:
-    sort = picture.boxes[number].part.sort
+def draw_box(graph: Element, layers: Layers, number: int, spot: Spot) -> None:
+    sort = layers.picture.boxes[number].part.sort
     made = group(graph, f"node {sort}", f"p{number}")
     draw_form(made, sort, spot)
-    for line_number, line in enumerate(lines_of(picture, number), 1):
-        text(made, line, spot.left + spot.width / 2, spot.top + LINE * line_number + 1, anchor="middle")
+    lines = layers.lines(number)
+    top = spot.top + (spot.height - LINE * len(lines) - 10) / 2
+    for line_number, line in enumerate(lines, 1):
+        text(made, line, spot.left + spot.width / 2, top + LINE * line_number + 1, anchor="middle")
 
 
 def draw_arrow(graph: Element, layers: Layers, number: int, corners: List[Point]) -> None:
@@ -105,13 +108,18 @@ def draw_arrow(graph: Element, layers: Layers, number: int, corners: List[Point]
             d="M" + " L".join(f"{across:.1f},{down:.1f}" for across, down in corners), **look)
     element(made, "polygon", fill=color, stroke=color, points=point_of(corners[-2:]))
     if arrow.words:
-        label = group(graph, f"node a{number}", f"w{number}")
-        (left, first), (right, last) = corners[-2:] if len(corners) == 2 else corners[:2]
-        if layers.links[number] is None:
-            beside = corners[2 % len(corners)][1]
-            text(label, arrow.words, min(left, right) - 3, (corners[1][1] + beside) / 2, anchor="end")
-        else:
-            text(label, arrow.words, (left + right) / 2, (first + last) / 2 - 3, anchor="middle")
+        draw_words(group(graph, f"node a{number}", f"w{number}"), arrow.words, corners, layers.links[number] is None)
+
+
+def draw_words(label: Element, words: str, corners: List[Point], is_within: bool) -> None:
+    """Draws the words on an arrow: at the left of its lane in a root, and else in the middle of its first piece."""
+    (left, first), (right, last) = corners[:2]
+    if is_within:
+        first, last, left = corners[1][1], corners[2 % len(corners)][1], min(left, right) - 3
+    lines = broken(words)
+    for number, line in enumerate(lines):
+        base = (first + last) / 2 + 4 + LINE * (number - (len(lines) - 1) / 2)
+        text(label, line, left if is_within else (left + right) / 2, base, anchor="end" if is_within else "middle")
 
 
 def point_of(last: List[Point]) -> str:
@@ -127,9 +135,7 @@ def point_of(last: List[Point]) -> str:
 def draw_legend(graph: Element, picture: Picture, top: float) -> float:
     """Draws what the forms mean, and returns where that ends."""
     left = MARGIN
-    for sort in dict.fromkeys(box.part.sort for box in picture.boxes):
-        if sort == "shared" and any(box.part.sort == "behind" for box in picture.boxes):
-            continue
+    for sort in {LOOKS[box.part.sort]: box.part.sort for box in picture.boxes}.values():
         made = group(graph, f"node {sort}", f"k{sort}")
         draw_form(made, sort, Spot(left, top, KEY, KEY - 4))
         text(made, LOOKS[sort].text, left + KEY + 6, top + 10)

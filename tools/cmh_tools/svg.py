@@ -12,13 +12,11 @@ from .files import Failure, shown
 from .folding import MOST
 from .picture import Picture
 from .start import SIGNALS
-from .titles import crossed, free_titles
+from .titles import FIT, crossed, free_titles
 
 SPACE = "http://www.w3.org/2000/svg"
 # The layouts that are tried, one after the other.
-PLANS = (Plan(), Plan(has_site_frames=False), Plan(width=28, gap=0.35), Plan(width=28, gap=0.3, has_site_frames=False),
-         Plan(width=28, gap=0.35, is_upright=True), Plan(width=28, gap=0.3, has_site_frames=False, is_upright=True))
-FIT = 1230  # wide at most, in points: its letters of 11 points have 11 pixels on a screen of 1,300
+PLANS = (Plan(), Plan(has_site_frames=False), Plan(width=28, gap=0.35), Plan(width=28, gap=0.3, has_site_frames=False))
 SECONDS = 120  # that a layout may take: one of 40 boxes takes less than one
 NO_GRAPHVIZ = "the command dot isn't there, which lays out pictures (Debian: apt-get install graphviz)"
 ROOT = "cluster_root_"

@@ -7,6 +7,7 @@ import xml.etree.ElementTree as ElementTree
 from typing import Iterator, List, NamedTuple, Tuple
 
 SPACE = "http://www.w3.org/2000/svg"
+FIT = 1230  # wide at most, in points: its letters of 11 points have 11 pixels on a screen of 1,300
 WIDE = 0.62  # of a letter, of its height, in a font that is wide
 STEPS = 16  # points of a piece of a curve
 LINE = 1.25  # of the height of letters

@@ -3,6 +3,7 @@
 const drawing = document.querySelector("figure svg");
 const frame = element("view");
 const closest = 12, step = 1.25;
+const wide = 1200; // a screen on which letters of 11 points aren't smaller than 11 pixels at first
 const whole = drawing ? drawing.viewBox.baseVal : null;
 const all = whole ? {x: whole.x, y: whole.y, w: whole.width, h: whole.height} : null;
 const view = {...all};
@@ -257,6 +258,7 @@ function fit() {
   frame.style.height = Math.max(120, Math.ceil(height)) + "px";
   element("stops").hidden = !isNarrow() || stops().length < 2;
   if (isNarrow()) { showStop(Math.max(stop, 0)); } else { showWhole(); }
+  if (window.innerWidth >= wide && all.w > frame.clientWidth) { setView({x: all.x, y: all.y, w: frame.clientWidth}); }
 }
 
 function startBoxes() {
