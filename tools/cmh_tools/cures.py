@@ -98,14 +98,14 @@ class Cures:
         units = list(dict.fromkeys(map(self.unit_of, members)))
         if len(units) == 1 and units[0]:
             return Cure(units, [number])
-        sets = [self.units_for(index) for index in members[:MOST]]
-        found = {tuple(some): None for some in sets if some} or {() if "" in units else tuple(units): None}
-        least = min(map(len, found))
-        best = [list(some) for some in found if len(some) == least]
+        sets = [tuple(self.units_for(index)) for index in members[:MOST]]
+        sets = list(dict.fromkeys(filter(None, sets))) or [() if "" in units else tuple(units)]
+        least = min(map(len, sets))
+        best = [list(units) for units in sets if len(units) == least]
         if least > 1:
             return Cure(best[0], [number], True)
-        return Cure(sorted((some[0] for some in best if some), key=lambda unit: unit not in self.remedies), [number],
-                    not least)
+        alone = [unit for units in best for unit in units]
+        return Cure(sorted(alone, key=lambda unit: unit not in self.remedies), [number], not alone)
 
     def ending(self, index: int, members: Sequence[int]) -> List[str]:
         """Returns the process of a root whose end is noticed by one that waits for its answer, if it can be ended by
@@ -114,7 +114,7 @@ class Cures:
             return []
         waits = self.answer.waits
         process, names = waits.processes[index], {waits.processes[other].name for other in members}
-        whom = [name for part in process.parts for some in part if some.how in NOTICED for name in some.names()]
+        whom = [name for part in process.parts for wakers in part if wakers.how in NOTICED for name in wakers.names()]
         is_alone = len(process.parts) == 1 == len(set(whom))
         return [name for name in whom[:1] if is_alone and name in names and name in self.remedies]
 

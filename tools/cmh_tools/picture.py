@@ -341,9 +341,9 @@ def restart_of_all(this: Explanation, words: List[str]) -> str:
     if all(it == f"{TOGETHER}1 breaks it too" for it in words[1:]):
         return f"{words[0][:1].upper()}{words[0][1:]}."
     units = [cure.units for cure in this.cures.of]
-    if any(len(some) != 1 or some[0] in this.cures.remedies for some in units):
+    if any(len(alone) != 1 or alone[0] in this.cures.remedies for alone in units):
         return ""
-    names = list(dict.fromkeys(this.cures.called(some[0]) for some in units))
+    names = list(dict.fromkeys(this.cures.called(alone[0]) for alone in units))
     each = "each breaks one root" if len(names) == len(units) else "each breaks those in it"
     return f"Restart {this.some(names, ' and ')}: {each}."
 

@@ -68,8 +68,9 @@ class Screen:
         """Returns a line that is broken, also within a word: a path may be longer than it."""
         if isinstance(line, AsItIs) or len(line) <= self.width:
             return line
-        return AsItIs(textwrap.fill(line.strip(), self.width, initial_indent="  ", subsequent_indent="    ",
-                                    break_on_hyphens=False))
+        indent = max(2, len(line) - len(line.lstrip()))
+        return AsItIs(textwrap.fill(line.strip(), self.width, initial_indent=" " * indent, break_on_hyphens=False,
+                                    subsequent_indent=" " * (indent + 2)))
 
     # The headline
 
@@ -198,10 +199,10 @@ class Screen:
             groups.setdefault((self.what(index, not is_alike), whom, frames), []).append(index)
         is_of_any = self.is_of_any(members)
         if is_of_any:
-            groups = {(what, "" if whom == ANY_OTHER else whom, frames): some
-                      for (what, whom, frames), some in groups.items()}
+            groups = {(what, "" if whom == ANY_OTHER else whom, frames): alike
+                      for (what, whom, frames), alike in groups.items()}
         shown_groups, left = list(groups.items())[:MEMBERS], list(groups.values())[MEMBERS:]
-        names = [self.names_of(list(map(self.name, some))) for _, some in shown_groups]
+        names = [self.names_of(list(map(self.name, alike))) for _, alike in shown_groups]
         wide = max(map(len, names))
         lines = [self.columns(f"  {name:<{wide}}  ", *columns, is_wide=is_wide)
                  for name, (columns, _) in zip(names, shown_groups)]
@@ -212,7 +213,7 @@ class Screen:
     def is_of_any(self, members: List[int]) -> bool:
         """Whether the state doesn't show who of some has what others of them wait for."""
         waiting = [index for index in members if self.whom(index) == ANY_OTHER]
-        hows = {some.how for index in waiting for part in self.waits.processes[index].parts for some in part}
+        hows = {wakers.how for index in waiting for part in self.waits.processes[index].parts for wakers in part}
         return bool(waiting) and not hows.isdisjoint(NOT_SHOWN)
 
     def names_of(self, names: List[str]) -> str:
@@ -297,24 +298,39 @@ class Screen:
 
     def ends(self) -> List[str]:
         """Returns where the waits end: at whom who isn't understood, who goes on, or who has nothing to do."""
-        rows: List[Tuple[int, str]] = []
+        rows: List[Tuple[int, str, str]] = []  # how many wait, who these are, and for whom
         for index, others in self.this.unknown_ones(NAMES):
             reason = shown(self.this.process(index).why_unknown())
             words = f"{self.name(index)}{self.place_words(index)}{f': {reason}' if reason else ''}"
-            rows.append((others.number, self.end_line(others.number, others.nearest, words)))
+            rows.append((others.number, self.waiting_words(others.number, others.nearest), words))
         followers: Dict[int, List[int]] = {}
         for index, end in self.this.ends().items():
             followers.setdefault(end, []).append(index)
-        rows += [(len(some), self.end_line(len(some), some, f"{self.name(end)}, which "
-                                           f"{self.sign_words(end)}{self.place_words(end)}"))
-                 for end, some in followers.items()]
-        rows += self.mover_rows()
+        rows += [(len(waiting), self.waiting_words(len(waiting), waiting), f"{self.name(end)}, which "
+                  f"{self.sign_words(end)}{self.place_words(end)}") for end, waiting in followers.items()]
+        movers = self.movers()
+        rows += [(len(freed), f"{len(freed):,} may be freed by", f"{self.name(index)}, which {self.sign_words(index)}"
+                  f"{self.place_words(index)}") for index, freed in movers.items()]
         rows.sort(key=lambda row: -row[0])
-        lines = [line for _, line in rows[:ENDS]] or self.idle_lines()
-        return lines + ([f"  and {len(rows) - ENDS:,} more such"] if rows[ENDS:] else [])
+        lines = self.end_lines(rows[:ENDS]) or self.idle_lines()
+        more = [f"  and {len(rows) - ENDS:,} more such"] if rows[ENDS:] else []
+        return [*self.waiting_lines(sorted({index for freed in movers.values() for index in freed})), *lines, *more]
 
-    def mover_rows(self) -> List[Tuple[int, str]]:
-        """Returns who sleeps or goes on, and may free some of those of whom it isn't known who frees them."""
+    def waiting_lines(self, members: List[int]) -> List[str]:
+        """Returns at what some wait of whom it isn't known who frees them; those that wait alike share a line."""
+        groups: Dict[Tuple[str, str], List[int]] = {}
+        for index in members:
+            groups.setdefault((self.what(index, False), self.frames(index)), []).append(index)
+        rows = list(groups.items())[:MEMBERS]
+        names = [self.names_of(list(map(self.name, alike))) for _, alike in rows]
+        wide = max(map(len, names), default=0)
+        lines = [self.columns(f"  {name:<{wide}}  ", what, "", frames, is_wide=False)
+                 for name, ((what, frames), _) in zip(names, rows)]
+        left = sum(map(len, list(groups.values())[MEMBERS:]))
+        return lines + ([f"  and {left:,} more"] if left else [])
+
+    def movers(self) -> Dict[int, Set[int]]:
+        """Returns who sleeps or goes on, with those whom it may free of whom it isn't known who frees them."""
         users: Dict[int, Tuple[Wakers, Set[int]]] = {}
         for index in self.this.undecided:
             for wakers in (wakers for part in self.this.process(index).parts for wakers in part):
@@ -324,8 +340,7 @@ class Screen:
             for index in self.moving(wakers):
                 if index in movers or len(movers) < MOVERS:
                     movers[index] = movers.get(index, set()) | waiting
-        return [(len(some), f"  {len(some):,} may be freed by {self.name(index)}, which {self.sign_words(index)}"
-                 f"{self.place_words(index)}") for index, some in movers.items()]
+        return movers
 
     def moving(self, wakers: Wakers) -> List[int]:
         """Returns those of some wakers who sleep or go on."""
@@ -345,11 +360,20 @@ class Screen:
         return [f"  {self.some(map(self.name, some))}: {'each ' if some[1:] else ''}{words}"
                 for words, some in rows[:ENDS]]
 
-    def end_line(self, number: int, nearest: List[int], words: str) -> str:
+    def end_lines(self, rows: List[Tuple[int, str, str]]) -> List[str]:
+        """Returns for whom some wait in the end. Those that wait for several are named once."""
+        groups: Dict[str, List[str]] = {}
+        for _, who, words in rows:
+            groups.setdefault(who, []).append(words)
+        return [line for who, ends in groups.items() for line in (
+            [f"  {who}", *(f"    {words}" for words in ends)] if who and ends[1:] else
+            [f"  {f'{who} {words}'.lstrip()}" for words in ends])]
+
+    def waiting_words(self, number: int, nearest: List[int]) -> str:
         if not number:
-            return f"  {words}"
+            return ""
         names = self.some(map(self.name, nearest)) if number <= NAMES else self.noun(number)
-        return f"  {names} {'waits' if number == 1 else 'wait'} in the end for {words}"
+        return f"{names} {'waits' if number == 1 else 'wait'} in the end for"
 
     def sign_words(self, index: int) -> str:
         process = self.this.process(index)

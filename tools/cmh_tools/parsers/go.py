@@ -25,7 +25,7 @@ from .base import Parser, Reach, Snapshot
 from .go_frames import (CONNECTION, NEEDS_ALL, WATCHER, Place, entry_of, is_at_another, is_jobs, is_of_runtime, is_own,
                         lacks_wait, takes_state)
 from .go_starters import MAIN, UNSEEN, Starters, unseen_starter
-from .go_text import ADDRESS, AGAIN, TAKER, Dump, Goroutine, read_dumps
+from .go_text import ADDRESS, AGAIN, TAKER, WHERE, Dump, Goroutine, read_dumps
 
 SITE = "the Go program"
 # States in which a goroutine goes on by itself, or the runtime sees to it.
@@ -72,6 +72,7 @@ class GoParser(Parser):
 
     def __init__(self) -> None:
         self.dumps: List[Dump] = []
+        self.site = SITE
         self.seconds = 0.0  # from the first state to the last, as far as that is said
         self.warnings: List[str] = []
         self.names: Dict[str, str] = {}
@@ -85,6 +86,8 @@ class GoParser(Parser):
         dumps = read_dumps(state.path, text)
         self.dumps += dumps
         self.seconds += sum(map(float, AGAIN.findall(state.text)))
+        where = WHERE.search(state.text)
+        self.site = f"{SITE} at {where[1]}" if where else self.site
         return [self.reading_of(dump) for dump in dumps]
 
     def reading_of(self, dump: Dump) -> Reading:
@@ -138,10 +141,10 @@ class GoParser(Parser):
     def process_of(self, subject: Goroutine, snapshot: Goroutines) -> Process:
         goroutine, name = subject, self.names[subject.number]
         if goroutine.fault:
-            return garbled(name, goroutine.fault, site=SITE)
+            return garbled(name, goroutine.fault, site=self.site)
         place = snapshot.places[goroutine.number]
         process = self.wait_at(goroutine, place, name, snapshot)
-        process.site, process.frames = SITE, place.frames
+        process.site, process.frames = self.site, place.frames
         process.operation = process.operation or place.operation
         process.meeting = next(iter(place.objects), name) if place.operation in NEEDS_ALL else ""
         process.objects = [*place.objects, *self.values(goroutine), *filter(None, [self.again.get(id(goroutine))])]

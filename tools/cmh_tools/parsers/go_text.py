@@ -27,6 +27,7 @@ BESIDE = re.compile(
     r"\s*|# cmh .*|PC=.*|signal arrived .*|runtime: .*|exit status \d+|\[signal .*|m\d+: .*|-----\s*"
     r"|goroutine profile: .*"
 )
+WHERE = re.compile(r"^# cmh looks at (\S{1,300})$", re.M)  # before the first look
 AGAIN = re.compile(r"^# cmh looked again (\d{1,4}(?:\.\d{1,9})?) s later$", re.M)  # before each look but the first
 MINUTES = re.compile(r"(\d{1,9}) minutes")
 ADDRESS = re.compile(r"0x[0-9a-f]{6,}")
