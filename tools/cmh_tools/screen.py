@@ -57,12 +57,13 @@ class Screen:
         self.system = this.dump.sketch.system
         self.cures = this.cures
         self.members = [set(members) for members in this.roots.roots[:ROOTS]]
+        self.names_unit = True
         self.known: Dict[Tuple[int, ...], Tuple[Dict[int, None], Optional[int]]] = {}
         self.prefix = prefix_of([process.name for process in this.waits.processes])
 
     def text(self) -> str:
-        lines = [*self.head(), *map(self.wrapped, self.body()), *self.last()]
-        return fill([lines], self.style._replace(width=self.width))
+        body = list(map(self.wrapped, self.body()))
+        return fill([[*self.head(), *body, *self.last()]], self.style._replace(width=self.width))
 
     def wrapped(self, line: str) -> str:
         """Returns a line that is broken, also within a word: a path may be longer than it."""
@@ -104,9 +105,7 @@ class Screen:
         others = len(self.this.roots.roots) - len(roots)
         likely = f" {number_of(others, 'more group is', 'more groups are')} likely to." if others else ""
         rest = f"{more}. {self.life()}{likely}"
-        words = self.group_words(roots, members) + rest
-        is_long = len(f"{self.this.headline.value}: {words}") > self.width
-        return self.group_words(roots, members, False) + rest if is_long else words
+        return self.group_words(roots, members) + rest
 
     def told_roots(self) -> List[int]:
         """Returns the roots that the headline is of."""
@@ -114,10 +113,10 @@ class Screen:
         certain = [number for number in numbers if self.this.is_certain(number)]
         return certain or list(numbers)
 
-    def group_words(self, roots: List[int], members: List[int], has_unit: bool = True) -> str:
+    def group_words(self, roots: List[int], members: List[int]) -> str:
         """Returns who is meant, and where it is, if there is room for that: what to do names it too."""
         units = self.cures.units_of(members)
-        is_told = has_unit and len(units) == 1 and self.system != "rabbitmq"
+        is_told = self.names_unit and len(units) == 1 and self.system != "rabbitmq"
         where = f" of {self.cures.called(units[0])}" if is_told else ""
         if len(roots) > 1:
             return f"{len(roots):,} groups wait, each for itself: {self.noun(len(members))}{where} in all"
@@ -166,8 +165,13 @@ class Screen:
             if len(self.this.roots.roots) > 1 else []
         unless = self.unless(members)
         wide = self.member_lines(members)
-        has_room = self.height([*self.head(), *lines, *wide, *unless]) <= LINES
+        self.names_unit = self.names_unit and self.has_room(lines, wide, unless)
+        has_room = self.has_room(lines, wide, unless)
         return [*lines, *(wide if has_room else self.member_lines(members, False)), *unless]
+
+    def has_room(self, *parts: List[str]) -> bool:
+        """Returns whether the headline with some lines below it is as short as it should be."""
+        return self.height([*self.head(), *(line for lines in parts for line in lines)]) <= LINES
 
     def unless(self, members: List[int]) -> List[str]:
         """Returns the first few doubts on which it hangs that some are stuck."""
