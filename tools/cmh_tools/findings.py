@@ -36,7 +36,6 @@ class Verdicts:
     """
 
     def __init__(self, waits: Waits, low: Answer, high: Answer) -> None:
-        self.headline = waits.decision.headline
         self.stuck = low.members()
         inside = set(self.stuck)
         self.quiet = {at for at in range(waits.number) if waits.processes[at].sign is Sign.RESTS and at not in inside}
@@ -60,7 +59,7 @@ class Findings(Verdicts):
         super().__init__(self.dump.waits, self.dump.low, self.dump.high)
         self.waits, self.low, self.high = self.dump.waits, self.dump.low, self.dump.high
         self.certain = self if self.dump is dump else Verdicts(dump.waits, dump.low, dump.high)
-        self.headline = self.certain.headline
+        self.headline = dump.waits.decision.headline
         self.likely = {*self.stuck}.difference(self.certain.stuck)
         self.open = set(self.undecided)
         self.ended = [at for at in range(self.waits.number) if self.waits.kinds[at] == ENDED]

@@ -14,6 +14,7 @@ from __future__ import annotations
 
 from collections import deque
 from enum import Enum
+from functools import cached_property
 from itertools import chain
 from typing import AbstractSet, Callable, Collection, Dict, FrozenSet, Iterable, Iterator, List, NamedTuple, Optional
 from typing import Sequence, Set, Tuple
@@ -62,9 +63,9 @@ class Doubt(NamedTuple):
 
 class Decision:
     """What the rule says of a system, whose processes have the numbers of their places. `certain` are those who are
-    stuck for certain, and `likely` those who are likely to be, the certain ones included. `alone` are blocked where
-    nobody was left. `freed` has those who are freed by who goes on or sleeps, each with the waker that frees it, and
-    with None these themselves."""
+    stuck for certain, and `likely` those who are likely to be, the certain ones included. `freed` has those who are
+    freed by who goes on or sleeps, each with the waker that frees it, and with None these themselves. Each is found
+    once it is asked for."""
 
     def __init__(self, subjects: Sequence[Subject]) -> None:
         self.subjects = [wake(subject) for subject in subjects]
@@ -73,22 +74,34 @@ class Decision:
         self.named = {signs: {name for name, sign in self.signs.items() if sign in signs} for signs in ASKED}
         self.kept: Dict[Tuple[int, FrozenSet[Sign]], Sequence[str]] = {}
         self.lists = Lists(len(subjects), self.index)
-        blocked, resting = self.of_sign(Sign.BLOCKED), self.of_sign(Sign.RESTS)
-        self.left = self.graph(self.left_in)
-        self.certain = self.graph(everybody_in).greatest(blocked | resting)
-        self.likely = self.left.greatest(blocked, self.certain)
-        self.alone = {number for number in blocked if not self.left.parts[number]}
-        moving = self.of_sign(Sign.GOES_ON) | self.of_sign(Sign.SLEEPS)
-        self.freed = self.graph(self.freeing_in).freed(moving, blocked)
-        self.headline = self.headline_of(blocked)
-
-    def graph(self, select: Select) -> Graph:
-        return Graph(self.subjects, self.lists, select)
+        self.blocked, self.resting = self.of_sign(Sign.BLOCKED), self.of_sign(Sign.RESTS)
+        self.moving = self.of_sign(Sign.GOES_ON) | self.of_sign(Sign.SLEEPS)
 
     def of_sign(self, sign: Sign) -> Set[int]:
         return {number for number, subject in enumerate(self.subjects) if subject.sign is sign}
 
-    def headline_of(self, blocked: Set[int]) -> Headline:
+    def graph(self, select: Select) -> Graph:
+        return Graph(self.subjects, self.lists, select)
+
+    @cached_property
+    def certain(self) -> Set[int]:
+        return self.graph(everybody_in).greatest(self.blocked | self.resting)
+
+    @cached_property
+    def left(self) -> Graph:
+        """The graph of those who aren't set aside."""
+        return self.graph(self.left_in)
+
+    @cached_property
+    def likely(self) -> Set[int]:
+        return self.left.greatest(self.blocked, self.certain)
+
+    @cached_property
+    def freed(self) -> Dict[int, Optional[str]]:
+        return self.graph(self.freeing_in).freed(self.moving, self.blocked)
+
+    @cached_property
+    def headline(self) -> Headline:
         if self.certain:
             return Headline.DEADLOCK
         if self.likely:
@@ -98,19 +111,17 @@ class Decision:
             return Headline.NOT_KNOWN
         goes_on = Sign.GOES_ON in signs
         # Where nobody goes on, one who is blocked is freed by a named one.
-        if blocked <= self.freed.keys() and (goes_on or blocked) and not self.owed(blocked):
+        if self.blocked <= self.freed.keys() and (goes_on or self.blocked) and not self.owed():
             return Headline.NONE
-        return Headline.IDLE if blocked <= self.alone and not goes_on else Headline.NOT_KNOWN
+        is_left = any(self.left.parts[number] for number in self.blocked)
+        return Headline.NOT_KNOWN if is_left or goes_on else Headline.IDLE
 
-    def owed(self, blocked: Set[int]) -> Set[int]:
+    def owed(self) -> Set[int]:
         """Returns those at rest that wait for a named one, and that nobody who moves gives anything to, in any way."""
-        resting = self.of_sign(Sign.RESTS)
-        named = {number for number in resting for part in self.subjects[number].parts
-                 if self.has_named(part)}
+        named = {number for number in self.resting if any(map(self.has_named, self.subjects[number].parts))}
         if not named:
             return set()
-        moving = self.of_sign(Sign.GOES_ON) | self.of_sign(Sign.SLEEPS)
-        return named - self.graph(self.feeding_in).freed(moving, blocked | resting).keys()
+        return named - self.graph(self.feeding_in).freed(self.moving, self.blocked | self.resting).keys()
 
     def feeding_in(self, owner: str, part: Part) -> List[Sequence[str]]:
         """Returns those of a part who may end it, of one at rest also those that are against."""
@@ -178,7 +189,7 @@ class Decision:
 
     def holding_parts(self, number: int) -> List[Part]:
         """Returns the parts by which one is likely to be stuck, and not for certain."""
-        return self.left.whole_parts(number)
+        return self.left.whole_parts(number) if self.likely else []
 
     def aside_of(self, wakers: Wakers, left: Sequence[str], members: Set[int]) -> List[Optional[str]]:
         """Returns those of some wakers who are set aside and may free somebody, or None for anybody."""
