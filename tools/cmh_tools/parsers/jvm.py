@@ -44,7 +44,11 @@ class JvmParser(Parser):
 
     def read(self, state: State) -> List[Reading]:
         dumps = read_dumps(state.path, state.text)
-        self.heap = read_heap(state.path, state.text) or self.heap
+        heap = read_heap(state.path, state.text)
+        for dump in dumps if heap else ():
+            dump.lost = dump.lost or ("" if dump.time else f"{dump.path}: a heap stands beside a dump whose lines "
+                                      "'# cmh began ..' and '# cmh ended ..' aren't whole")
+        self.heap = heap or self.heap
         self.dumps += dumps
         return [Reading(dump.path, self.NAME, [dump], missing_of(dump), WHOLE, machine=dump.machine, time=dump.time)
                 for dump in dumps]

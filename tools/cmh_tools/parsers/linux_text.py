@@ -28,6 +28,7 @@ NUMBER, NUMBERED = re.compile(r"\d+"), re.compile(r"(.* )?\d+")  # within the na
 NUMBERS = re.compile(r"[0-9]{1,9}(\s+[0-9]{1,9})*")
 HEX = re.compile(r"(0x)?[0-9a-f]{1,16}")
 # (Older states have keys besides, of code that was followed: these say nothing.)
+RUNNING = "running"  # the call of one that is in none, and so has no arguments
 STATE = re.compile("[A-Za-z]")
 THREAD = {"tid": int, "state": STATE, "inner?": int, "comm?": str, "call?": str, "args?": [HEX] * 6,
           "counts?": [int, int], "set?": ([[int, int]], [[int, int, int]]), "words?": re.compile("([0-9a-f]{2})*"),
@@ -334,6 +335,8 @@ def rows_of(text: str, path: str) -> List[Row]:
         odd = next((place for key in row.keys() & SHAPES.keys() for place in misfits(row, SHAPES[key])), None)
         if "pid" in row and "unreadable" not in row:
             odd = odd or next((f".{key}" for key in ("ppid", "fds") if key not in row), None)
+            odd = odd or next((".threads.args" for thread in row.get("threads", ()) if "args" not in thread
+                               and thread.get("call", RUNNING) != RUNNING), None)
         if odd is not None:
             raise Refusal(f"{shown(path)}:{number}: {EXPECTED}, and in this line {quote(odd[1:])} isn't as these have "
                           "it")

@@ -8,7 +8,7 @@ from __future__ import annotations
 import json
 import re
 from collections import Counter
-from typing import Any, Dict, Iterator, List, Optional, Tuple
+from typing import Any, Dict, Iterator, List, Optional, Sequence, Tuple
 
 from ..files import Refusal, shown
 from ..sketch import quote
@@ -49,10 +49,11 @@ THREAD = {"tid": int, "inner": int, "state": STATE, "call?": CALL, "calls?": int
           "more?": int, "place?": ([str], [str, str, int]), "fault?": str, "called?": str, "switches?": int,
           "used?": float, "entered?": int,
           "ahead?": object, "meanwhile?": object, "looks?": object}  # (the last 3: of old states)
-COMM = {"id": ID, "number": int, "size": int, "rank": int, "inter": int, "root": int, "name": WORD,
+SIZE = range(1 << 31)
+COMM = {"id": ID, "number": int, "size": SIZE, "rank": int, "inter": int, "root": int, "name": WORD,
         "ranks?": ([int], type(None)), "parent?": ID, "made?": int, "held?": int, "target?": int,
         "alone?": int, "past?": [WORD]}
-RANK = {"pid": int, "rank": int, "size": int, "level": int, "standard": int, "opened": int, "lost": int, "full": bool,
+RANK = {"pid": int, "rank": int, "size": SIZE, "level": int, "standard": int, "opened": int, "lost": int, "full": bool,
         "fortran": (bool, type(None)), "comms": [COMM], "threads": [THREAD], "any_tag?": int, "begun?": [MESSAGE],
         "alarms?": bool, "asked?": int, "named?": [str]}
 HEAD = {"version": int, "host": str, "space": str}
@@ -157,9 +158,11 @@ def request_rows(thread: Row) -> List[Row]:
     return [row for row in rows if row["kind"] and row["complete"] != 1]
 
 
-def ranks_of(comm: Row) -> Optional[List[int]]:
+def ranks_of(comm: Row) -> Optional[Sequence[int]]:
     """Returns the ranks of the world in a communicator, or None if they aren't known."""
-    ranks: Optional[List[int]] = comm.get("ranks", list(range(comm["size"])))
+    if "ranks" not in comm:
+        return range(comm["size"])
+    ranks: Optional[List[int]] = comm["ranks"]
     return ranks if ranks is not None and len(ranks) == comm["size"] and all(rank >= 0 for rank in ranks) else None
 
 

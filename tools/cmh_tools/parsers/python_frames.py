@@ -27,6 +27,7 @@ GDB_THREAD = re.compile(r'^Thread \d+ \(Thread 0x[0-9a-f]+ \(LWP (\d+)\)(?: ".*"
 GDB_FRAME = re.compile(r'^  File "(.*)", line (\d+), in (.*)$')
 GDB_LOST = re.compile(r"^  \(unable to read python frame information\)|^  File .* in .*frame information optimized out")
 GDB_CALL = re.compile(r"^  <built-in method (\w+) of (?:module|(.*?)) object at remote (0x[0-9a-f]+)>$")
+MAIN = "MainThread"
 LIBRARY = re.compile(r"threading\.(?:Thread\.)?(_bootstrap|_bootstrap_inner|run)$")  # frames that begin a thread
 # The calls of the kernel that end by themselves where an argument says so, by its place, and those whose limit is a
 # number, and none is below 0.
@@ -113,15 +114,16 @@ def add_threads(look: Look, rows: Any, counts: Dict[str, Dict[str, Any]]) -> Non
         more.update({"new_stops": None} if count else {})
         if frames and call is not None:
             frames[0].call = call
-        row = look.threads[tid] = Row(tid, name or f"thread-{tid}", frames, more, fault_of(frames))
+        row = look.threads[tid] = Row(tid, name or f"thread-{tid}", frames, more, fault_of(name, frames))
         if row.fault:
             look.is_whole = False
             look.warnings.append(f"{shown(look.where)}: thread {shown(row.name)} of process {look.pid}: {row.fault}")
 
 
-def fault_of(frames: List[Frame]) -> str:
+def fault_of(name: str, frames: List[Frame]) -> str:
     """Returns what shows that the first line of a thread is missing, so that its frames stand below another's."""
-    if any(map(is_outermost, frames, frames[1:])):
+    is_begun = any(LIBRARY.match(outermost.at) for outermost in frames[-1:])  # (as all are but for the main thread)
+    if is_begun and name == MAIN or any(map(is_outermost, frames, frames[1:])):
         return "frames of another thread stand below its own, so the first line of that one is missing"
     return ""
 

@@ -23,7 +23,7 @@ from . import State
 from .base import COUNT, Break, Parser, Snapshot, fits, misfits
 from .rabbitmq_bounds import HANDLES, Server, all_who_may_end
 from .rabbitmq_clients import AT, COMPUTES, ELSEWHERE, OPEN, SLEEPING, Activity, Row, activities, looks_on, ticking_of
-from .rabbitmq_routes import Routes
+from .rabbitmq_routes import Routes, odd_row
 
 NEEDED = ("list_connections", "list_channels", "list_consumers", "list_queues", "list_bindings")
 HEADING = re.compile(r"^# (?:rabbitmqctl (\w+)|(clients|server)$).*\n", re.M)
@@ -656,6 +656,9 @@ def reading_of(path: str, lists: List[Tuple[str, str]]) -> Reading:
         if isinstance(row.get("policy"), str) and row["policy"] not in policies:
             raise Refusal(f"{where}, list_policies: it lacks {quote(row['policy'])}, which queue {shown(row['name'])} "
                           "has. Take the state again")
+    odd = odd_row(raw)
+    if odd:
+        raise Refusal(f"{where}, {odd}. Take the state again")
     broker = Broker(raw)
     rows = sorted(broker.services.values(), key=lambda service: service.name)
     return Reading(path, "broker", rows, broker.missing)

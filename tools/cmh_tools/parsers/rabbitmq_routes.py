@@ -6,7 +6,7 @@ import re
 from typing import Any, Dict, List, Tuple
 
 from ..files import Refusal, shown
-from ..sketch import read_json
+from ..sketch import quote, read_json
 
 DIRECT, TOPIC = "direct", "topic"
 BY_KEY, STANDARD = (DIRECT, TOPIC), (DIRECT, TOPIC, "fanout", "headers")
@@ -167,6 +167,20 @@ class Routes:
 def family_of(queue: str) -> str:
     """Returns the name of a queue without its last part: `progress.` of `progress.worker-1`."""
     return re.sub(r"[^.:/]+$", "", queue)
+
+
+def odd_row(raw: Dict[str, Any]) -> str:
+    """Returns which row has what no broker takes, or nothing: the default exchange takes messages to a queue by its
+    name alone, and no queue has a key for its dead messages and no exchange."""
+    for row in raw["list_bindings"]:
+        name = str(row["destination_name"])
+        if row["source_name"] == "" and (row["routing_key"] != name or row.get("destination_kind", "queue") != "queue"):
+            return f"list_bindings: the default exchange takes to {quote(name)} what isn't of its name"
+    for row in raw["list_queues"]:
+        arguments = table_of(row["arguments"])
+        if KEY in arguments and EXCHANGE not in arguments:
+            return f"list_queues: queue {quote(str(row['name']))} has a key for dead messages, and no exchange for them"
+    return ""
 
 
 def table_of(rows: Any) -> Dict[str, Any]:
