@@ -23,7 +23,7 @@ from ..snapshots import APART, CUT, ONCE, Reading
 from . import State
 from .base import Parser, Reach, Snapshot
 from .go_frames import (CONNECTION, NEEDS_ALL, WATCHER, Place, entry_of, is_at_another, is_jobs, is_of_runtime, is_own,
-                        lacks_wait, takes_state)
+                        lacks_wait, receiver_locked, receivers_past_lock, takes_state)
 from .go_starters import MAIN, UNSEEN, Starters, unseen_starter
 from .go_text import ADDRESS, AGAIN, TAKER, WHERE, Dump, Goroutine, read_dumps
 
@@ -137,6 +137,8 @@ class GoParser(Parser):
             for address in dict.fromkeys(ADDRESS.findall(" ".join(frame.arguments for frame in goroutine.frames))):
                 if address not in here:
                     snapshot.reach.add(address, [self.names[goroutine.number]], "inside")
+            for receiver in receivers_past_lock(goroutine, snapshot.places[goroutine.number]):
+                snapshot.reach.add(receiver, [self.names[goroutine.number]], "inside")
 
     def process_of(self, subject: Goroutine, snapshot: Goroutines) -> Process:
         goroutine, name = subject, self.names[subject.number]
@@ -201,7 +203,7 @@ class GoParser(Parser):
 
     def waiter(self, goroutine: Goroutine, place: Place, name: str, snapshot: Goroutines) -> Process:
         """One that waits for another goroutine, and the text doesn't show for which."""
-        inside = self.inside(place, name, snapshot)
+        inside = self.inside(goroutine, place, name, snapshot)
         names = list(dict.fromkeys(other for some in inside for other in some.names()))
         why = f"{goroutine.state}: {ENDERS.get(place.operation, DOESNT_SHOW)}{also_at(names)}"
         parts: List[Part] = any_of(*inside, snapshot.everybody, unseen("unshown"))
@@ -214,9 +216,10 @@ class GoParser(Parser):
             return rests(name, why, parts, [SYSTEM])
         return blocked(name, parts, [SYSTEM], reason=why)
 
-    def inside(self, place: Place, name: str, snapshot: Goroutines) -> Tuple[Wakers, ...]:
-        """Returns those in whose frames stands what one waits at."""
-        found = [some for address in place.objects for some in snapshot.reach.of(address)]
+    def inside(self, goroutine: Goroutine, place: Place, name: str, snapshot: Goroutines) -> Tuple[Wakers, ...]:
+        """Returns those in whose frames stands what one waits at, or who run a method of that whose lock it wants."""
+        things = [*place.objects, *receiver_locked(goroutine, place)]
+        found = [some for thing in things for some in snapshot.reach.of(thing)]
         if sum(len(some.names()) for some in found) > MOST:
             return ()
         return tuple(left for left in (some.without([name]) for some in found) if left.names())

@@ -4,7 +4,7 @@ from __future__ import annotations
 
 import re
 from functools import lru_cache
-from typing import List
+from typing import List, Optional, Tuple
 
 from ..sketch import frame
 from .go_text import ADDRESS, TAKER, Frame, Goroutine
@@ -48,6 +48,8 @@ WAITS_IN_SYNC = re.compile(r"semacquire|sync\..*")
 # Whoever waits in a state of `sync` stands in one of these.
 WAITS_OF_SYNC = re.compile(r"(?:internal/)?sync\.\(\*(?:Mutex\)\.(?:Lock|lockSlow)|RWMutex\)\.R?Lock"
                            r"|(?:WaitGroup|Cond)\)\.Wait)|internal/poll\..*")
+RECEIVER = re.compile(r"(.+\.\(\*\w+(?:\[\.\.\.\])?\))\.\w+")  # of a method, with the package of its type
+TAKES_LOCK = frozenset(("sync.Mutex.Lock", "sync.RWMutex.Lock", "sync.RWMutex.RLock"))
 WRAPPER = re.compile(r".*(?:\.gowrap\d+|·dwrap·\d+)")
 CHANNEL = re.compile(r"runtime\.chan(?:send|recv)")
 LOCK = re.compile(r"sync\.\(\*(?:Mutex|RWMutex|WaitGroup|Cond|Once)\)\.\w+|internal/sync\.\(\*Mutex\)\.\w+")
@@ -164,6 +166,25 @@ class Place:
         self.called = inner[-1].function if inner else ""
         self.operation = operation_of(goroutine.state, self.called)
         self.objects = objects_of(inner)
+
+
+def receiver_of(it: Frame) -> Optional[Tuple[str, str]]:
+    """Returns the type and the address of what a frame is a method of, if it shows them."""
+    method, first = RECEIVER.fullmatch(it.function), it.arguments.split(",")[0]
+    return (method[1], first) if method and ADDRESS.fullmatch(first) else None
+
+
+def receivers_past_lock(goroutine: Goroutine, place: Place) -> List[Tuple[str, str]]:
+    """Returns of what a goroutine runs methods: but for that which only now takes a lock."""
+    frames = [it for it in goroutine.frames if it.function not in OUTERMOST and is_jobs(it)]
+    inner = frames[1:] if place.operation in TAKES_LOCK else frames
+    return list(dict.fromkeys(filter(None, map(receiver_of, inner))))
+
+
+def receiver_locked(goroutine: Goroutine, place: Place) -> List[Tuple[str, str]]:
+    """Returns of what the method is that waits for a lock, if the text shows that."""
+    own = [it for it in goroutine.frames if it.function == place.function] if place.operation in TAKES_LOCK else []
+    return list(filter(None, map(receiver_of, own[:1])))
 
 
 def operation_of(state: str, called: str) -> str:
