@@ -113,7 +113,8 @@ class Explanation(Findings):
         where = f" on {short_name(process.site)}" if process.site is not None else ""
         names = self.some([self.name(it) for it in (at, *more)])
         line = f"  {names}{where}{': each' if more else ''} {self.wait(at, not more)}"
-        return [line] + ([f"      {note}"] if note else [])
+        effect = shown(process.effect) if not more and self.low.inside[at] else ""
+        return [line, *(f"      {text}" for text in (note, effect) if text)]
 
     def group(self, some: Iterable[int], end: Callable[[List[int]], str] = lambda row: "") -> List[str]:
         """Returns the lines of a list in which those that are alike share one. `end` gives what a line ends with."""

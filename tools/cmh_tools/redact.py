@@ -102,8 +102,9 @@ class Redaction:
     def process(self, it: Process) -> Process:
         """Returns a process with what the parser's own words say of it: what it waits in, for whom, and why."""
         return replace(it, name=self.names.of(it.name), parts=[tuple(map(self.wakers, part)) for part in it.parts],
-                       note="", thread="", meeting="", site=None if it.site is None else self.sites.of(it.site),
-                       count=None, frames=it.frames if it.frames == [REST] else self.frames.all(it.frames),
+                       note="", thread="", meeting="", effect="",
+                       site=None if it.site is None else self.sites.of(it.site), count=None,
+                       frames=it.frames if it.frames == [REST] else self.frames.all(it.frames),
                        operation=self.operation(it.operation), objects=self.objects.all(it.objects),
                        because=list(map(self.because, it.because)))
 

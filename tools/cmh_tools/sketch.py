@@ -45,7 +45,7 @@ INNER = "inner"  # the assumption that threads of a runtime, such as one that fi
 MANY = 65_536  # names in all lists; with more, equal lists are one
 GOING = (Sign.GOES_ON, Sign.TICKS, Sign.SLEEPS, Sign.POLLS)  # signs of those that go on by themselves
 WAITING = (Sign.BLOCKED, Sign.RESTS)
-TEXTS = ("site", "note", "operation", "thread", "meeting", "remedy")
+TEXTS = ("site", "note", "operation", "thread", "meeting", "remedy", "effect")
 LISTS = ("frames", "objects", "because")
 SIGNS = {sign.value: sign for sign in Sign}
 STRENGTHS = {strength.value: strength for strength in Strength}
@@ -73,7 +73,7 @@ class Process:
     waits at (a lock's address, the name of whom it called), and values for facts ('to=3', 'creator=main/1'); `count`
     what the system counts (reductions, context switches), as text. Two looks show the same wait if these four are the
     same. `thread` is the thread of the kernel that it is all the time, as PID/TID. `remedy` is a command that ends it,
-    of one that people end in another way than by a restart of its site.
+    of one that people end in another way than by a restart of its site, and `effect` is what its end does besides.
 
     `is_collective` says that its operation needs all of a group to come to it, and `meeting` at which one it is, or for
     which of several all have to come, where that may differ from others of that operation. `moment` says how it was
@@ -94,6 +94,7 @@ class Process:
     thread: str = ""
     meeting: str = ""
     remedy: str = ""
+    effect: str = ""
     is_collective: bool = False
     moment: str = ""
     is_garbled: bool = False

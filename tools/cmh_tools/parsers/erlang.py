@@ -17,7 +17,7 @@ from ..snapshots import APART, PARTS, Reading
 from . import State
 from .base import Parser
 from .erlang_calls import NO_MAIL, place_elsewhere, wait_of_call
-from .erlang_enders import add_enders, stoppers_of, two_of_each
+from .erlang_enders import add_enders, stoppers_of, two_of_each, when_killed
 from .erlang_keepers import is_awake
 from .erlang_locks import locks_of, wait_of_lock
 from .erlang_mnesia import rows_of, wait_of_transaction
@@ -98,6 +98,8 @@ class ErlangParser(Parser):
             more = ending(subject, snapshot)
             made.parts = [(*part, *more) for part in made.parts]
             made.remedy = remedy_of(subject) if subject in snapshot.children else ""
+        if made.sign is Sign.BLOCKED and subject.extra("trap_exit"):
+            made.effect = when_killed(subject, snapshot)
         return made
 
     def finish(self, sketch: Sketch, snapshots: List[Nodes]) -> None:

@@ -13,6 +13,7 @@ from .erlang_text import Block, Key
 
 MANY = 100  # kinds of processes that are told apart by whom they monitor too
 LINK = re.compile(r"<[\d.]+>")
+SHOWN = 3  # of those that end with a process
 
 
 def place_of(block: Block) -> Any:
@@ -52,6 +53,7 @@ def stoppers_of(blocks: List[Block]) -> Dict[Key, List[Block]]:
 def add_enders(snapshot: Nodes) -> None:
     """Adds for each process who may end it, to those that start or stop it."""
     above, below = supervised(snapshot)
+    snapshot.above = above
     ending, stopping, halting = (by_code(snapshot, word) for word in ("exits", "stops", "halts"))
     for block in snapshot.rows():
         enders = snapshot.enders[block.node, block.pid]
@@ -113,6 +115,31 @@ def is_spared(block: Block, above: Dict[Block, Block], below: Dict[Block, List[B
     """Whether a supervisor above a process restarts others alone that may fail, as long as it doesn't give up."""
     return any(other is not child and not other.is_asleep() for child, supervisor in supervisors_of(block, above)
                if supervisor.restarts_one() for other in below[supervisor])
+
+
+def when_killed(block: Block, snapshot: Nodes) -> str:
+    """Returns in words what `exit(Pid, kill)` does besides: who is linked and ends too, and which supervisor may start
+    it again."""
+    along = [snapshot.name(other) for other in ending_along(block, snapshot)]
+    more = f", {', '.join(along[:SHOWN])}{' and others' if along[SHOWN:] else ''} too" if along else " alone"
+    over = snapshot.above.get(block)
+    again = f"{snapshot.name(over)} may start {'it' if over.restarts_one() else 'all below it'} again" if over else \
+        "the state shows no supervisor that starts it again"
+    return f"exit({block.pid}, kill) ends it{more}, and {again}"
+
+
+def ending_along(block: Block, snapshot: Nodes) -> List[Block]:
+    """Returns those that end with a process: linked to it, or to one of these, and trapping no exits."""
+    found: Dict[Block, None] = {block: None}
+    todo = [block]
+    while todo and len(found) <= SHOWN:
+        one = todo.pop(0)
+        links = [snapshot.find((one.node, pid)) for pid in LINK.findall(one.extra("links") or "")]
+        new = [other for other in links if other is not None and other not in found
+               and other.items.get("trap_exit") == "false"]
+        found.update(dict.fromkeys(new))
+        todo += new
+    return list(found)[1:]
 
 
 def linked_to(block: Block, snapshot: Nodes) -> List[Block]:

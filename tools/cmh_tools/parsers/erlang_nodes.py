@@ -17,11 +17,11 @@ class Nodes(Snapshot):
     """The processes of all nodes at one time: by what others know them by, and by the tails of the references that they
     have; their names in the sketch; each answer that is under way, as (sender, receiver); who may end a process, by its
     node and pid, and what may end any; who stands below a supervisor that restarts one alone, beside others that may
-    fail; who is the child of a supervisor; who has a fun that may have any reference; the receives in a function, by
-    its node and its name, and whom it has asked before; where a reference may be that no process has, in words, or
-    nothing; nodes, by another one and the number that they have there; the locks of a node, by it and by what is
-    locked; who has locks of Mnesia, or wants one; and those who aren't at rest, of these by a server those who know it.
-    """
+    fail; who is the child of a supervisor, and the supervisor above each that has one; who has a fun that may have any
+    reference; the receives in a function, by its node and its name, and whom it has asked before; where a reference may
+    be that no process has, in words, or nothing; nodes, by another one and the number that they have there; the locks
+    of a node, by it and by what is locked; who has locks of Mnesia, or wants one; and those who aren't at rest, of
+    these by a server those who know it."""
 
     by_key: Dict[Key, Block]
     has_tail: Dict[str, List[Block]]
@@ -41,6 +41,7 @@ class Nodes(Snapshot):
     wanted: List[Any]
     awake: List[Block]
     known: Dict[int, List[Block]]
+    above: Dict[Block, Block]
 
     def find(self, key: Key) -> Optional[Block]:
         """Returns a process by what another one knows it by: a pid of another node begins with the number of that."""
