@@ -30,8 +30,8 @@ from .linux_text import ENDED as GONE
 from .linux_text import READS, WRITES, Machine, Owner, Row, Thread, call_threads, keep_calls, readings_of, rows_of, \
     some_names
 from .linux_unread import Branches, unread_name, unread_one
-from .linux_waits import (ACCEPTS, EPOLLS, MOVES, QUEUES, READ, SETS, SLEEPS, SUSPENDS, WRITE, Ease, Wait, against,
-                          has_limit, int32, not_shown, not_understood, with_end)
+from .linux_waits import (ACCEPTS, EPOLLS, LIMITS, MOVES, NUMBERS, QUEUES, READ, SETS, SLEEPS, SUSPENDS, WRITE, Ease,
+                          Wait, against, has_limit, int32, not_shown, not_understood, with_end)
 
 NO_FACT = ", and no fact on its place decides that"
 OWN_THREADS = ("erlang", "go", "jvm", "mpi")  # whose runtimes have threads that are none of the job's
@@ -206,7 +206,11 @@ class LinuxParser(Parser):
         return self.process_at(thread, snapshot, wait_of(snapshot.machine, thread), more)
 
     def process_at(self, thread: Thread, snapshot: Computer, wait: Wait, more: Dict[str, Any]) -> Process:
-        """Returns the process of a thread that is at a wait."""
+        """Returns the process of a thread that is at a wait. How long the limit of that is doesn't tell it from the next:
+        many wait for what is left of some seconds."""
+        if thread.call in NUMBERS and has_limit(thread):
+            words = thread.row["args"]
+            more["objects"] = [" ".join([thread.call, *words[:LIMITS[thread.call]], *words[LIMITS[thread.call] + 1:]])]
         if thread.call == "futex":
             more["objects"].append(wait.what)
         more["operation"] = thread.call if wait.operation.endswith(" of") else wait.operation or thread.call
