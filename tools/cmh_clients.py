@@ -149,6 +149,7 @@ def clients(rows: List[Row]) -> Iterator[Row]:
     """Yields what is known of the clients of some connections."""
     here = sockets_here()
     connections = {here[ends_of(row)]: row["pid"] for row in rows if ends_of(row) in here}
+    ends = {row["pid"]: ends_of(row)[0] for row in rows}
     owners = {number: pids[0] for number, pids in files_of(connections).items() if len(pids) == 1}
     read = read_all(Machine(), list({*owners.values()}))
     found = {row["pid"]: row for row in read if "threads" in row and "unreadable" not in row}
@@ -156,7 +157,8 @@ def clients(rows: List[Row]) -> Iterator[Row]:
     for number, pid in owners.items():
         if pid in found:
             it = Process(found[pid], sockets)
-            yield {"connection": connections[number], "process": pid, "is_deaf": it.is_deaf(connections),
+            yield {"connection": connections[number], "process": pid, "end": ends[connections[number]],
+                   "is_deaf": it.is_deaf(connections),
                    "threads": [it.thread(thread, connections) for thread in it.row["threads"]]}
 
 

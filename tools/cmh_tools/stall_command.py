@@ -40,7 +40,7 @@ RECORD = "stall.json"  # what a folder has, by which it is explained again
 # A process in a state of Linux that runs Python.
 PYTHON = re.compile(r'^cmh-linux \{"pid": (\d+),.*"exe": "([^"]*/python3[^"/]*)"', re.M)
 NO_STACKS = '"with_stacks": false'  # in a state of Linux
-ALONE = ("erlang", "go", "rabbitmq")  # whose states don't say of which threads of a machine they are
+ALONE = ("erlang", "go")  # whose states don't say of which threads of a machine they are
 # What of a JVM's heap tells who ends waits by these calls.
 HEAP_SHOWS = (({"get", "join"}, "The heap shows who runs the task or computes the future, or in which queue it stands"),
               ({"lock", "lockInterruptibly"}, "The heap shows who reads under the lock"),

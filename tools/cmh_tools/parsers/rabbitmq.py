@@ -26,7 +26,7 @@ from .rabbitmq_clients import AT, COMPUTES, ELSEWHERE, OPEN, SLEEPING, Activity,
 from .rabbitmq_routes import Routes, odd_row
 
 NEEDED = ("list_connections", "list_channels", "list_consumers", "list_queues", "list_bindings")
-HEADING = re.compile(r"^# (?:rabbitmqctl (\w+)|(clients|server)$).*\n", re.M)
+HEADING = re.compile(r"^# (?:rabbitmqctl (\w+)|(clients|server|taken)$).*\n", re.M)
 # Rows of a name, a type and a value.
 TABLE = [([str, re.compile("longstr"), str], [str, re.compile("bool"), bool],
           [str, re.compile("(un)?signedint|(unsigned)?(short|byte)|long"), int],
@@ -48,7 +48,8 @@ SHAPES = {
                             "taken?": [{"channel": str, "number": COUNT}]}}),
     "server": ([], {"value": {"plugins": [str], "connections": [{"pid": str, "vhost": str, "timeout": int}],
                               "channels": [{"pid": str, "messages_unconfirmed": COUNT}]}}),
-    "clients": [{"connection": str, "process?": int, "is_deaf?": bool,
+    "taken": ([], {"began": float, "ended": float, "space": str}),
+    "clients": [{"connection": str, "process?": int, "end?": str, "is_deaf?": bool,
                  "threads": [{"tid": int, "state": str, "call?": str, "at?": str, "count?": int}]}],
 }
 HEARTBEAT = 8  # bytes of the frame, a packet of its own
@@ -334,6 +335,16 @@ class Service:
         return [name for name, askers in self.broker.asked.items() if process_name(self.name) in askers]
 
     @functools.cached_property
+    def client_end(self) -> str:
+        """The client's end of its connection, if that is on this machine, or nothing."""
+        mine = (row for row in self.broker.clients if row["connection"] == self.connection)
+        return next((str(row.get("end", "")) for row in mine), "")
+
+    def by_client(self) -> List[Wakers]:
+        """Returns who stands for its client, in whose place its threads are where another system knows these."""
+        return [unseen("client")] if self.client_end else []
+
+    @functools.cached_property
     def may_get_replies(self) -> bool:
         """Whether some of its queues are bound by their names alone, and others aren't."""
         return len({*map(self.broker.routes.is_by_name, self.queues)}) > 1
@@ -538,6 +549,8 @@ class RabbitmqParser(Parser):
         """Says what wasn't understood, and takes back that one goes on whose message was ready in all states."""
         rows = snapshots[0].rows()
         sketch.warnings += rows[0].broker.warnings if rows else []
+        sketch.connections = {end: {"serves": [process_name(service.name)]} for service in rows
+                              for end in [service.client_end] if end and not service.is_double}
         sketch.groups.update({f"key:{key}": list(expressions) for key, expressions in self.keys.items()})
         here = {process.name for process in sketch.processes}
         names = dict.fromkeys(name for some in lists_of_wakers(sketch.processes) for name in some)
@@ -617,7 +630,7 @@ def at_work(service: Service, name: str, more: Dict[str, Any]) -> Process:
     elif replies or does.kind == AT:
         some = service.repliers(replies)
         why = f"may wait for a reply in {shown(replies[0])}" if replies else "its client waits at a connection"
-    part = [*([wakers("guess", some)] if some else []), unseen("unshown"), *service.unseen()]
+    part = [*([wakers("guess", some)] if some else []), unseen("unshown"), *service.by_client(), *service.unseen()]
     made = blocked(name, any_of(*part), [SYSTEM, premise(HANDLES)], **more,
                    reason=f"it has a message that isn't acknowledged, and {why}")
     return with_client(made, service)
@@ -661,7 +674,9 @@ def reading_of(path: str, lists: List[Tuple[str, str]]) -> Reading:
         raise Refusal(f"{where}, {odd}. Take the state again")
     broker = Broker(raw)
     rows = sorted(broker.services.values(), key=lambda service: service.name)
-    return Reading(path, "broker", rows, broker.missing)
+    taken = raw["taken"] or {}
+    time = (taken["began"], taken["ended"]) if taken else None
+    return Reading(path, "broker", rows, broker.missing, machine=taken.get("space", ""), time=time)
 
 
 def count_of(row: Dict[str, Any]) -> Optional[str]:
