@@ -166,7 +166,7 @@ def captures_for(system: str, targets: List[str], may_kill: bool, may_dump: bool
     loaded = [pid for pid in targets if answers(pid)] if system == "python" else []
     if loaded and loaded != targets:
         bare = [pid for pid in targets if pid not in loaded]
-        return [capture_for(system, some, may_kill, may_dump) for some in (loaded, bare)]
+        return [capture_for(system, pids, may_kill, may_dump) for pids in (loaded, bare)]
     made = capture_for(system, targets, may_kill, may_dump)
     is_bare = system == "python" and made.system == "linux"
     way = way_to_python(targets) if is_bare else ""

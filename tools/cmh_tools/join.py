@@ -101,7 +101,7 @@ def begun_by(second: Sketch, first: Sketch) -> Dict[str, str]:
 def joins(process: Process) -> bool:
     """Whether one waits for the end of others alone, as the thread does that a JVM's launcher began with: so it frees
     nobody before."""
-    return bool(process.parts) and all(some.how == "ends" for part in process.parts for some in part)
+    return bool(process.parts) and all(group.how == "ends" for part in process.parts for group in part)
 
 
 def freeing_nobody(sketch: Sketch, names: Optional[Dict[str, str]] = None) -> Dict[str, str]:

@@ -74,7 +74,7 @@ def age_of(pid: str) -> float:
 def waits_of(pid: str) -> Optional[float]:
     """Returns for how many seconds no thread of a process has run, or None if the kernel doesn't say that."""
     now, ran = ran_at(OWN), [ran_at(f"/proc/{pid}/task/{tid}/sched") for tid in threads_of(pid)]
-    last = [at for at in ran if at is not None]
+    last = [time_ran for time_ran in ran if time_ran is not None]
     return None if now is None or not last or len(last) < len(ran) else max(0.0, now - max(last))
 
 

@@ -337,15 +337,15 @@ def more_ways(parts: List[Dict[str, Any]], explanation: Explanation, folder: Fol
 
 def waits_outside(explanation: Explanation) -> bool:
     """Whether somebody waits for an answer from outside, which may come from within."""
-    return any(process.sign is Sign.BLOCKED and any(some.how == "outside" for part in process.parts for some in part)
+    return any(process.sign is Sign.BLOCKED and any(group.how == "outside" for part in process.parts for group in part)
                for process in explanation.waits.processes)
 
 
 def heap_words(explanation: Explanation) -> str:
     """Returns in words what the heap of a JVM would show of those who wait."""
-    at = {process.operation.rpartition(".")[2] for process in explanation.waits.processes
-          if process.sign in (Sign.BLOCKED, Sign.UNKNOWN)}
-    return next((words for operations, words in HEAP_SHOWS if at & operations), "The heap shows more")
+    calls = {process.operation.rpartition(".")[2] for process in explanation.waits.processes
+             if process.sign in (Sign.BLOCKED, Sign.UNKNOWN)}
+    return next((words for operations, words in HEAP_SHOWS if calls & operations), "The heap shows more")
 
 
 def to_see_python(part: Dict[str, Any], folder: Folder) -> Iterator[str]:

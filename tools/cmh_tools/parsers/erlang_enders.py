@@ -130,16 +130,16 @@ def when_killed(block: Block, snapshot: Nodes) -> str:
 
 def ending_along(block: Block, snapshot: Nodes) -> List[Block]:
     """Returns those that end with a process: linked to it, or to one of these, and trapping no exits."""
-    found: Dict[Block, None] = {block: None}
+    ended: Dict[Block, None] = {block: None}
     todo = [block]
-    while todo and len(found) <= SHOWN:
+    while todo and len(ended) <= SHOWN:
         one = todo.pop(0)
         links = [snapshot.find((one.node, pid)) for pid in LINK.findall(one.extra("links") or "")]
-        new = [other for other in links if other is not None and other not in found
+        new = [other for other in links if other is not None and other not in ended
                and other.items.get("trap_exit") == "false"]
-        found.update(dict.fromkeys(new))
+        ended.update(dict.fromkeys(new))
         todo += new
-    return list(found)[1:]
+    return list(ended)[1:]
 
 
 def linked_to(block: Block, snapshot: Nodes) -> List[Block]:

@@ -168,22 +168,23 @@ class Place:
         self.objects = objects_of(inner)
 
 
-def receiver_of(it: Frame) -> Optional[Tuple[str, str]]:
+def receiver_of(step: Frame) -> Optional[Tuple[str, str]]:
     """Returns the type and the address of what a frame is a method of, if it shows them."""
-    method, first = RECEIVER.fullmatch(it.function), it.arguments.split(",")[0]
+    method, first = RECEIVER.fullmatch(step.function), step.arguments.split(",")[0]
     return (method[1], first) if method and ADDRESS.fullmatch(first) else None
 
 
 def receivers_past_lock(goroutine: Goroutine, place: Place) -> List[Tuple[str, str]]:
     """Returns of what a goroutine runs methods: but for that which only now takes a lock."""
-    frames = [it for it in goroutine.frames if it.function not in OUTERMOST and is_jobs(it)]
+    frames = [step for step in goroutine.frames if step.function not in OUTERMOST and is_jobs(step)]
     inner = frames[1:] if place.operation in TAKES_LOCK else frames
     return list(dict.fromkeys(filter(None, map(receiver_of, inner))))
 
 
 def receiver_locked(goroutine: Goroutine, place: Place) -> List[Tuple[str, str]]:
     """Returns of what the method is that waits for a lock, if the text shows that."""
-    own = [it for it in goroutine.frames if it.function == place.function] if place.operation in TAKES_LOCK else []
+    takes = place.operation in TAKES_LOCK
+    own = [step for step in goroutine.frames if takes and step.function == place.function]
     return list(filter(None, map(receiver_of, own[:1])))
 
 

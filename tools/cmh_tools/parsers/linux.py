@@ -206,11 +206,11 @@ class LinuxParser(Parser):
         return self.process_at(thread, snapshot, wait_of(snapshot.machine, thread), more)
 
     def process_at(self, thread: Thread, snapshot: Computer, wait: Wait, more: Dict[str, Any]) -> Process:
-        """Returns the process of a thread that is at a wait. How long the limit of that is doesn't tell it from the next:
-        many wait for what is left of some seconds."""
+        """Returns the process of a thread that is at a wait. How long its limit is doesn't tell it from the next: many
+        wait for what is left of some seconds."""
         if thread.call in NUMBERS and has_limit(thread):
-            words = thread.row["args"]
-            more["objects"] = [" ".join([thread.call, *words[:LIMITS[thread.call]], *words[LIMITS[thread.call] + 1:]])]
+            words, place = thread.row["args"], LIMITS[thread.call]
+            more["objects"] = [" ".join([thread.call, *words[:place], *words[place + 1:]])]
         if thread.call == "futex":
             more["objects"].append(wait.what)
         more["operation"] = thread.call if wait.operation.endswith(" of") else wait.operation or thread.call

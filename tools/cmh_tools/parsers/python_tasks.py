@@ -4,6 +4,7 @@ All tasks of a loop need its thread. Where a task keeps it, as in a call that bl
 """
 from __future__ import annotations
 
+import functools
 import re
 from dataclasses import replace
 from typing import Any, Callable, Dict, List, Optional, Sequence
@@ -22,6 +23,7 @@ from .python_waits import (Wait, blocked, by_block, by_child, by_end, by_join, b
 EVENTS = "waits for events"  # how a loop is idle
 COMING = {"server": "waits for a client", "signal": "waits for a signal", "timer": "waits for its time",
           "reader": "waits for data", "connection": "waits for data"}
+LIMIT_OF_FUTEX = 3  # which argument that is
 # Frames of a thread that runs an event loop, also of one that isn't asyncio's own.
 RUN = re.compile(r"asyncio\.(base_events\.(\w+\.)?(run_forever|run_until_complete|_run_once)|runners\.(\w+\.)?run"
                  r"|events\.(\w+\.)?_run)$")
@@ -68,8 +70,26 @@ class Waits:
         """The wait of a thread of which the state shows the place alone, and perhaps its call of the kernel."""
         if any(RUN.match(line.at) for line in standing.frames):
             return unsure(f"it runs an event loop, and {self.tool()} doesn't show the loop's tasks: cmh_state does")
-        wait = by_work(standing) or (in_kernel(standing) or idle_wait(standing) if self.look.shown_by else None)
+        wait = by_work(standing) or (in_kernel(standing) or idle_wait(standing) or self.at_futex(standing)
+                                     if self.look.shown_by else None)
         return wait or unsure(f"{self.tool()} shows neither limits nor what it waits for")
+
+    @functools.cached_property
+    def computes(self) -> bool:
+        """Whether a thread of the process computes."""
+        rows = self.look.threads.values()
+        return any(row.more.get("state") == "R" or by_work(Standing(self.job, row, row.frames)) for row in rows)
+
+    def at_futex(self, standing: Standing) -> Optional[Wait]:
+        """The wait of a thread at a lock of its process, without a limit; else None. Where another one computes, it may
+        have that lock or not, so nothing is known."""
+        row = standing.row
+        if self.computes:
+            return None
+        if row.more.get("call") != "futex" or len(row.more.get("args", ())) < LIMIT_OF_FUTEX + 1 or is_limited(row):
+            return None
+        why = f"{self.tool()} doesn't show who has what it waits for"
+        return Wait(Sign.BLOCKED, any_of(*standing.job.same_process(standing.name), unseen("unshown", why)), why)
 
     def tool(self) -> str:
         return self.look.shown_by or "faulthandler"
