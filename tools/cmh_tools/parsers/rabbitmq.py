@@ -340,9 +340,10 @@ class Service:
         mine = (row for row in self.broker.clients if row["connection"] == self.connection)
         return next((str(row.get("end", "")) for row in mine), "")
 
-    def by_client(self) -> List[Wakers]:
-        """Returns who stands for its client, in whose place its threads are where another system knows these."""
-        return [unseen("client")] if self.client_end else []
+    def by_client(self) -> Wakers:
+        """Returns who stands for what its client does: on this machine the client itself, in whose place its threads
+        are where another system knows these."""
+        return unseen("client" if self.client_end else "unshown")
 
     @functools.cached_property
     def may_get_replies(self) -> bool:
@@ -630,7 +631,7 @@ def at_work(service: Service, name: str, more: Dict[str, Any]) -> Process:
     elif replies or does.kind == AT:
         some = service.repliers(replies)
         why = f"may wait for a reply in {shown(replies[0])}" if replies else "its client waits at a connection"
-    part = [*([wakers("guess", some)] if some else []), unseen("unshown"), *service.by_client(), *service.unseen()]
+    part = [*([wakers("guess", some)] if some else []), service.by_client(), *service.unseen()]
     made = blocked(name, any_of(*part), [SYSTEM, premise(HANDLES)], **more,
                    reason=f"it has a message that isn't acknowledged, and {why}")
     return with_client(made, service)
