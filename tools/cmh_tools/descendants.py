@@ -21,15 +21,17 @@ class Descendant(NamedTuple):
     def send(self, number: int) -> None:
         """Sends a signal, but to nobody else who has its number by now. Raises PermissionError if it may not be sent.
         """
-        handle = os.pidfd_open(self.pid) if hasattr(os, "pidfd_open") else None
-        try:
-            if self.is_there() and handle is not None:
-                signal.pidfd_send_signal(handle, number)
-            elif self.is_there():
+        open_process, send_signal = getattr(os, "pidfd_open", None), getattr(signal, "pidfd_send_signal", None)
+        if not open_process or not send_signal:  # (before Python 3.9)
+            if self.is_there():
                 os.kill(self.pid, number)
+            return
+        handle = open_process(self.pid)
+        try:
+            if self.is_there():
+                send_signal(handle, number)
         finally:
-            if handle is not None:
-                os.close(handle)
+            os.close(handle)
 
     def name(self) -> str:
         with contextlib.suppress(OSError), open(f"/proc/{self.pid}/comm", "rb") as file:
