@@ -2,7 +2,6 @@
 from __future__ import annotations
 
 import re
-from collections import Counter
 from typing import Dict, Iterable, List, NamedTuple, Sequence, Set
 
 from .files import short_name, shown
@@ -12,6 +11,7 @@ from .sketch import ENDED
 WITH_NUMBER = re.compile(r"(?P<name>.+)-(?P<pid>\d+)")
 JVM = re.compile(r"JVM (?P<pid>\d+)")
 MOST = 64  # members of a root that are looked at
+STEPS = 60_000  # looks at roots in which fewer units are looked for
 SHOWN = 3  # units, or members of a root without any
 NOTICED = ("called", "ends", "owns")  # hows of a wait that ends, perhaps in an error, with the process that is meant
 # Commands that begin again what they have begun, once it ends.
@@ -126,20 +126,57 @@ class Cures:
         return [] if "" in units or self.unit_of(index) in units else units
 
     def least(self) -> List[Cure]:
-        """Returns the fewest cures that break all roots, as far as that is found by taking the best one first."""
-        left: Set[int] = {number for number, cure in enumerate(self.of) if not cure.is_all}
+        """Returns the fewest cures that break all roots, as far as that is found in some steps."""
         cures = [cure for cure in self.of if cure.is_all]
-        while left:
-            counts = Counter(unit for number in left for unit in self.of[number].units)
-            most = max(counts.values())
-            best = sorted((unit for unit in counts if counts[unit] == most), key=lambda unit: unit not in self.remedies)
-            roots = self.broken_by(best[0], left)
-            cures.append(Cure([unit for unit in best if self.broken_by(unit, left) == roots], roots))
+        alone = [cure for cure in self.of if not cure.is_all]
+        left = {cure.roots[0] for cure in alone}
+        roots_of: Dict[str, List[int]] = {}
+        for cure in alone:
+            for unit in cure.units:
+                roots_of.setdefault(unit, []).append(cure.roots[0])
+        for unit in fewest([cure.units for cure in alone]):
+            roots = [number for number in roots_of[unit] if number in left]
+            units = dict.fromkeys(other for number in roots for other in self.of[number].units)
+            alike = [other for other in units if [number for number in roots_of[other] if number in left] == roots]
+            cures.append(Cure(sorted(alike, key=lambda unit: unit not in self.remedies), roots))
             left.difference_update(roots)
         return sorted(cures, key=lambda cure: cure.roots)
 
-    def broken_by(self, unit: str, numbers: Iterable[int]) -> List[int]:
-        return sorted(number for number in numbers if unit in self.of[number].units)
+
+def fewest(sets: List[List[str]]) -> List[str]:
+    """Returns the fewest words that have one of each set, or nearly the fewest where there are very many."""
+    places: Dict[str, List[int]] = {}
+    for number, words in enumerate(sets):
+        for word in words:
+            places.setdefault(word, []).append(number)
+    best: List[str] = []
+    had: Set[int] = set()
+    for word in sorted(places, key=lambda word: -len(places[word])):
+        if not had.issuperset(places[word]):
+            best.append(word)
+            had.update(places[word])
+    todo: List[List[str]] = [[]]
+    for _ in range(STEPS // (1 + len(sets))):
+        if not todo:
+            break
+        chosen = todo.pop()
+        left = [words for words in sets if not set(chosen).intersection(words)]
+        if not left and len(chosen) < len(best):
+            best = chosen
+        elif left and len(chosen) + apart(left) < len(best):
+            todo += [[*chosen, word] for word in reversed(min(left, key=len))]
+    return best
+
+
+def apart(sets: List[List[str]]) -> int:
+    """Returns how many sets, at least, have no word in common with each other: each needs a word of its own."""
+    taken: Set[str] = set()
+    number = 0
+    for words in sets:
+        if taken.isdisjoint(words):
+            taken.update(words)
+            number += 1
+    return number
 
 
 def unit_words(this: Cures, unit: str) -> str:
