@@ -20,6 +20,7 @@ ROOT, BEHIND, SHARED, MORE, UNDECIDED, OPEN, FREE, RUNNING, OVER = SORTS = (
     "root", "behind", "shared", "more", "undecided", "unknown", "free", "runs", "ended")
 SMALL, FEW, MOST = 16, 24, 40  # boxes: of a small picture, and of a large one without and with those of roots folded
 ROOTS = 6  # roots that are drawn apart
+PARTS = 4  # a part has at most one of so many boxes
 ALIKE_ROOTS = 3  # of so many that are alike, one is drawn
 AMPLE = {ROOT: 8, BEHIND: 6, SHARED: 4, MORE: 1, UNDECIDED: 4, OPEN: 4, FREE: 3, RUNNING: 3, OVER: 2}  # of a part
 Row = List[int]  # of processes that share a box
@@ -91,8 +92,10 @@ class Folding:
         return next(fit, LARGEST)
 
     def ample(self, part: Part) -> int:
-        """Returns how many rows are ample for a part. Where nobody is stuck, those that wait have more."""
-        return AMPLE[ROOT if part.sort == FREE and not self.this.stuck else part.sort]
+        """Returns how many rows are ample for a part: fewer where there are few in all. Where nobody is stuck, those
+        that wait have more."""
+        ample = AMPLE[ROOT if part.sort == FREE and not self.this.stuck else part.sort]
+        return min(ample, max(self.most // PARTS, 1))
 
     def groups(self, part: Part, step: int) -> List[Row]:
         """Returns the rows of a part after a step."""
@@ -129,7 +132,7 @@ def roots_apart(this: Explanation, most: int) -> List[int]:
     for number, members in enumerate(this.roots.roots):
         found.setdefault(tuple(sorted(map(this.note, members))), []).append(number)
     drawn = (number for some in found.values() for number in some[:1 if len(some) >= ALIKE_ROOTS else None])
-    return sorted(drawn)[:min(ROOTS, max(most // 4, 1))]
+    return sorted(drawn)[:min(ROOTS, max(most // PARTS, 1))]
 
 
 def stand_for_others(this: Explanation) -> Set[int]:

@@ -113,7 +113,8 @@ class Layers:
                                                 self.picture.arrows))
             spot = Spot(0, 0, width, height)
             return Block(width, height, {unit: spot}, {}, {unit: [(width, height / 2)]}, {unit: [(0, height / 2)]}, [])
-        title = [line for text in self.picture.root_lines(-1 - unit) for line in wrap(text, HEAD * self.letters // WIDTHS[0])]
+        letters = HEAD * self.letters // WIDTHS[0]
+        title = [line for text in self.picture.root_lines(-1 - unit) for line in wrap(text, letters)]
         is_ring = all(number in self.picture.ring for number in numbers)
         block = self.ring(numbers, sizes, title) if is_ring else self.column(numbers, sizes, title)
         return block._replace(width=max(block.width, LETTER * max(map(len, title)) + 2 * MARGIN))
