@@ -40,9 +40,8 @@ SIGNS = {
 
 
 class Doubt(NamedTuple):
-    """Those who were set aside in one way. `who` has their names, or nobody's where it isn't in the state; `waits` has
-    those whom they may free, and `lines` the facts that say that they free none of them. `key` tells it from others as
-    long as a folder keeps the answer, and so does `number`."""
+    """Those who were set aside in one way. `who` has their names, or nobody's where it isn't in the state, and `waits`
+    those whom they may free. `key` tells it from others as long as a folder keeps the answer, and so does `number`."""
 
     number: int
     key: str
@@ -50,7 +49,12 @@ class Doubt(NamedTuple):
     how: str
     sign: Optional[Sign]
     waits: Sequence[str]
-    lines: Sequence[str]
+    likely: Likely
+
+    @property
+    def lines(self) -> List[str]:
+        """The facts that say that they free none of them."""
+        return self.likely.lines_of(self)
 
 
 class Likely:
@@ -120,22 +124,22 @@ class Likely:
 
     def doubt_of(self, key: str, asides: List[rule.Doubt]) -> Doubt:
         first = asides[0]
-        is_seen = self.sign_of(first) is not None
         who = list(dict.fromkeys(aside.who for aside in asides if aside.who is not None))
         lists = {id(aside.waits): aside.waits for aside in asides}
         waits = list(dict.fromkeys(name for names in lists.values() for name in names))
-        lines = list(freeing_lines(who)) if is_seen else list(dict.fromkeys(self.lines_on(first, waits)))
-        return Doubt(self.keys.index(key) + 1, key, who, first.how, self.sign_of(first), waits, lines)
+        return Doubt(self.keys.index(key) + 1, key, who, first.how, self.sign_of(first), waits, self)
 
-    def lines_on(self, aside: rule.Doubt, waits: Iterable[str]) -> List[str]:
-        """Returns the lines of facts that say that nobody who isn't seen ends some waits in one way."""
-        if aside.how == "uncounted":
+    def lines_of(self, doubt: Doubt) -> List[str]:
+        """Returns the lines of facts that say that a doubt is none."""
+        if doubt.sign is not None:
+            return list(freeing_lines(doubt.who))
+        if doubt.how == "uncounted":
             return [STILL]
-        if aside.how == "unread" and aside.who is not None:
+        if doubt.how == "unread" and doubt.who:
             return [f"{UNREADABLE}{HAS_ENDED}"]
-        if aside.how == "left-out":
+        if doubt.how == "left-out":
             return [LEFT_OUT]
-        return [self.line_on(self.processes[name]) for name in waits]
+        return list(dict.fromkeys(self.line_on(self.processes[name]) for name in doubt.waits))
 
     def line_on(self, process: Process) -> str:
         """Returns the line that those who are left of its wakers are all who may end the wait of a process."""
