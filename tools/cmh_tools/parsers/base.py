@@ -191,29 +191,31 @@ def assumptions_in(because: Tuple[str, ...]) -> List[str]:
     return list(dict.fromkeys(reason.split(" ", 1)[1] for reason in because if reason.startswith("premise ")))
 
 
-def misfits(value: Any, shape: Any, path: str = "") -> Iterator[str]:
-    """Yields where in a value of JSON something hasn't its shape, as '.threads.0.tid'. A shape is a type, an expression
-    that a text matches, a range that has a number, [SHAPE] of each entry, [SHAPE, SHAPE ..] of just these, [SHAPE,
-    SHAPE, ...] of the first and any more of the second, {str: SHAPE} of each value, also with an expression for the
-    keys, {KEY: SHAPE}, where a KEY that ends in '?' may be missing, or a tuple of shapes, each of which will do."""
-    if isinstance(shape, tuple):
-        yield from [] if any(fits(value, it) for it in shape) else [path]
-    elif isinstance(shape, (list, dict)) and has_length(value, shape):
-        for key, part, wanted in parts_of(value, shape):
-            yield from misfits(part, wanted, f"{path}.{key}")
-    elif value is ... or shape is not object and type(value) is not shape and not is_one_of(value, shape):
-        yield path
+def misfits(value: Any, shape: Any) -> Iterator[str]:
+    """Yields the first place in a value of JSON that hasn't its shape, as '.threads.0.tid', if there is one. A shape is
+    a type, an expression that a text matches, a range that has a number, [SHAPE] of each entry, [SHAPE, SHAPE ..] of
+    just these, [SHAPE, SHAPE, ...] of the first and any more of the second, {str: SHAPE} of each value, also with an
+    expression for the keys, {KEY: SHAPE}, where a KEY that ends in '?' may be missing, or a tuple of shapes, each of
+    which will do."""
+    place = misfit(value, shape)
+    yield from () if place is None else (place,)
 
 
 def fits(value: Any, shape: Any) -> bool:
-    return next(misfits(value, shape), None) is None
+    return misfit(value, shape) is None
 
 
-def has_length(value: Any, shape: Any) -> bool:
-    """Whether a value is a list or an object, as its shape is, and a list has as many entries as that wants."""
-    if type(value) is not type(shape) or isinstance(shape, dict) or len(shape) == 1:
-        return type(value) is type(shape)
-    return len(value) >= len(shape) - 2 if ... in shape else len(value) == len(shape)
+def misfit(value: Any, shape: Any) -> Optional[str]:
+    """Returns the first place that hasn't its shape, or None. Each value of a large state comes here."""
+    if type(value) is shape or shape is object:
+        return None
+    if isinstance(shape, dict):
+        return misfit_of_object(value, shape) if type(value) is dict else ""
+    if isinstance(shape, list):
+        return misfit_of_list(value, shape) if type(value) is list else ""
+    if isinstance(shape, tuple):
+        return None if any(fits(value, one) for one in shape) else ""
+    return None if is_one_of(value, shape) else ""
 
 
 def is_one_of(value: Any, shape: Any) -> bool:
@@ -223,21 +225,33 @@ def is_one_of(value: Any, shape: Any) -> bool:
     return isinstance(shape, re.Pattern) and isinstance(value, str) and shape.fullmatch(value) is not None
 
 
-def parts_of(value: Any, shape: Any) -> Iterator[Tuple[Any, Any, Any]]:
-    """Yields the parts of a list or an object, each with its key and its shape. One that is missing is `...`."""
-    if isinstance(shape, list):
-        more = itertools.chain(shape[:-2], itertools.repeat(shape[-2])) if ... in shape else itertools.cycle(shape)
-        yield from zip(itertools.count(), value, more)
-    elif str in shape:
-        yield from ((key, part, shape[str]) for key, part in value.items())
-    elif isinstance(next(iter(shape), ""), re.Pattern):
-        (keys, wanted), = shape.items()
-        yield from ((key, part if keys.fullmatch(key) else ..., wanted) for key, part in value.items())
-    else:
-        for key, wanted in shape.items():
-            name = key.rstrip("?")
-            if name in value or name == key:
-                yield name, value.get(name, ...), wanted
+def misfit_of_list(value: List[Any], shape: List[Any]) -> Optional[str]:
+    has_more = ... in shape
+    if len(value) < len(shape) - 2 if has_more else len(shape) != 1 and len(value) != len(shape):
+        return ""
+    wanted = itertools.chain(shape[:-2], itertools.repeat(shape[-2])) if has_more else itertools.cycle(shape)
+    for number, part in enumerate(value):
+        place = misfit(part, next(wanted))
+        if place is not None:
+            return f".{number}{place}"
+    return None
+
+
+def misfit_of_object(value: Dict[str, Any], shape: Dict[Any, Any]) -> Optional[str]:
+    form: Any = next(iter(shape), "")
+    if form is str or isinstance(form, re.Pattern):
+        rows = ((key, misfit(part, shape[form]) if form is str or form.fullmatch(key) else "")
+                for key, part in value.items())
+        return next((f".{key}{place}" for key, place in rows if place is not None), None)
+    for key, wanted in shape.items():
+        name = key.rstrip("?")
+        if name in value:
+            place = misfit(value[name], wanted)
+            if place is not None:
+                return f".{name}{place}"
+        elif name == key:
+            return f".{name}"
+    return None
 
 
 def one_line(text: str, width: int = 200) -> str:

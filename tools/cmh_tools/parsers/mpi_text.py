@@ -8,7 +8,7 @@ from __future__ import annotations
 import json
 import re
 from collections import Counter
-from typing import Any, Dict, Iterator, List, Optional, Sequence, Tuple
+from typing import Any, Dict, Iterator, List, Optional, Sequence, Set, Tuple
 
 from ..files import Refusal, shown
 from ..sketch import quote
@@ -65,6 +65,15 @@ TOGETHER = (("calls", "polls", "name", "kind"), ("number", "comm", "partner", "t
             ("parent", "made"), ("held", "target", "alone"), ("any_tag", "begun"), ("alarms", "asked", "named"))
 
 
+def keys_of(shape: Dict[str, Any]) -> Tuple[Set[str], List[Tuple[str, ...]]]:
+    """Returns the keys of a shape, and which of them stand together."""
+    known = {key.rstrip("?") for key in shape}
+    return known, [keys for keys in TOGETHER if known.issuperset(keys)]
+
+
+KNOWN = {id(shape): keys_of(shape) for shape in (THREAD, COMM, *SHAPES.values())}
+
+
 def rows_of(text: str, path: str) -> List[Row]:
     """Returns the rows of a state. Raises Refusal if it isn't one, or isn't whole."""
     rows = [row_of(line, f"{shown(path)}:{number}")
@@ -113,11 +122,11 @@ def odd_of(row: Row) -> Iterator[str]:
 
 def odd_keys(row: Row, shape: Dict[str, Any]) -> Iterator[str]:
     """Yields the keys of a row that aren't known, or that others of it need."""
-    known = {key.rstrip("?") for key in shape}
+    known, together = KNOWN.get(id(shape), (set(), []))
     yield from (key for key in row if key not in known)
-    for keys in TOGETHER:
+    for keys in together:
         lost = [key for key in keys if key not in row]
-        yield from lost if len(lost) < len(keys) and known.issuperset(keys) else []
+        yield from lost if len(lost) < len(keys) else []
 
 
 def has_twice(values: List[Any]) -> bool:
