@@ -180,7 +180,7 @@ def outside(thread: Thread, more: Dict[str, Any]) -> Process:
         return parked(thread, [woken_by(thread)], "futex", [SYSTEM, premise(INNER)], more)
     if call in BY_ITSELF:
         more["operation"] = "timed sleep" if call == "sleep" else "timed wait"
-        does_tick = thread.is_new() and thread.ticks()
+        does_tick = thread.is_new() and thread.ticks() and "switches" in row
         more["count"] = str(row["switches"]) if does_tick else more["count"]
         return goes_on(name, BY_ITSELF[call], [premise(LIMIT)], Sign.TICKS if does_tick else Sign.SLEEPS, **more)
     if row["state"] == "R":

@@ -43,7 +43,7 @@ SHAPES = {
     "list_bindings": [{"source_name": str, "routing_key": str, "destination_name": str,
                        "destination_kind?": re.compile("queue|exchange")}],
     "list_exchanges": [{"name": str, "type": str, "arguments?": ARGUMENTS}],
-    "list_policies": [{"name": str, "definition?": (str, {str: object})}],
+    "list_policies": [{"name": str, "definition": (str, {str: object})}],
     "eval": ([], {"value": {"statistics": str, "published": [{"channel": str, "queue": str, "number": COUNT}],
                             "taken?": [{"channel": str, "number": COUNT}]}}),
     "server": ([], {"value": {"plugins": [str], "connections": [{"pid": str, "vhost": str, "timeout": int}],
@@ -673,7 +673,10 @@ def reading_of(path: str, lists: List[Tuple[str, str]]) -> Reading:
     odd = odd_row(raw)
     if odd:
         raise Refusal(f"{where}, {odd}. Take the state again")
-    broker = Broker(raw)
+    try:
+        broker = Broker(raw)
+    except Refusal as refusal:
+        raise Refusal(f"{where}, list_policies: {refusal}") from None
     rows = sorted(broker.services.values(), key=lambda service: service.name)
     taken = raw["taken"] or {}
     time = (taken["began"], taken["ended"]) if taken else None

@@ -189,12 +189,13 @@ def table_of(rows: Any) -> Dict[str, Any]:
 
 
 def definition_of(row: Dict[str, Any]) -> Dict[str, Any]:
-    """Returns what a policy sets. Raises Refusal if it isn't an object, or the text of one."""
-    definition: Any = row.get("definition") or {}
+    """Returns what a policy sets. Raises Refusal if it isn't an object, or the text of one, or sets nothing, which the
+    broker doesn't take."""
+    definition: Any = row["definition"]
     where = f"policy {row['name']}"
     found = read_json(definition, where) if isinstance(definition, str) else definition
-    if not isinstance(found, dict):
-        raise Refusal(f"{shown(where)}: its definition is no object")
+    if not isinstance(found, dict) or not found:
+        raise Refusal(f"{shown(where)}: its definition is no object, or an empty one")
     return found
 
 
