@@ -39,6 +39,8 @@ END_OF_MAIN = "waits in the empty select of main"
 YIELD = "runtime.Gosched"
 READER, WRITER = "sync.RWMutex.RLock", "sync.RWMutex.Lock"
 SIGNALS = "os/signal.signal_recv"  # of the goroutine that is there once the program asks for a signal
+# What functions are called that wait for a signal.
+OF_SIGNALS = re.compile(r"(?i)signal|shut_?down|interrupt|graceful|terminat")
 NAMED = 3  # names in a reason
 MOST = 200  # more who have what one waits at in a frame tell nothing of it
 SHORT = 2  # seconds: who sleeps no longer has come back to its sleep from one state to the next
@@ -210,8 +212,9 @@ class GoParser(Parser):
         children = self.children(goroutine, place, snapshot)
         if children:
             parts = all_of(children, COMES, beside=(snapshot.everybody, unseen("unshown")))
-        may_rest = is_in_own_loop(goroutine) if goroutine.number != MAIN else \
-            snapshot.has_signals and len(place.frames) == 1
+        awaits_signal = snapshot.has_signals and OF_SIGNALS.search(place.function) is not None
+        may_rest = awaits_signal or (is_in_own_loop(goroutine) if goroutine.number != MAIN else
+                                     snapshot.has_signals and len(place.frames) == 1)
         if place.operation in RECEIVES and may_rest:
             return rests(name, why, parts, [SYSTEM])
         return blocked(name, parts, [SYSTEM], reason=why)
