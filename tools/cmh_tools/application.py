@@ -353,15 +353,19 @@ def has_how(process: Process, how: str) -> bool:
     return any(some.how == how for part in process.parts for some in part)
 
 
-BESIDE = {"sends-for", UNCOUNTED}  # hows of those who count whatever a fact says of others
+BESIDE = premise("one-thread")  # a reason of those who count whatever a fact says of others: threads of a rank
 THERE = {"repeats", "finalizes"}  # hows by which one would end a wait as those do whom a fact names
 
 
 def kept_wakers(process: Process) -> Part:
     """Returns the wakers of a wait that a fact on it leaves as they are: who ends it in another way, other threads
     of its own, and who may have ended it between the looks."""
-    return tuple({(id(some.who), some.how): some for part in process.parts for some in part
-                  if some.how in BESIDE or some.strength is Strength.AGAINST and some.how not in THERE}.values())
+    return tuple({(id(some.who), some.how): some for part in process.parts for some in part if is_kept(some)}.values())
+
+
+def is_kept(group: Wakers) -> bool:
+    is_against = group.strength is Strength.AGAINST and group.how not in THERE
+    return is_against or group.how == UNCOUNTED or BESIDE in group.because
 
 
 def intersected(process: Process, fact: Fact, whom: List[str]) -> Tuple[List[str], str]:

@@ -59,7 +59,6 @@ HOWS: Dict[str, Tuple[Strength, str]] = {
     "listed": (Strength.ABLE, "is one of those whom the system lists"),
     "reaches": (Strength.ABLE, "can reach what it waits at"),
     "same-process": (Strength.ABLE, "is in the process that alone can end the wait"),
-    "sends-for": (Strength.ABLE, "is another thread of it, and may send for it"),
     "inside": (Strength.ABLE, "stands inside of what it waits at"),
     "subscribes": (Strength.ABLE, "may send what it waits for"),
     "guess": (Strength.ABLE, "is likely to be the one, by the form of the state"),

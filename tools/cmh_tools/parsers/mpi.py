@@ -263,7 +263,8 @@ class MpiParser(Parser):
         if made.sign is Sign.SLEEPS and inside is not None:
             made.become_unknown(f"it sleeps, while another thread of it is in {inside.operation()}")
         threads = [thread.name() for thread in subject.threads]
-        made.parts = [(*part, wakers("sends-for", threads)) for part in made.parts] if threads else made.parts
+        beside = (wakers("same-process", threads, premise(ONE_THREAD)),) if threads else ()
+        made.parts = [(*part, *beside) for part in made.parts]
         return made
 
 
