@@ -141,8 +141,11 @@ def recipe(system: str) -> str:
 
 
 def check_needs(capture: Capture) -> None:
-    """Raises Failure if a command is missing."""
+    """Raises Failure if a command is missing, or all processes that are named have ended."""
     system = capture.system
+    numbers = list(filter(str.isdigit, capture.targets))
+    if numbers and not any(os.path.exists(f"/proc/{pid}") for pid in numbers):
+        raise Failure(f"there is no process {' or '.join(numbers)} (any more)")
     needs = HEAP_NEEDS if capture.how == HEAP else {} if capture.how else SYSTEMS[system].needs
     for command, package in needs.items():
         if shutil.which(command) is None and not (command == "mariadb" and shutil.which("mysql")):

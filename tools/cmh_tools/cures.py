@@ -14,6 +14,8 @@ MOST = 64  # members of a root that are looked at
 STEPS = 60_000  # looks at roots in which fewer units are looked for
 SHOWN = 3  # units, or members of a root without any
 NOTICED = ("called", "ends", "owns")  # hows of a wait that ends, perhaps in an error, with the process that is meant
+# Waits for a lock in memory that processes share, which stays taken when its holder ends.
+STAYS_TAKEN = re.compile("SemLock")
 # Commands that begin again what they have begun, once it ends.
 BEGINS_AGAIN = {"init", "systemd", "supervisord", "runsv", "s6-supervise"}
 
@@ -79,6 +81,10 @@ class Cures:
             site = above
         return site
 
+    def below(self, unit: str) -> List[str]:
+        """Returns the processes of the job that end with one, as it has begun them, or others that have."""
+        return [site for site in self.begun_by if site != unit and self.top_of(site) == unit]
+
     def own_unit(self, index: int) -> str:
         """Returns the unit of a process that is ended by itself."""
         process = self.answer.waits.processes[index]
@@ -119,8 +125,11 @@ class Cures:
         return [name for name in whom[:1] if is_alone and name in names and name in self.remedies]
 
     def units_for(self, index: int) -> List[str]:
-        """Returns the units that have all who may end the wait of one, or nothing if its own unit is among them."""
+        """Returns the units that have all who may end the wait of one, or nothing if its own unit is among them, or no
+        end of a unit ends the wait."""
         waits = self.answer.waits
+        if STAYS_TAKEN.match(waits.processes[index].operation):
+            return []
         others = [other for other in waits.without_hubs(waits.left_of(index)) if waits.kinds[other] != ENDED]
         units = list(dict.fromkeys(map(self.unit_of, others)))
         return [] if "" in units or self.unit_of(index) in units else units
@@ -182,7 +191,10 @@ def apart(sets: List[List[str]]) -> int:
 def unit_words(this: Cures, unit: str) -> str:
     """Returns in words what is done with a unit: a command that ends it where there is one, else a restart."""
     remedy = this.remedies.get(unit)
-    more = ", with what it has begun" if unit in this.begun_by.values() else ""
+    below = this.below(unit)
+    numbers = sorted((found["pid"] for found in map(WITH_NUMBER.fullmatch, below) if found), key=int)
+    left = f" and {len(below) - SHOWN:,} more" if below[SHOWN:] else ""
+    more = f", with what it has begun (PID {', '.join(numbers[:SHOWN])}{left})" if below else ""
     again = ", whose supervisor begins it again" if this.system == "erlang" else ""
     return f"end {short_name(unit)}{again}: {shown(remedy)}" if remedy else f"restart {this.called(unit)}{more}"
 

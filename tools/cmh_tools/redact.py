@@ -24,7 +24,7 @@ KEYS = {
     "sketch", "names", "left_out", "folded",  # of its notes
 }
 # Names that stand for others, and what is made of them.
-NAME = re.compile(r"(?:(?:fact )?facts:|(?:premise )?premise-|operation-|site-|list[ -]|[pfo])\d+")
+NAME = re.compile(r"(?:(?:fact )?facts:|(?:premise )?premise-|operation-|site|list[ -]|[pfo])\d+")
 AS_OF = ("as of the first of two states", "as of SIGQUIT, which ended the program")
 RUNS = (WORK, "a dead message will come to it", "a fact says so", "a message is ready for it",
         "computes", "it came after the first state", "it computes", "it has moved", "it is about to begin",
@@ -94,7 +94,7 @@ class Redaction:
 
     def __init__(self, system: str) -> None:
         self.names, self.sites, self.frames, self.objects, self.facts, self.operations, self.premises = map(
-            Shorts, ("p", "site-", "f", "o", "facts:", "operation-", "premise-"))
+            Shorts, ("p", "site", "f", "o", "facts:", "operation-", "premise-"))
         self.lists: Dict[int, Who] = {}  # by their ids, so that waits share them again
         self.words = {*WORDS, *words_of_premises()}
         self.words.update([system] if {*system.split(" and ")} <= self.words else [])

@@ -7,14 +7,14 @@ import os
 import re
 import shlex
 import textwrap
-from typing import Dict, Iterable, List, NamedTuple, Optional, Set, Tuple
+from typing import Dict, Iterable, List, NamedTuple, Optional, Sequence, Set, Tuple
 
 from .cures import unit_words, words_of
 from .explain import Explanation, number_of
 from .files import short_name, shown
 from .model import Sign, Wakers
 from .rule import Headline
-from .sketch import ALL, ANY, ENDED
+from .sketch import ALL, ANY, ENDED, REST
 from .terminal import AsItIs, fill, painted
 
 WIDTH = 80
@@ -31,9 +31,11 @@ LINES = 10  # before what to do, if there is one group
 # Operations of those that wait for the end or the answer of others, and have nothing themselves that others want.
 FOR_OTHERS = re.compile(r"join|WaitGroup|CountDownLatch|HttpClient|http|sync$|invokeAll|awaitTermination", re.I)
 ADDRESS = re.compile(r"0x0*([0-9a-f]{6,})")
-NOUNS = {"jvm": ("thread", "threads"), "go": ("goroutine", "goroutines"), "mpi": ("rank", "ranks"),
+PROCESSES, THREADS = ("process", "processes"), ("thread", "threads")
+NOUNS = {"jvm": THREADS, "go": ("goroutine", "goroutines"), "mpi": ("rank", "ranks"),
          "rabbitmq": ("service", "services"), "python": ("thread or task", "threads or tasks")}
 COLOURS = {Headline.DEADLOCK: "stuck", Headline.LIKELY: "likely", Headline.NONE: "not_stuck"}
+UNSEEN = "somebody who isn't in the state"
 SAME = "Nothing in a state tells one with nothing to do from one whose message was lost."
 
 
@@ -90,7 +92,14 @@ class Screen:
         return self.this.name(index)[len(self.prefix):]
 
     def noun(self, number: int) -> str:
-        return number_of(number, *NOUNS.get(self.system, ("process", "processes")))
+        return number_of(number, *NOUNS.get(self.system, PROCESSES))
+
+    def noun_of(self, members: Sequence[int]) -> str:
+        """Returns how many some are, and what: of Linux they may be threads of one process."""
+        owners = {self.waits.processes[index].thread.partition("/")[0] for index in members}
+        if self.system == "linux" and members[1:] and len(owners) == 1 and owners != {""}:
+            return number_of(len(members), *THREADS)
+        return self.noun(len(members))
 
     def roots_words(self) -> str:
         """Returns in a sentence or two who waits for whom, of those who are certain, or else of the likely ones."""
@@ -119,11 +128,11 @@ class Screen:
         is_told = self.names_unit and len(units) == 1 and self.system != "rabbitmq"
         where = f" of {self.cures.called(units[0])}" if is_told else ""
         if len(roots) > 1:
-            return f"{len(roots):,} groups wait, each for itself: {self.noun(len(members))}{where} in all"
+            return f"{len(roots):,} groups wait, each for itself: {self.noun_of(members)}{where} in all"
         if len(members) == 1:
             verb = "can" if self.this.is_certain(roots[0]) else "will likely"
             return f"{self.name(members[0])}{where} {verb} never be unblocked"
-        return f"{self.noun(len(members))}{where} wait for each other"
+        return f"{self.noun_of(members)}{where} wait for each other"
 
     def life(self) -> str:
         """Returns whether anybody computes."""
@@ -135,7 +144,7 @@ class Screen:
         if not blocked:
             return f"nobody waits for another one. {self.life()}"
         goes_on = any(process.sign is Sign.GOES_ON for process in self.waits.processes)
-        return f"{self.noun(len(blocked))} {'waits, and is' if len(blocked) == 1 else 'wait, and all are'} freed by " \
+        return f"{self.noun_of(blocked)} {'waits, and is' if len(blocked) == 1 else 'wait, and all are'} freed by " \
             f"{'who goes on' if goes_on else 'one that sleeps'}."
 
     def idle_words(self) -> str:
@@ -144,7 +153,7 @@ class Screen:
 
     def open_words(self) -> str:
         number = len(self.this.undecided)
-        return f"of {self.noun(number)} it isn't known who frees {'it' if number == 1 else 'them'}. {self.life()}"
+        return f"of {self.noun_of(self.this.undecided)} it isn't known who frees {'it' if number == 1 else 'them'}. {self.life()}"
 
     def blocked(self) -> List[int]:
         return [index for index in range(self.waits.number) if self.waits.subjects[index].sign is Sign.BLOCKED]
@@ -176,13 +185,17 @@ class Screen:
     def unless(self, members: List[int]) -> List[str]:
         """Returns the first few doubts on which it hangs that some are stuck."""
         doubts = self.this.doubts_of(members)
-        waits = {name for doubt in doubts for name in doubt.waits}
-        freed = [self.name(index) for index in members if self.waits.processes[index].name in waits]
-        whom = "it" if len(members) == 1 else freed[0] if len(freed) == 1 else "one of them"
-        more = f"one of these, or of {len(doubts) - DOUBTS:,} more" if doubts[DOUBTS:] else ""
+        whom = self.doubted(members)
         lines = [self.numbered(doubt.number, self.this.doubter_words(doubt, self.called, self.width - HEAD))
                  for doubt in doubts[:DOUBTS]]
-        return [f"Unless {whom} is freed by {more}".rstrip(), *lines] if lines else []
+        more = f" any of {len(doubts):,}, such as" if doubts[DOUBTS:] else ""
+        return [f"Unless {whom} is freed by{more}", *lines] if lines else []
+
+    def doubted(self, members: List[int]) -> str:
+        """Returns whose wait it is that somebody may end."""
+        waits = {name for doubt in self.this.doubts_of(members) for name in doubt.waits}
+        freed = [self.name(index) for index in members if self.waits.processes[index].name in waits]
+        return "it" if len(members) == 1 else freed[0] if len(freed) == 1 else "one of them"
 
     def called(self, name: str) -> str:
         """Returns the name of one without what all names begin with."""
@@ -305,7 +318,9 @@ class Screen:
         rows: List[Tuple[int, str, str]] = []  # how many wait, who these are, and for whom
         for index, others in self.this.unknown_ones(NAMES):
             reason = shown(self.this.process(index).why_unknown())
-            words = f"{self.name(index)}{self.place_words(index)}{f': {reason}' if reason else ''}"
+            name = UNSEEN if self.this.process(index).frames == [REST] else \
+                f"{self.name(index)}{self.place_words(index)}"
+            words = f"{name}{f': {reason}' if reason else ''}"
             rows.append((others.number, self.waiting_words(others.number, others.nearest), words))
         followers: Dict[int, List[int]] = {}
         for index, end in self.this.ends().items():
@@ -396,7 +411,8 @@ class Screen:
         return [self.row(word, words) for word, words in rows if words]
 
     def row(self, word: str, words: str) -> str:
-        lines = textwrap.wrap(words, self.width - HEAD, break_on_hyphens=False, break_long_words=False)
+        lines = [line for row in words.split("\n") for line in textwrap.wrap(
+            row, self.width - HEAD, break_on_hyphens=False, break_long_words=False)]
         return AsItIs("\n".join(f"{word if not row else '':<{HEAD}}{line}" for row, line in enumerate(lines)))
 
     def cure_words(self) -> str:
@@ -432,17 +448,25 @@ class Screen:
         if first is None:
             return ""
         doubts = self.this.doubts_of(first)
-        what = {1: "it doesn't", 2: "neither does"}.get(len(doubts), "none does")
+        number = len(doubts)
+        who = {1: "it never", 2: "neither ever"}.get(number, f"none of {'these' if number <= DOUBTS else number} ever")
+        what = f"{who} frees {self.doubted(first)}"
         numbers = ",".join(str(doubt.number) for doubt in doubts)
         if self.more.true is None:
             return f"if {what}, it is certain: --all says how to say so."
-        return f"if {what}: {self.more.true} {numbers}"
+        words, command = f"if {what}:", f"{self.more.true} {numbers}"
+        return f"{words}{' ' if len(words) + len(command) < self.width - HEAD else chr(10)}{command}"
 
     def more_words(self) -> str:
         roots = self.this.roots.roots
         name = [self.waits.processes[roots[0][0]].name] if roots else \
             [self.waits.processes[index].name for index in self.this.undecided[:1]]
-        return " · ".join([self.more.all, *(f"{self.more.why} {quoted(text)}" for text in name)])
+        return "\n".join([self.more.all, *(self.why_words(text) for text in name)])
+
+    def why_words(self, name: str) -> str:
+        """Returns the command that says whom one waits for, whole where it fits into a line."""
+        whole = f"{self.more.why} {quoted(name)}"
+        return whole if len(whole) <= self.width - HEAD else f"{self.more.why} NAME"
 
 
 def prefix_of(names: List[str]) -> str:

@@ -186,7 +186,7 @@ def stall(parts: List[Capture], asked: argparse.Namespace, check: Check = lambda
     """Takes the states, keeps them, and explains them, once they are checked."""
     for part in parts:
         check_needs(part)
-        say(f"{part.system} {' '.join(part.targets)}: {part.warning(asked.seconds)}")
+        say(f"{' '.join([part.system, *part.targets])}: {part.warning(asked.seconds)}")
     with new_folder(asked.output or f"stall-{parts[0].system}-{time.strftime('%Y%m%d-%H%M%S')}") as folder:
         with home_with(asked.cookie_file) as env:
             texts = {name: text for some in take(parts, asked.seconds, env) for name, text in some.items()}
@@ -325,7 +325,7 @@ def more_ways(parts: List[Dict[str, Any]], explanation: Explanation, folder: Fol
         if explanation.is_hidden_by_sleepers() and part["targets"]:
             yield f"Who sleeps may only tick, which a longer look shows: cmh-stall {system} {words} --seconds 60"
         if system == "jvm" and part["targets"] and "--heap" not in part["targets"] and is_open:
-            yield f"{heap_words(explanation)}, and stops the JVM for longer: cmh-stall jvm {words} --heap"
+            yield f"{heap_words(explanation)}, and stops the JVM for longer: cmh-stall jvm {words} --heap --yes"
         if system == "jvm" and part["targets"] and len(parts) == 1 and is_open and waits_outside(explanation):
             yield f"Who is at the other ends of its sockets: cmh-stall jvm {words} --with linux {words}"
         if system == "linux" and status and all(other["system"] != "python" for other in parts):

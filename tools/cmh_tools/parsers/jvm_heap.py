@@ -118,9 +118,9 @@ def waits_for_class(thread: Thread, locks: Locks) -> bool:
 
 
 def is_between(heap: Heap, dumps: List[Dump]) -> bool:
-    """Whether a heap was dumped after one of the states and before the next."""
+    """Whether a heap was dumped after the first of some states and before the next."""
     times = [dump.time for dump in dumps if dump.time]
-    return len(times) == len(dumps) == 2 and times[0][1] <= heap.time <= times[1][0]
+    return len(times) == len(dumps) > 1 and times[0][1] <= heap.time <= times[1][0]
 
 
 class HeapView:
