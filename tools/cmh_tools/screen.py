@@ -153,7 +153,8 @@ class Screen:
 
     def open_words(self) -> str:
         number = len(self.this.undecided)
-        return f"of {self.noun_of(self.this.undecided)} it isn't known who frees {'it' if number == 1 else 'them'}. {self.life()}"
+        whom = "it" if number == 1 else "them"
+        return f"of {self.noun_of(self.this.undecided)} it isn't known who frees {whom}. {self.life()}"
 
     def blocked(self) -> List[int]:
         return [index for index in range(self.waits.number) if self.waits.subjects[index].sign is Sign.BLOCKED]
