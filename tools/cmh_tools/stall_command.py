@@ -414,7 +414,7 @@ def answer(folder: Folder, asked: Optional[argparse.Namespace] = None) -> Explan
     dump, _ = load_noted(folder.read_bytes(path), path, notes_path(path), folder.read_text)
     has_all = asked is not None and (asked.all or asked.why is not None)
     explanation = Explanation(dump, has_all)
-    more = More(f"cmh-stall {called} --all", "--why", f"cmh-stall {called} --true") if asked else BESIDE
+    more = More(*(f"cmh-stall {called} {option}" for option in ("--all", "--why", "--true"))) if asked else BESIDE
     at = None if asked is None or asked.why is None else index_of(dump, asked.why)
     folder.write([(folder.at("answer"), screen(explanation, more))])
     explanation.style = style_of_output()
