@@ -19,7 +19,7 @@ from ..snapshots import APART, Reading
 from . import State
 from .base import Parser, Snapshot, one_line
 from .mariadb_text import Look, Row, looks_of, words_in
-from .sessions import SLACK, Limits, connections_of, end_of_socket, with_limits, words_for
+from .sessions import SLACK, Limits, client_words, connections_of, end_of_socket, with_limits, words_for
 
 LIMITS, TABLES = "session-limits", "named-tables"  # assumptions
 ENDLESS = 100_000_000  # innodb_lock_wait_timeout that stands for no limit
@@ -153,7 +153,7 @@ class MariadbParser(Parser):
         if command == SLEEP and trx is not None:
             limits = tuple(group for setting in ("wait_timeout", "idle_transaction_timeout")
                            for group in self.limit(row, setting, look.limits.get(setting), row["time"]))
-            why = f"sleeps in a transaction for {words_for(row['time'] or 0)}; its client isn't in the state"
+            why = f"sleeps in a transaction for {words_for(row['time'] or 0)}; {client_words(end_of_client(row))}"
             more.update(operation="idle in transaction", note=f"next statement; {why.partition(';')[0]}, begun "
                         f"{words_for(trx['age'] or 0)} ago{client_of(row)}")
             if not is_wanted(trx, look):

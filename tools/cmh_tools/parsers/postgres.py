@@ -18,7 +18,7 @@ from ..snapshots import APART, Reading
 from . import State
 from .base import Parser, Snapshot, one_line
 from .postgres_text import Look, Row, looks_of, seconds_of
-from .sessions import SLACK, Limits, connections_of, end_of_socket, with_limits, words_for
+from .sessions import SLACK, Limits, client_words, connections_of, end_of_socket, with_limits, words_for
 
 DETECTOR = "deadlock detector"
 LIMITS, DISK = "session-limits", "disk"  # assumptions
@@ -215,7 +215,7 @@ class PostgresParser(Parser):
                 parts = any_of(unseen("client"), unseen("to-come"))
                 return rests(name, "has an open transaction", parts, [SYSTEM], **more)
             parts = with_limits(any_of(unseen("client")), self.timeouts(row, look, starts))
-            why = f"{state}{since(row['state_change'], look)}; its client isn't in the state"
+            why = f"{state}{since(row['state_change'], look)}; {client_words(end_of_client(row))}"
             return blocked(name, parts, [SYSTEM, premise(LIMITS)], reason=why, **more)
         if state == IDLE:  # (a notice of another session may come to its client)
             parts = any_of(unseen("client"), unseen("to-come"))
@@ -247,10 +247,14 @@ def is_of_server(row: Row) -> bool:
     return "odd" not in row and row["datname"] is None and row["backend_type"] != "walsender" and not row["blocked_by"]
 
 
+def end_of_client(row: Row) -> str:
+    return end_of_socket(row["client_addr"], row["client_port"])
+
+
 def keys_of(row: Row, look: Look) -> List[str]:
     """Returns what tells the connection of a backend from others: the end of its client, and its own process where that
     is of the machine on which the state was taken."""
-    end = end_of_socket(row["client_addr"], row["client_port"])
+    end = end_of_client(row)
     return [*([end] if end else []), *([f"process {row['backend']} of {look.machine}"] if look.machine else [])]
 
 
@@ -275,7 +279,7 @@ def query_of(row: Row) -> str:
 def note_of(row: Row, look: Look) -> str:
     """Returns what a backend does, for people: its state, since when, its query and its client."""
     start = row["state_change"] if row["state"] in IN_TRANSACTION else row["query_start"]
-    end = end_of_socket(row["client_addr"], row["client_port"])
+    end = end_of_client(row)
     words = [f"{'next statement; ' if row['state'] in IN_TRANSACTION else ''}"
              f"{row['state'] or row['backend_type'] or 'hidden'}{since(start, look)}",
              f"transaction{since(row['xact_start'], look)}" if row["xact_start"] else "",

@@ -47,6 +47,11 @@ def end_of_socket(address: Optional[str], port: Optional[int]) -> str:
     return f"[{address}]:{port}" if ":" in address else f"{address}:{port}"
 
 
+def client_words(end: str) -> str:
+    """Returns in words that a client isn't in the state, which has an end of a connection, and what shows it."""
+    return f"its client{f' at {end}' if end else ''} isn't in the state: take it too, by --with"
+
+
 def connections_of(processes: Dict[str, List[str]]) -> Dict[str, Dict[str, List[str]]]:
     """Returns what a sketch has of connections: by the key of each, the session that serves it."""
     return {key: {"serves": [name]} for name, keys in processes.items() for key in keys}
