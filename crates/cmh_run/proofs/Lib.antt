@@ -1,3 +1,4 @@
+pub mod AskLemmas
 pub mod BetweenLemmas
 pub mod CheckLemmas
 pub mod CheckStateLemmas

@@ -1,4 +1,5 @@
 -- the words of public contracts
+pub mod Asks
 pub mod Check
 pub mod Choices
 pub mod Config
@@ -11,6 +12,7 @@ pub mod Script
 pub mod ScriptProofs
 pub mod Step
 -- the words of private functions
+pub mod Asking
 pub mod CheckState
 pub mod Pending
 pub mod Procs

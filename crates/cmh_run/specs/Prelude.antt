@@ -5,6 +5,8 @@ pub use Rattle.cmh_graph.specs.Graph.{Graph, process_count, is_idle, is_awake, d
 pub use Rattle.cmh_graph.specs.Verdict.{IsDeadlocked, verdicts}
 pub use Rattle.cmh_graph.specs.declared.verdict.Verdict.{Verdict}
 pub use Rattle.cmh_process.specs.declared.message.Message.{Message}
+pub use Rattle.cmh_run.specs.Asking.{asks_at, AskedAt, AsksOn, AsksOnInPart}
+pub use Rattle.cmh_run.specs.Asks.{Ask, asks_of, AskedInPart}
 pub use Rattle.cmh_run.specs.Check.{IsLegalRun, IsFirstCheckFault, HasEnded, IsFlaw}
 pub use Rattle.cmh_run.specs.CheckState.{CheckState, is_waiting, goes_like, Agrees, IsChecked, IsSettled}
 pub use Rattle.cmh_run.specs.Choices.{HasNoHints, chosen_place}

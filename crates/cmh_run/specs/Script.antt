@@ -1,11 +1,12 @@
 -- Scripted hints: what they answer at which ask, and which lines are refused.
-use Rattle.std.specs.Prelude.{◌≡◌, ℕ, ◌≤◌, Bool, false, ◌&&◌, ◌==◌, List, find, slice_get, Option, Some, option_map, unwrap_or}
+use Rattle.std.specs.Prelude.{◌≡◌, ℕ, ◌+◌, ◌-◌, ◌^◌, ◌≤◌, nat_lt, Bool, false, ◌&&◌, ◌==◌, if◌then◌else◌, List, [], ◌∷◌, find, slice_get, Option, Some, None, option_map, unwrap_or}
 use denote.Enum.Bare.{sameb}
 use Rattle.cmh_graph.specs.declared.verdict.Verdict.{Verdict}
 use Rattle.cmh_graph.specs.contracts.verdict.Verdict.{the_type}
 use Rattle.cmh_graph.specs.Graph.{Graph, process_count}
 use Rattle.cmh_run.specs.declared.fault.ScriptFault.{ScriptFault}
 use Rattle.cmh_run.specs.declared.fault.ScriptFault.TheVariants.{ProcessOutOfRange, FalseVerdict, Memory}
+use Rattle.cmh_run.specs.Asks.{Ask}
 use Rattle.cmh_graph.specs.Judge.{IsFirst}
 use Rattle.cmh_graph.specs.Verdict.{IsVerdict}
 
@@ -21,6 +22,19 @@ pub record Script : Type 0 where
 -- what the lines answer at this ask about p
 abbrev pub answer_at : List ScriptLine → ℕ → ℕ → Option Verdict
 answer_at lines ask p = option_map (λ line. line.2) (find (λ line. line.0 == ask && line.1 == p) lines)
+
+-- what a script answers at its next ask, if that is about p
+abbrev pub next_answer : Script → ℕ → Option Verdict
+next_answer s p = if nat_lt s.asked (2 ^ 32 - 1) then answer_at s.lines s.asked p else None
+
+-- the script once it was asked
+abbrev pub once_asked : Script → Script
+once_asked s = record s { asked = if nat_lt s.asked (2 ^ 32 - 1) then s.asked + 1 else s.asked }
+
+-- these asks, one after another, lead from one script to another, and each was answered by its line
+abbrev pub Answers : Script → Script → List Ask → Type 0
+Answers a b [] = a ≡ b
+Answers a b (ask ∷ asks) = (ask.1 ≡ next_answer a ask.0) × Answers (once_asked a) b asks
 
 -- each line has the true verdict of its process
 abbrev pub AreTrueOf : Graph → List ScriptLine → Type 0

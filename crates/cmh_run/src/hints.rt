@@ -1,7 +1,8 @@
 //! What may be asked about a process just before it engages.
 
-ghost use Rattle.std.specs.Prelude.{◌≡◌, ◌<◌, ◌↔◌, ⊤, None, IfSome};
+ghost use Rattle.std.specs.Prelude.{◌≡◌, ◌<◌, ◌↔◌, ⊤, List, [], ◌∷◌, ◌++◌, None, IfSome};
 ghost use Rattle.cmh_graph.specs.Verdict.{IsVerdict};
+ghost use Rattle.cmh_run.specs.Asks.{Ask};
 ghost use Rattle.cmh_run.specs.Prelude.{Graph, process_count};
 
 use cmh_graph::Verdict;
@@ -18,12 +19,16 @@ pub trait Hints {
     /// They never answer.
     ghost is_silent: { Self → Type 0 };
 
+    /// From one state to another they were asked just this, in this order, and answered it so.
+    ghost has_asked: { Self → Self → List Ask → Type 0 };
+
     /// What is known of process `p`, if anything is.
     fn hint(&mut self, p: u32) -> Option<Verdict>
         requires { (g : Graph) × speaks_of self.old g × (p < process_count g) }
         ensures true_verdict { (g : Graph) → speaks_of self.old g → p < process_count g
             → IfSome result (λ v. IsVerdict g p v) }
         ensures silent { is_silent self.old → result ≡ None }
+        ensures asked { has_asked self.old self.new ((p, result) ∷ []) }
         ensures kept { keeps self.old self.new };
 
     ghost keeps_itself: { (h : Self) → keeps h h };
@@ -34,6 +39,11 @@ pub trait Hints {
     ghost keeps_graphs: { (a b : Self) (g : Graph) → keeps a b → speaks_of a g ↔ speaks_of b g };
 
     ghost keeps_silent: { (a b : Self) → keeps a b → is_silent a → is_silent b };
+
+    ghost asks_nothing: { (h : Self) → has_asked h h [] };
+
+    ghost asks_on: { (a b c : Self) (first second : List Ask) → has_asked a b first → has_asked b c second
+        → has_asked a c (first ++ second) };
 }
 
 /// Never answers, and speaks of every graph.
@@ -47,11 +57,14 @@ impl Hints for NoHints {
 
     ghost is_silent = { λ h. ⊤ };
 
+    ghost has_asked = { λ a b asks. ⊤ };
+
     fn hint(&mut self, p: u32) -> Option<Verdict>
         ensures none { result ≡ None }
         ensures true_verdict { (g : Graph) → ⊤ → p < process_count g
             → IfSome result (λ v. IsVerdict g p v) }
         ensures silent { ⊤ → result ≡ None }
+        ensures asked { ⊤ }
         ensures kept { ⊤ }
     {
         None
@@ -64,4 +77,8 @@ impl Hints for NoHints {
     ghost keeps_graphs = { λ a b g x. ((λ y. tt), (λ y. tt)) };
 
     ghost keeps_silent = { λ a b x y. tt };
+
+    ghost asks_nothing = { λ h. tt };
+
+    ghost asks_on = { λ a b c first second x y. tt };
 }

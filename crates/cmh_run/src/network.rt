@@ -1,8 +1,8 @@
 //! One configuration of an initiator's computations, and its steps.
 
-ghost use Rattle.std.specs.Prelude.{◌≡◌, ℕ, List, ◌<◌, ◌^◌, ◌%◌, ◌↔◌, [], None, Option, Some, length, slice_get, IfSome, IfNone, IsNone, IsFalse, IfOk, OnOk, if◌then◌else◌};
+ghost use Rattle.std.specs.Prelude.{◌≡◌, ℕ, List, ◌<◌, ◌^◌, ◌%◌, ◌↔◌, [], None, Option, Some, length, slice_get, IfSome, IfNone, IsNone, IsFalse, IfOk, OnErr, OnOk, if◌then◌else◌};
 ghost use Rattle.cmh_graph.specs.Graph.{dependents_of};
-ghost use Rattle.cmh_run.specs.Prelude.{after_action, after_engagement, after_hint, after_message, asks_hint, blank_config, Config, going_at_start, HintIsFit, is_awake, MayAct, MayReceive, MayStart, nothing_yet, process_count, query, start, without_message};
+ghost use Rattle.cmh_run.specs.Prelude.{after_action, after_engagement, after_hint, after_message, AskedAt, asks_at, asks_hint, blank_config, Config, going_at_start, HintIsFit, is_awake, MayAct, MayReceive, MayStart, nothing_yet, process_count, query, start, without_message};
 
 use crate::pending::Pending;
 use crate::procs::Procs;
@@ -167,6 +167,10 @@ impl<'g> Network<'g> {
             then self.old
             else after_message graph.now initiator self.old message message.kind hint)) }
         ensures silent { H.is_silent hints.old → IfOk result (λ hint. hint ≡ None) }
+        ensures asked { IfOk result (λ hint. H.has_asked hints.old hints.new
+            (asks_at graph.now self.old message hint)) }
+        ensures asked_in_part { OnErr result (AskedAt
+            (H.has_asked hints.old hints.new) graph.now self.old message) }
         ensures kept { H.keeps hints.old hints.new }
     {
         if self.asks(graph, message) {

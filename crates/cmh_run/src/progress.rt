@@ -1,7 +1,7 @@
 //! A run on its way.
 
-ghost use Rattle.std.specs.Prelude.{◌≡◌, ℕ, List, ◌+◌, ◌<◌, ◌≤◌, [], length, IfOk, OnOk, IsTrue, IsFalse, unwrap_or};
-ghost use Rattle.cmh_run.specs.Prelude.{blank_config, HasNoHints, IsAccepted, IsAtEnd, IsNextChoice, IsRunState, IsUnderWay, nothing_yet, RunState};
+ghost use Rattle.std.specs.Prelude.{◌≡◌, ℕ, List, ◌+◌, ◌<◌, ◌≤◌, [], length, IfOk, OnErr, OnOk, IsTrue, IsFalse, unwrap_or};
+ghost use Rattle.cmh_run.specs.Prelude.{AsksOn, AsksOnInPart, blank_config, HasNoHints, IsAccepted, IsAtEnd, IsNextChoice, IsRunState, IsUnderWay, nothing_yet, RunState};
 
 use crate::network::Network;
 use crate::{Delivery, Ending, Hints, Log, RunLog};
@@ -128,6 +128,12 @@ impl<'g, 'a, L: Log> Progress<'g, 'a, L> {
             → IsUnderWay restarts self.old → IsAtEnd restarts self.new) }
         ensures silent { IfOk result (λ more. H.is_silent hints.old
             → HasNoHints self.old.log → HasNoHints self.new.log) }
+        ensures asked { IfOk result (λ more. (restarts : List ℕ) → IsUnderWay restarts self.old
+            → AsksOn (H.has_asked hints.old hints.new) self.old.graph self.old.initiator
+            self.old.log self.new.log) }
+        ensures asked_in_part { OnErr result ((restarts : List ℕ)
+            → IsUnderWay restarts self.old
+            → AsksOnInPart (H.has_asked hints.old hints.new) restarts self.old) }
         ensures kept { H.keeps hints.old hints.new }
     {
         let choice = self.next_choice()?;

@@ -1,7 +1,7 @@
 //! Runs one after another, in memory that is kept from one to the next.
 
-ghost use Rattle.std.specs.Prelude.{◌≡◌, [], Some, ◌*◌, ◌≤◌, ◌↔◌, length, IfOk, IfErr, IsTrue, OnOk, List, ℕ};
-ghost use Rattle.cmh_run.specs.Prelude.{Config, dependency_count, Graph, HasNoHints, IsAccepted, IsAtEnd, IsFirstRunFault, IsRunAnswer, IsRunFault, IsRunState, IsStrictlyIncreasing, IsUnderWay, nothing_yet};
+ghost use Rattle.std.specs.Prelude.{◌≡◌, [], Some, ◌*◌, ◌≤◌, ◌↔◌, length, IfOk, IfErr, IsTrue, OnErr, OnOk, List, ℕ};
+ghost use Rattle.cmh_run.specs.Prelude.{AskedInPart, asks_of, AsksOn, AsksOnInPart, Config, dependency_count, Graph, HasNoHints, IsAccepted, IsAtEnd, IsFirstRunFault, IsRunAnswer, IsRunFault, IsRunState, IsStrictlyIncreasing, IsUnderWay, nothing_yet};
 
 use crate::network::Network;
 use crate::progress::Progress;
@@ -52,6 +52,10 @@ impl<'a> Runner<'a> {
         ensures short { IfOk result (λ r. length r.log ≤ 2 * dependency_count self.old) }
         ensures fault { IfErr result (IsRunFault self.old initiator choices.now []) }
         ensures silent { H.is_silent hints.old → IfOk result (λ r. HasNoHints r.log) }
+        ensures asked { IfOk result (λ r.
+            H.has_asked hints.old hints.new (asks_of self.old initiator r.log)) }
+        ensures asked_in_part { OnErr result (AskedInPart
+            (H.has_asked hints.old hints.new) self.old initiator choices.now []) }
         ensures kept { H.keeps hints.old hints.new }
     {
         self.run_again(alloc, initiator, choices, hints, &[])
@@ -71,6 +75,10 @@ impl<'a> Runner<'a> {
         ensures run { IfOk result (IsRunAnswer self.old initiator choices.now restarts.now) }
         ensures fault { IfErr result (IsRunFault self.old initiator choices.now restarts.now) }
         ensures silent { H.is_silent hints.old → IfOk result (λ r. HasNoHints r.log) }
+        ensures asked { IfOk result (λ r.
+            H.has_asked hints.old hints.new (asks_of self.old initiator r.log)) }
+        ensures asked_in_part { OnErr result (AskedInPart
+            (H.has_asked hints.old hints.new) self.old initiator choices.now restarts.now) }
         ensures kept { H.keeps hints.old hints.new }
     {
         judge(self.graph, initiator, choices, restarts)?;
@@ -145,6 +153,10 @@ fn follow<'g, L: Log, H: Hints>(
     ensures run { IfOk result (λ r.
         IsRunAnswer graph.now initiator choices.now restarts.now r.0) }
     ensures silent { H.is_silent hints.old → IfOk result (λ r. HasNoHints r.0.log) }
+    ensures asked { IfOk result (λ r.
+        H.has_asked hints.old hints.new (asks_of graph.now initiator r.0.log)) }
+    ensures asked_in_part { OnErr result (AskedInPart
+        (H.has_asked hints.old hints.new) graph.now initiator choices.now restarts.now) }
     ensures kept { H.keeps hints.old hints.new }
     ensures blank { IfOk result (λ r. r.1 ≡ nothing_yet graph.now) }
 {
@@ -168,6 +180,12 @@ fn deliver_all<L: Log, H: Hints>(
         → IsUnderWay restarts progress.old → IsAtEnd restarts progress.new) }
     ensures silent { OnOk result (H.is_silent hints.old
         → HasNoHints progress.old.log → HasNoHints progress.new.log) }
+    ensures asked { OnOk result ((restarts : List ℕ) → IsUnderWay restarts progress.old
+        → AsksOn (H.has_asked hints.old hints.new) progress.old.graph progress.old.initiator
+        progress.old.log progress.new.log) }
+    ensures asked_in_part { OnErr result ((restarts : List ℕ)
+        → IsUnderWay restarts progress.old
+        → AsksOnInPart (H.has_asked hints.old hints.new) restarts progress.old) }
     ensures kept { H.keeps hints.old hints.new }
 {
     while progress.deliver_next(hints)? {}

@@ -1,7 +1,7 @@
 //! A run alone: each call makes a `Runner` and a network of its own.
 
-ghost use Rattle.std.specs.Prelude.{◌≡◌, [], ◌*◌, ◌≤◌, length, IfOk, IfErr};
-ghost use Rattle.cmh_run.specs.Prelude.{dependency_count, HasNoHints, IsRunAnswer, IsRunFault};
+ghost use Rattle.std.specs.Prelude.{◌≡◌, [], ◌*◌, ◌≤◌, length, IfOk, IfErr, OnErr};
+ghost use Rattle.cmh_run.specs.Prelude.{AskedInPart, asks_of, dependency_count, HasNoHints, IsRunAnswer, IsRunFault};
 
 use crate::runner::Runner;
 use crate::{Hints, RunFault, RunLog};
@@ -29,6 +29,10 @@ pub fn run_again<H: Hints>(
     ensures run { IfOk result (IsRunAnswer graph.now initiator choices.now restarts.now) }
     ensures fault { IfErr result (IsRunFault graph.now initiator choices.now restarts.now) }
     ensures silent { H.is_silent hints.old → IfOk result (λ r. HasNoHints r.log) }
+    ensures asked { IfOk result (λ r.
+        H.has_asked hints.old hints.new (asks_of graph.now initiator r.log)) }
+    ensures asked_in_part { OnErr result (AskedInPart
+        (H.has_asked hints.old hints.new) graph.now initiator choices.now restarts.now) }
     ensures kept { H.keeps hints.old hints.new }
 {
     Runner::new(graph).run_again(alloc, initiator, choices, hints, restarts)
@@ -48,6 +52,10 @@ pub fn run<H: Hints>(
     ensures short { IfOk result (λ r. length r.log ≤ 2 * dependency_count graph.now) }
     ensures fault { IfErr result (IsRunFault graph.now initiator choices.now []) }
     ensures silent { H.is_silent hints.old → IfOk result (λ r. HasNoHints r.log) }
+    ensures asked { IfOk result (λ r.
+        H.has_asked hints.old hints.new (asks_of graph.now initiator r.log)) }
+    ensures asked_in_part { OnErr result (AskedInPart
+        (H.has_asked hints.old hints.new) graph.now initiator choices.now []) }
     ensures kept { H.keeps hints.old hints.new }
 {
     Runner::new(graph).run(alloc, initiator, choices, hints)

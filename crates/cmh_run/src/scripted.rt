@@ -1,9 +1,9 @@
 //! Hints that are written down before the run, each with the number of the ask that it answers.
 
-ghost use Rattle.std.specs.Prelude.{◌==◌, ◌≡◌, ◌⊎◌, ◌<◌, ◌^◌, ◌-◌, [], None, IfOk, IfErr, IfSome, nat_le, not, position, refl, ◌+◌, nat_lt, if◌then◌else◌, ℕ};
+ghost use Rattle.std.specs.Prelude.{◌==◌, ◌≡◌, ◌⊎◌, ◌<◌, [], ◌∷◌, None, IfOk, IfErr, IfSome, nat_le, not, position, refl, ℕ};
 ghost use Rattle.cmh_graph.specs.Verdict.{IsVerdict};
-ghost use Rattle.cmh_run.specs.Script.{Script, AreTrueOf, IsLineOutOfRange, IsFirstScriptFault, is_listed, answer_at};
-ghost use Rattle.cmh_run.specs.ScriptProofs.{scripts_keep_graphs, scripts_keep_silent};
+ghost use Rattle.cmh_run.specs.Script.{Script, AreTrueOf, IsLineOutOfRange, IsFirstScriptFault, is_listed, answer_at, Answers, next_answer, once_asked};
+ghost use Rattle.cmh_run.specs.ScriptProofs.{scripts_ask_on, scripts_keep_graphs, scripts_keep_silent};
 ghost use Rattle.std.proofs.Common.{◌∙◌};
 ghost use Rattle.cmh_run.specs.Comparisons.{comparing, eq_of_both, laws_of_verdict, of_verdict, on, pointwise, rules};
 ghost use Rattle.cmh_run.specs.Prelude.{Graph, process_count};
@@ -61,16 +61,15 @@ impl Hints for Scripted {
 
     ghost is_silent = { λ s. s.lines ≡ [] };
 
+    ghost has_asked = { Answers };
+
     fn hint(&mut self, p: u32) -> Option<Verdict>
-        ensures answer { result
-            ≡ (if nat_lt self.old.asked (2 ^ 32 - 1)
-            then answer_at self.old.lines self.old.asked p else None) }
-        ensures asked { self.new ≡ record self.old {
-          asked = if nat_lt self.old.asked (2 ^ 32 - 1) then self.old.asked + 1 else self.old.asked;
-        } }
+        ensures answer { result ≡ next_answer self.old p }
+        ensures counts { self.new ≡ once_asked self.old }
         ensures true_verdict { (g : Graph) → AreTrueOf g self.old.lines → p < process_count g
             → IfSome result (λ v. IsVerdict g p v) }
         ensures silent { self.old.lines ≡ [] → result ≡ None }
+        ensures asked { Answers self.old self.new ((p, result) ∷ []) }
         ensures kept { self.old.lines ≡ self.new.lines }
     {
         let ask = self.asked;
@@ -88,6 +87,10 @@ impl Hints for Scripted {
     ghost keeps_graphs = { scripts_keep_graphs };
 
     ghost keeps_silent = { scripts_keep_silent };
+
+    ghost asks_nothing = { λ s. refl };
+
+    ghost asks_on = { scripts_ask_on };
 }
 
 impl PartialEq for Scripted {

@@ -25,11 +25,14 @@ impl Hints for Asked {
 
     ghost is_silent = { λ h. ⊤ };
 
+    ghost has_asked = { λ a b asks. ⊤ };
+
     fn hint(&mut self, p: u32) -> Option<Verdict>
         ensures none { result ≡ None }
         ensures true_verdict { (g : Graph) → ⊤ → p < process_count g
             → IfSome result (λ v. IsVerdict g p v) }
         ensures silent { ⊤ → result ≡ None }
+        ensures asked { ⊤ }
         ensures kept { ⊤ }
     {
         let _ = self.list.push(p);
@@ -43,6 +46,10 @@ impl Hints for Asked {
     ghost keeps_graphs = { λ a b g x. ((λ y. tt), (λ y. tt)) };
 
     ghost keeps_silent = { λ a b x y. tt };
+
+    ghost asks_nothing = { λ h. tt };
+
+    ghost asks_on = { λ a b c first second x y. tt };
 }
 
 /// A run, and the processes that it asks about.

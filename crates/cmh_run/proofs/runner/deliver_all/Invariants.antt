@@ -1,4 +1,5 @@
 use Rattle.cmh_run.proofs.Common.{ℕ, List, ◌+◌, ◌*◌, ◌-◌, length, dependency_count, HasNoHints, MAX_RESTARTS, IsUnderWay}
+use Rattle.cmh_run.specs.Asking.{AsksOn}
 use Rattle.cmh_run.specs.Progress.{IsRunState}
 use Rattle.cmh_run.proofs.runner.deliver_all.Given as goal
 
@@ -8,6 +9,9 @@ invariant-loop g l = record {
   under_way : (restarts : List ℕ) → IsUnderWay restarts l.fn.progress → IsUnderWay restarts l.progress;
   kept : g.H.Hints.keeps l.fn.hints l.hints;
   silent : g.H.Hints.is_silent l.fn.hints → HasNoHints l.fn.progress.log → HasNoHints l.progress.log;
+  asked : (restarts : List ℕ) → IsUnderWay restarts l.fn.progress
+      → AsksOn (g.H.Hints.has_asked l.fn.hints l.hints) l.fn.progress.graph l.fn.progress.initiator
+      l.fn.progress.log l.progress.log;
 }
 
 abbrev pub decreases-loop : goal.decreases-loop

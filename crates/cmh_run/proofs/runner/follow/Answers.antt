@@ -1,4 +1,5 @@
 use Rattle.cmh_run.proofs.Common.{◌∙◌, ap, nothing_yet}
+use Rattle.cmh_run.proofs.AskLemmas.{asked_until, at_refusal}
 use Rattle.cmh_run.proofs.ProgressLemmas.{answer_of, cleared}
 use Rattle.cmh_run.proofs.runner.follow.Goals as goal
 
@@ -21,3 +22,11 @@ returns-clause-blank g c =
     (c.in_ok-deliver_all.ensures.at_end c.args.restarts.now c.in_ok-progress.ensures.under_way)
     c.finish.ensures.network
     ∙ ap nothing_yet (c.in_ok-deliver_all.ensures.same.graph ∙ c.in_ok-progress.ensures.same.graph)
+
+-- what was asked before a refusal is what deliveries ask that begin the run
+pub returns-in_err-deliver_all-clause-asked_in_part : goal.returns-in_err-deliver_all-clause-asked_in_part
+returns-in_err-deliver_all-clause-asked_in_part g c =
+    at_refusal c.from_residual-in_err-deliver_all.result
+    (asked_until _ c.args.graph.now c.args.initiator c.args.choices.now c.args.restarts.now c.in_ok-progress.progress
+    c.in_ok-progress.ensures.same c.in_ok-progress.ensures.log
+    (c.in_err-deliver_all.ensures.asked_in_part c.args.restarts.now c.in_ok-progress.ensures.under_way))

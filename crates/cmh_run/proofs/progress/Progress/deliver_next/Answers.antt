@@ -1,4 +1,5 @@
 use Rattle.cmh_run.proofs.Common.{refl, subst, sym, ◌∙◌, arith, List, Delivery, HasNoHints, RunState}
+use Rattle.cmh_run.proofs.AskLemmas.{asks_before, asks_next, asks_on_before, asks_until, at_refusal}
 use Rattle.cmh_run.proofs.ProgressLemmas.{may_receive, room, next_under_way, no_hints_on, ready_by_choice}
 use Rattle.cmh_run.proofs.progress.Progress.deliver_next.Goals as goal
 
@@ -33,3 +34,33 @@ returns-clause-silent g c q none =
     (no_hints_on _ (record { message = c.in-Some.message; hint = c.in_ok-hint.hint })
     (subst (λ (r : RunState). HasNoHints r.log) (sym (c.self.view_is ∙ c.in_ok-choice.ensures.ready)) none)
     (c.in_ok-hint.ensures.silent q))
+
+-- what was asked before a refusal is what deliveries ask
+pub returns-in_err-hint-clause-asked_in_part : goal.returns-in_err-hint-clause-asked_in_part
+returns-in_err-hint-clause-asked_in_part g c =
+    at_refusal c.from_residual-in_err-hint.result (λ restarts way.
+    let at = ready_by_choice restarts _ _ _ _ way c.in_ok-choice.ensures c.self.view_is in
+    let taken = rw (c.in-Some.is, at.1) at c.in_ok-taken.ensures.taken in
+    let asked = c.in_err-hint.ensures.asked_in_part in
+    asks_before _ restarts _ _ _ (c.self.view_is ∙ c.in_ok-choice.ensures.ready)
+    (asks_until restarts _ at.0 _ c.in-Some.message (c.has_ended.ensures.0 c.if-has_ended.false) taken.0 _ _ taken.1
+    asked.hint asked.asked asked.fit refl))
+
+-- where the log takes no more, what was asked is what deliveries ask
+pub returns-in_err-add-clause-asked_in_part : goal.returns-in_err-add-clause-asked_in_part
+returns-in_err-add-clause-asked_in_part g c =
+    at_refusal c.from_residual-in_err-add.result (λ restarts way.
+    let at = ready_by_choice restarts _ _ _ _ way c.in_ok-choice.ensures c.self.view_is in
+    let taken = rw (c.in-Some.is, at.1) at c.in_ok-taken.ensures.taken in
+    asks_before _ restarts _ _ _ (c.self.view_is ∙ c.in_ok-choice.ensures.ready)
+    (asks_until restarts _ at.0 _ c.in-Some.message (c.has_ended.ensures.0 c.if-has_ended.false) taken.0 _ _ taken.1
+    c.in_ok-hint.hint c.in_ok-hint.ensures.asked c.in_ok-hint.ensures.fit refl))
+
+-- what was asked is what the delivery asks
+pub returns-clause-asked : goal.returns-clause-asked
+returns-clause-asked g c restarts way =
+    let at = ready_by_choice restarts _ _ _ _ way c.in_ok-choice.ensures c.self.view_is in
+    let taken = rw (c.in-Some.is, at.1) at c.in_ok-taken.ensures.taken in
+    asks_on_before _ c.args.self.now _ _ _ (c.self.view_is ∙ c.in_ok-choice.ensures.ready)
+    (asks_next restarts _ at.0 _ c.in-Some.message (c.has_ended.ensures.0 c.if-has_ended.false) taken.0 _ _ taken.1
+    c.in_ok-hint.hint c.in_ok-hint.ensures.asked _ c.in_ok-add.ensures)
