@@ -9,7 +9,7 @@ use Rattle.cmh_rw.specs.declared.view.View.{View}
 use Rattle.cmh_rw.specs.History.{fold_at, EndsLast, IsPosting, IsHistory, IsTrueOf, AreTold}
 use Rattle.cmh_rw.specs.declared.machine.SeatState.TheVariants.{Writing}
 use Rattle.cmh_rw.specs.View.{AfterLoad, view_after_posting, view_after_try, view_after_end}
-use Rattle.cmh_board.specs.Board.{unposted_in, rows_of, with_posting, row_times, Posts}
+use Rattle.cmh_board.specs.Board.{unposted_in, rows_of, with_posting, row_times, loads_to_add, Posts}
 use Rattle.cmh_board.specs.Posting.{PostingValue, IsTruth}
 use Rattle.cmh_board.specs.Adding.{CanPost, IsWriter, OnlyLoads, Stages, Adds}
 use Rattle.cmh_board.proofs.PostingRows.{rows_end, rows_told, true_behind, said_behind, once_behind, history-snoc, length-rows_of}
@@ -22,7 +22,7 @@ new_rows t rows = rows_of t.verdict (unposted_in rows t.processes)
 adds_from : (t : PostingValue) (v a w : View) (found : ℕ) → CanPost v.lock.graph t.verdict t.processes
     → AfterLoad v 1 found a
     → w.seen ≡ a.seen ++ new_rows t a.seen → w.mine ≡ with_posting v.mine (new_rows t a.seen) → w.lock ≡ v.lock
-    → w.staged ≡ [] → a.loads ≤ w.loads → IsHistory w.seen → Adds t v w
+    → w.staged ≡ [] → w.loads + 1 ≡ a.loads + loads_to_add t (new_rows t a.seen) → IsHistory w.seen → Adds t v w
 adds_from t v a w found can h seen mine lock staged loads history =
     let g = v.lock.graph in
     let begins = h.begins.1 in record {
@@ -32,12 +32,12 @@ adds_from t v a w found can h seen mine lock staged loads history =
         new = ap (new_rows t) begins;
         seen = seen ∙ ap (λ l. l ++ new_rows t a.seen) begins;
         mine = mine;
+        loads = (let e = ap (λ (u : View). u.loads) h.view in omega arith);
         once = λ p c. ap (row_times p) seen ∙ once_behind g t.verdict t.processes a.seen h.true_of can p c;
         says = λ p c. ap (λ l. fold_at l p) seen ∙ said_behind g t.verdict t.processes a.seen h.true_of can p c;
       };
       lock = lock;
       staged = staged;
-      loads = (let e = ap (λ (u : View). u.loads) h.view in omega arith);
       whole = history;
       true_of = subst (IsTrueOf g) (sym seen) (true_behind g t.verdict t.processes a.seen h.true_of can);
     }
@@ -45,7 +45,7 @@ adds_from t v a w found can h seen mine lock staged loads history =
 -- where no process of the posting is new, the seat has added it, with no rows
 pub adds_none : (t : PostingValue) (v a b : View) (found : ℕ) → IsWriter v → CanPost v.lock.graph t.verdict t.processes
     → AfterLoad v 1 found a
-    → OnlyLoads a b → length (unposted_in a.seen t.processes) ≡ 0 → Adds t v b
+    → OnlyLoads (length t.processes) a b → length (unposted_in a.seen t.processes) ≡ 0 → Adds t v b
 adds_none t v a b found writer can h loads few =
     let none : new_rows t a.seen ≡ [] = ap (rows_of t.verdict) (nil_from_length (unposted_in a.seen t.processes) few) in
     let seen : b.seen ≡ a.seen ++ new_rows t a.seen =
@@ -54,7 +54,7 @@ adds_none t v a b found writer can h loads few =
     (loads.mine ∙ ap (λ (u : View). u.mine) h.view ∙ ap (with_posting v.mine) (sym none))
     (loads.lock ∙ ap (λ (u : View). u.lock) h.view)
     (loads.staged ∙ ap (λ (u : View). u.staged) h.view ∙ writer.unstaged)
-    loads.loads
+    (let e = loads.loads in let n = ap (loads_to_add t) none in omega arith)
     (subst IsHistory (sym loads.seen) h.whole)
 
 -- a posting with rows is added
@@ -63,10 +63,16 @@ some_posting : (mine : List (List Row)) (d : Verdict) (ps : List ℕ) → 0 < le
 some_posting mine d [] l = absurd (omega arith)
 some_posting mine d (p ∷ ps) l = refl
 
+-- for a posting with rows each verdict is loaded twice
+loads_of_some : (t : PostingValue) (ps : List ℕ) → 0 < length ps
+    → loads_to_add t (rows_of t.verdict ps) ≡ 1 + length t.processes + length t.processes
+loads_of_some t [] l = absurd (omega arith)
+loads_of_some t (p ∷ ps) l = refl
+
 -- where new rows were staged and counted, the seat has added the posting
 pub adds_rows : (t : PostingValue) (v a b s w : View) (found : ℕ) → CanPost v.lock.graph t.verdict t.processes
     → AfterLoad v 1 found a
-    → OnlyLoads a b → Stages t.verdict t.processes b s → w ≡ view_after_posting s → IsPosting s.staged
+    → OnlyLoads (length t.processes) a b → Stages t.verdict t.processes b s → w ≡ view_after_posting s → IsPosting s.staged
     → 0 < length (unposted_in a.seen t.processes)
     → Adds t v w
 adds_rows t v a b s w found can h loads st e posting some =
@@ -81,7 +87,8 @@ adds_rows t v a b s w found can h loads st e posting some =
     ∙ ap (λ r. v.mine ++ r ∷ []) staged ∙ sym (some_posting v.mine t.verdict (unposted_in a.seen t.processes) some))
     (ap (λ (u : View). u.lock) e ∙ st.lock ∙ loads.lock ∙ ap (λ (u : View). u.lock) h.view)
     (ap (λ (u : View). u.staged) e)
-    (let x = ap (λ (u : View). u.loads) e in let y = st.loads in let z = loads.loads in omega arith)
+    (let x = ap (λ (u : View). u.loads) e in let y = st.loads in let z = loads.loads in
+    let n = loads_of_some t (unposted_in a.seen t.processes) some in omega arith)
     (subst IsHistory (sym seen) (history-snoc a.seen rows h.whole (subst IsPosting staged posting)))
 
 -- where some process is new, what is staged for a posting ends with a last row
@@ -115,6 +122,11 @@ can_post g t within truth = record {
   once = truth.once;
 }
 
+-- some word is loaded for each posting
+loads_something : (t : PostingValue) (rows : List Row) → 0 < loads_to_add t rows
+loads_something t [] = omega arith
+loads_something t (r ∷ rs) = omega arith
+
 -- a seat that took the lock, added a posting and ended its hold has posted it
 pub posts_from : (t : PostingValue) (v u a w : View) → u ≡ view_after_try v Writing 0 → Adds t u a → w
     ≡ view_after_end a
@@ -125,8 +137,9 @@ posts_from t v u a w took adds ended =
     let before = ap (λ (x : View). x.seen) took in
     let seen = ap (λ (x : View). x.seen) ended in (
       ap (λ (x : View). x.lock.found) ended ∙ ap (λ l. l.found) lock,
-      (let x = ap (λ (y : View). y.loads) took in let y = adds.loads in
-          let z = ap (λ (y : View). y.loads) ended in omega arith),
+      (let x = ap (λ (y : View). y.loads) took in let y = added.loads in
+          let z = ap (λ (y : View). y.loads) ended in
+          let some = loads_something t added.rows in omega arith),
       record {
         added = record {
           between = added.between;
@@ -135,6 +148,8 @@ posts_from t v u a w took adds ended =
           seen = seen ∙ added.seen ∙ ap (λ l. (l ++ added.between) ++ added.rows) before;
           mine = ap (λ (x : View). x.mine) ended ∙ added.mine
               ∙ ap (λ (x : View). with_posting x.mine added.rows) took;
+          loads = (let x = ap (λ (y : View). y.loads) took in let y = added.loads in
+              let z = ap (λ (y : View). y.loads) ended in omega arith);
           once = λ p c. ap (row_times p) seen ∙ added.once p c;
           says = λ p c. ap (λ l. fold_at l p) seen ∙ added.says p c;
         };
@@ -149,4 +164,5 @@ pub record IsUntouched (v w : View) : Type 0 where
   pub mine : w.mine ≡ v.mine
   pub share : w.lock.share ≡ v.lock.share
   pub graph : w.lock.graph ≡ v.lock.graph
+  pub loads : w.loads ≡ v.loads
   pub tries : v.lock.tries ≤ w.lock.tries

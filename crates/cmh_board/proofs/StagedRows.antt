@@ -24,7 +24,7 @@ use Rattle.cmh_graph.proofs.Verdicts.{filter_contains}
 -- ---- loads in a hold
 
 -- a load in a hold in which words had been loaded changes nothing else that the seat knows
-pub only_load : (v : View) (word found : ℕ) (w : View) → v.loaded ≡ true → AfterLoad v word found w → OnlyLoads v w
+pub only_load : (v : View) (word found : ℕ) (w : View) → v.loaded ≡ true → AfterLoad v word found w → OnlyLoads 1 v w
 only_load v word found w had a = record {
   lock = ap (λ (u : View). u.lock) a.view;
   loaded = ap (λ (u : View). u.loaded) a.view;
@@ -118,7 +118,7 @@ pub record Staging (v : View) (d : Verdict) (ps : List ℕ) (i : ℕ) (w : View)
   pub staged : w.staged ≡ rows_so_far d (done v.seen ps i) (to_come v.seen ps i)
   pub told : w.told ≡ marks d (done v.seen ps i)
   pub mine : w.mine ≡ v.mine
-  pub loads : v.loads ≤ w.loads
+  pub loads : w.loads ≡ v.loads + i
   pub number : n ≡ length v.seen + length (done v.seen ps i)
 
 -- the stored verdicts say nothing of the process at hand
@@ -134,7 +134,7 @@ untold v d ps i w n s once l =
 -- a process that stands in a row is passed over
 pub staging-old : (v : View) (d : Verdict) (ps : List ℕ) (i : ℕ) (w u : View) (n : ℕ) → Staging v d ps i w n
     → i < length ps
-    → is_new v.seen (get_or ps i 0) ≡ false → OnlyLoads w u → Staging v d ps (i + 1) u n
+    → is_new v.seen (get_or ps i 0) ≡ false → OnlyLoads 1 w u → Staging v d ps (i + 1) u n
 staging-old v d ps i w u n s l old a = record {
   lock = a.lock ∙ s.lock;
   loaded = a.loaded;
@@ -149,13 +149,13 @@ staging-old v d ps i w u n s l old a = record {
 
 -- where the process at hand stands in no row, what is staged is open
 staged_open : (v : View) (d : Verdict) (ps : List ℕ) (i : ℕ) (w u : View) (n : ℕ) → Staging v d ps i w n → i < length ps
-    → is_new v.seen (get_or ps i 0) ≡ true → OnlyLoads w u → u.staged ≡ marks d (done v.seen ps i)
+    → is_new v.seen (get_or ps i 0) ≡ true → OnlyLoads 1 w u → u.staged ≡ marks d (done v.seen ps i)
 staged_open v d ps i w u n s l new a =
     a.staged ∙ s.staged ∙ ap (rows_so_far d (done v.seen ps i)) (to_come-new v.seen ps i l new)
 
 -- where the process at hand stands in no row, its row may be staged
 pub can_stage : (v : View) (d : Verdict) (ps : List ℕ) (i : ℕ) (w u : View) (n : ℕ) (last : Bool) → Staging v d ps i w n
-    → CanPost v.lock.graph d ps → i < length ps → is_new v.seen (get_or ps i 0) ≡ true → OnlyLoads w u
+    → CanPost v.lock.graph d ps → i < length ps → is_new v.seen (get_or ps i 0) ≡ true → OnlyLoads 1 w u
     → CanStage u (row (get_or ps i 0) d last)
 can_stage v d ps i w u n last s can l new a =
     let p = get_or ps i 0 in
@@ -173,7 +173,7 @@ can_stage v d ps i w u n last s can l new a =
 
 -- once the row of the process at hand is staged, its verdict may be stored
 pub can_tell : (v : View) (d : Verdict) (ps : List ℕ) (i : ℕ) (w u : View) (n : ℕ) (last : Bool) → Staging v d ps i w n
-    → IsDistinct eqb ps → i < length ps → is_new v.seen (get_or ps i 0) ≡ true → OnlyLoads w u
+    → IsDistinct eqb ps → i < length ps → is_new v.seen (get_or ps i 0) ≡ true → OnlyLoads 1 w u
     → (x : View) → x ≡ with_row u (row (get_or ps i 0) d last) → fold_at x.staged (get_or ps i 0) ≡ Some d
 can_tell v d ps i w u n last s once l new a x e =
     let p = get_or ps i 0 in
@@ -211,7 +211,7 @@ below_end v d ps i w n end s l new e =
 -- the number of the next row is the number of rows that are seen and staged
 pub next_number : (v : View) (d : Verdict) (ps : List ℕ) (i : ℕ) (w u : View) (n : ℕ) → Staging v d ps i w n
     → i < length ps
-    → is_new v.seen (get_or ps i 0) ≡ true → OnlyLoads w u → n ≡ length u.seen + length u.staged
+    → is_new v.seen (get_or ps i 0) ≡ true → OnlyLoads 1 w u → n ≡ length u.seen + length u.staged
 next_number v d ps i w u n s l new a =
     let seen = ap length (a.seen ∙ s.seen) in
     let staged = ap length (staged_open v d ps i w u n s l new a) ∙ length-map (done v.seen ps i) (λ p. mark p d) in
@@ -227,7 +227,7 @@ found_new v d ps i w n b s once l e = sym (e ∙ ap is_none (untold v d ps i w n
 -- a process that stands in no row is done once its row is staged and its verdict is stored
 pub staging-new : (v : View) (d : Verdict) (ps : List ℕ) (i : ℕ) (w u x y : View) (n : ℕ) (last : Bool)
     → Staging v d ps i w n → i < length ps
-    → is_new v.seen (get_or ps i 0) ≡ true → OnlyLoads w u → x ≡ with_row u (row (get_or ps i 0) d last)
+    → is_new v.seen (get_or ps i 0) ≡ true → OnlyLoads 1 w u → x ≡ with_row u (row (get_or ps i 0) d last)
     → y ≡ with_told x (mark (get_or ps i 0) d) → last ≡ is_empty (to_come v.seen ps (i + 1))
     → Staging v d ps (i + 1) y (n + 1)
 staging-new v d ps i w u x y n last s l new a ex ey el =

@@ -1,5 +1,5 @@
 -- What a writer does to add a posting.
-use Rattle.std.specs.Prelude.{◌≡◌, ℕ, nat_eq, ◌<◌, ◌≤◌, IsTrue, true, List, [], map, Contains}
+use Rattle.std.specs.Prelude.{◌≡◌, ℕ, nat_eq, ◌+◌, ◌≤◌, IsTrue, true, List, [], length, map, Contains}
 use Rattle.std.specs.List.{IsDistinct}
 use Rattle.cmh_graph.specs.declared.TheConstants.{MAX_PROCESSES}
 use Rattle.cmh_graph.specs.declared.verdict.Verdict.{Verdict}
@@ -26,34 +26,33 @@ pub record IsWriter (v : View) : Type 0 where
   pub untold : v.told ≡ []
   pub small : process_count v.lock.graph ≤ MAX_PROCESSES
 
--- in a hold that had loaded words, the seat may have loaded more, and nothing else has changed
-pub record OnlyLoads (v w : View) : Type 0 where
+-- in a hold that had loaded words, the seat has loaded this number more, and nothing else has changed
+pub record OnlyLoads (count : ℕ) (v w : View) : Type 0 where
   pub lock : w.lock ≡ v.lock
   pub loaded : w.loaded ≡ true
   pub seen : w.seen ≡ v.seen
   pub staged : w.staged ≡ v.staged
   pub told : w.told ≡ v.told
   pub mine : w.mine ≡ v.mine
-  pub loads : v.loads ≤ w.loads
+  pub loads : w.loads ≡ v.loads + count
 
 -- a row that isn't a last one for each of the processes
 abbrev pub marks : Verdict → List ℕ → List Row
 marks v processes = map (λ p. mark p v) processes
 
--- the rows of all processes that stood in none are staged, and their verdicts are stored
+-- the rows of all processes that stood in none are staged, and their verdicts are stored, by one load for each process
 pub record Stages (v : Verdict) (processes : List ℕ) (old new : View) : Type 0 where
   pub lock : new.lock ≡ old.lock
   pub seen : new.seen ≡ old.seen
   pub staged : new.staged ≡ rows_of v (unposted_in old.seen processes)
   pub told : new.told ≡ marks v (unposted_in old.seen processes)
   pub mine : new.mine ≡ old.mine
-  pub loads : old.loads ≤ new.loads
+  pub loads : new.loads ≡ old.loads + length processes
 
 -- the posting was added in the hold, nothing is staged any more, and the history is still a true one
 pub record Adds (t : PostingValue) (v w : View) : Type 0 where
   pub added : AddsPosting t v w
   pub lock : w.lock ≡ v.lock
   pub staged : w.staged ≡ []
-  pub loads : v.loads < w.loads
   pub whole : IsHistory w.seen
   pub true_of : IsTrueOf v.lock.graph w.seen

@@ -1,5 +1,5 @@
 -- What contracts say of the board and of a seat, and of its calls.
-use Rattle.std.specs.Prelude.{◌≡◌, ◌↔◌, ℕ, ◌+◌, ◌<◌, ◌≤◌, ◌==◌, Bool, true, false, is_none, List, [], ◌∷◌, ◌++◌, filter, count_by, Contains, Some}
+use Rattle.std.specs.Prelude.{◌≡◌, ◌↔◌, ℕ, ◌+◌, ◌<◌, ◌≤◌, ◌==◌, Bool, true, false, is_none, List, [], ◌∷◌, ◌++◌, filter, length, count_by, Contains, Some}
 use Rattle.cmh_graph.specs.declared.verdict.Verdict.{Verdict}
 use Rattle.cmh_graph.specs.Graph.{Graph}
 use Rattle.cmh_rw.specs.declared.TheConstants.{WRITER}
@@ -64,6 +64,10 @@ pub record IsTurnedAway (n : ℕ) (v w : View) : Type 0 where
   pub staged : w.staged ≡ v.staged
   pub loads : w.loads ≡ v.loads
 
+-- where no writer was found, one word was loaded
+abbrev pub LoadsOnce : View → View → Type 0
+LoadsOnce v w = w.lock.found < WRITER → w.loads ≡ v.loads + 1
+
 -- the history is read in one hold, and it is the same at each later reading
 pub record ReadsHistory (v w : View) : Type 0 where
   pub lock : w.lock ≡ v.lock
@@ -99,14 +103,21 @@ with_posting postings (r ∷ rs) = postings ++ (r ∷ rs) ∷ []
 abbrev pub row_times : ℕ → List Row → ℕ
 row_times p rows = count_by (λ r. r.process == p) rows
 
+-- How many words a seat loads to add a posting with these new rows: the number of rows, and the verdict of each
+-- process, which is loaded again where rows are new.
+abbrev pub loads_to_add : PostingValue → List Row → ℕ
+loads_to_add t [] = 1 + length t.processes
+loads_to_add t (r ∷ rs) = 1 + length t.processes + length t.processes
+
 -- Beside what others had added, the rows that came are those of the posting's processes that stood in no row. They are
--- the seat's next posting, if there are any, and each process stands in one row now.
+-- the seat's next posting, if there are any, and each process stands in one row now. It was added once.
 pub record AddsPosting (t : PostingValue) (v w : View) : Type 0 where
   pub between : List Row
   pub rows : List Row
   pub new : rows ≡ rows_of t.verdict (unposted_in (v.seen ++ between) t.processes)
   pub seen : w.seen ≡ (v.seen ++ between) ++ rows
   pub mine : w.mine ≡ with_posting v.mine rows
+  pub loads : w.loads ≡ v.loads + loads_to_add t rows
   pub once : (p : ℕ) → Contains t.processes p → row_times p w.seen ≡ 1
   pub says : (p : ℕ) → Contains t.processes p → fold_at w.seen p ≡ Some t.verdict
 

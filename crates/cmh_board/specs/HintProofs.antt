@@ -1,10 +1,11 @@
--- What hints keep is kept where nothing changes, and from one change to the next. These proofs stand among the
+-- What hints keep is kept where nothing changes, and from one change to the next, and looks go on. These proofs stand among the
 -- definitions, since code can cite no others of its own crate.
-use Rattle.std.proofs.Common.{[], ◌++◌, refl, sym, ap, ◌∙◌, append-nil, append_assoc}
+use Rattle.std.proofs.Common.{List, [], ◌∷◌, ◌++◌, refl, subst, sym, ap, ◌∙◌, append-nil, append_assoc}
+use Rattle.cmh_run.specs.Asks.{Ask}
 use Rattle.cmh_rw.specs.declared.view.View.{View}
 use Rattle.cmh_board.specs.declared.hints.BoardHints.{BoardHints}
 use Rattle.cmh_board.specs.Board.{board_view, SeesMore}
-use Rattle.cmh_board.specs.Hints.{Keeps}
+use Rattle.cmh_board.specs.Hints.{Keeps, Looks}
 
 -- where nothing has changed, a seat has seen all that it had seen
 sees_itself : (v : View) → SeesMore v v
@@ -46,3 +47,9 @@ keeps_on a b c x y = record {
   state = x.state ∙ y.state;
   speaks = λ g. (λ s. (y.speaks g).0 ((x.speaks g).0 s), λ s. (x.speaks g).1 ((y.speaks g).1 s));
 }
+
+-- looks one after another, and others after these, are looks one after another
+pub looks_on : (u v w : View) (first second : List Ask) → Looks u v first → Looks v w second
+    → Looks u w (first ++ second)
+looks_on u v w [] second x y = subst (λ (t : View). Looks t w second) (sym x) y
+looks_on u v w (ask ∷ first) second x y = (x.0, x.1, looks_on x.0 v w first second x.2 y)

@@ -53,13 +53,13 @@ pub enum Post {
 }
 
 impl Board {
-    ghost use Rattle.std.specs.Prelude.{◌≡◌, ◌≤◌, ◌<◌, ℕ, IfOk, IfErr, IfSome, IfNone, length, true, [], vec_capacity, slice_get, Some, None};
+    ghost use Rattle.std.specs.Prelude.{◌≡◌, ◌≤◌, ◌<◌, ◌+◌, ℕ, IfOk, IfErr, IfSome, IfNone, length, true, [], vec_capacity, slice_get, Some, None};
     ghost use Rattle.cmh_graph.specs.Graph.{process_count};
     ghost use Rattle.cmh_rw.specs.declared.TheConstants.{MAX_SEATS, WRITER};
     ghost use Rattle.cmh_rw.specs.History.{StartsWith, fold_at, IsHistory, IsTrueOf};
     ghost use Rattle.cmh_rw.specs.declared.machine.SeatState.TheVariants.{Away};
     ghost use Rattle.cmh_rw.specs.View.{opening_view, view_after_try, view_less_one, newcomer_view, joined_view, view_after_end};
-    ghost use Rattle.cmh_board.specs.Board.{board_view, board_graph, SitsAt, IsAway, IsHolding, SeesMore, TriesOnce, IsRead, IsTurnedAway, ReadsHistory, Posts, ExplainsReadFault, IsMadeOf};
+    ghost use Rattle.cmh_board.specs.Board.{board_view, board_graph, SitsAt, IsAway, IsHolding, SeesMore, TriesOnce, IsRead, IsTurnedAway, LoadsOnce, ReadsHistory, Posts, ExplainsReadFault, IsMadeOf};
     ghost use Rattle.cmh_graph.specs.declared.verdict.Verdict.{Verdict};
     ghost use Rattle.cmh_graph.specs.Verdict.{IsVerdict};
     ghost use Rattle.cmh_board.specs.Posting.{IsTruth};
@@ -125,6 +125,7 @@ impl Board {
             × (fold_at (board_view seat.new).seen p ≡ None) }
         ensures busy { (n : ℕ) → result ≡ Look.Busy n
             → IsTurnedAway n (board_view seat.old) (board_view seat.new) }
+        ensures once { LoadsOnce (board_view seat.old) (board_view seat.new) }
         ensures true_verdict { (v : Verdict) → result ≡ Look.Known v
             → IsVerdict (board_graph self.now) p v }
     {
@@ -164,6 +165,7 @@ impl Board {
         ensures sits { SitsAt self.now seat.new }
         ensures sees { SeesMore (board_view seat.old) (board_view seat.new) }
         ensures reads { ReadsHistory (board_view seat.old) (board_view seat.new) }
+        ensures once { (board_view seat.new).loads ≡ (board_view seat.old).loads + 1 }
         ensures answer { result ≡ fold_at (board_view seat.new).seen p }
         ensures true_verdict { IfSome result (λ v. IsVerdict (board_graph self.now) p v) }
     {

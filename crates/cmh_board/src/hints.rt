@@ -1,13 +1,11 @@
 //! The board as hints of a run.
 
-ghost use Rattle.std.specs.Prelude.{◌≡◌, ◌<◌, ◌≤◌, IfSome, None};
+ghost use Rattle.std.specs.Prelude.{◌≡◌, ◌<◌, [], ◌∷◌, IfSome, None, refl};
 ghost use Rattle.cmh_graph.specs.Graph.{Graph, process_count};
 ghost use Rattle.cmh_graph.specs.Verdict.{IsVerdict};
-ghost use Rattle.cmh_rw.specs.declared.TheConstants.{WRITER};
-ghost use Rattle.cmh_rw.specs.History.{fold_at};
-ghost use Rattle.cmh_board.specs.Board.{board_view, board_graph, SitsAt, IsAway, TriesOnce};
-ghost use Rattle.cmh_board.specs.Hints.{SpeaksOf, Keeps};
-ghost use Rattle.cmh_board.specs.HintProofs.{keeps_itself, keeps_on};
+ghost use Rattle.cmh_board.specs.Board.{board_view, board_graph, SitsAt, IsAway};
+ghost use Rattle.cmh_board.specs.Hints.{SpeaksOf, Keeps, IsLook, Looks};
+ghost use Rattle.cmh_board.specs.HintProofs.{keeps_itself, keeps_on, looks_on};
 
 use crate::{Board, BoardSeat, Look};
 use cmh_graph::Verdict;
@@ -42,20 +40,18 @@ impl<'a> Hints for BoardHints<'a> {
     /// The board may always answer.
     ghost is_silent = { λ h. ⊥ };
 
+    ghost has_asked = { λ a b asks. Looks (board_view a.seat.now) (board_view b.seat.now) asks };
+
     /// One look. Where another seat was posting there is no answer, and nothing more was seen.
     fn hint(&mut self, p: u32) -> Option<Verdict>
         requires { (g : Graph) × SpeaksOf self.old g × (p < process_count g) }
-        ensures tried { TriesOnce (board_view self.old.seat.now) (board_view self.new.seat.now) }
-        ensures answer { (board_view self.new.seat.now).lock.found < WRITER
-            → result ≡ fold_at (board_view self.new.seat.now).seen p }
-        ensures loads { (board_view self.new.seat.now).lock.found < WRITER
-            → (board_view self.old.seat.now).loads < (board_view self.new.seat.now).loads }
-        ensures busy { WRITER ≤ (board_view self.new.seat.now).lock.found → result ≡ None }
-        ensures unseen { WRITER ≤ (board_view self.new.seat.now).lock.found
-            → (board_view self.new.seat.now).seen ≡ (board_view self.old.seat.now).seen }
+        ensures look { IsLook
+            (board_view self.old.seat.now) (board_view self.new.seat.now) p result }
         ensures true_verdict { (g : Graph) → SpeaksOf self.old g → p < process_count g
             → IfSome result (λ v. IsVerdict g p v) }
         ensures silent { ⊥ → result ≡ None }
+        ensures asked { Looks
+            (board_view self.old.seat.now) (board_view self.new.seat.now) ((p, result) ∷ []) }
         ensures kept { Keeps self.old self.new }
     {
         match self.board.look(self.seat, p) {
@@ -71,4 +67,9 @@ impl<'a> Hints for BoardHints<'a> {
     ghost keeps_graphs = { λ a b g k. k.speaks g };
 
     ghost keeps_silent = { λ a b k never. never };
+
+    ghost asks_nothing = { λ h. refl };
+
+    ghost asks_on = { λ a b c first second x y. looks_on
+        (board_view a.seat.now) (board_view b.seat.now) (board_view c.seat.now) first second x y };
 }

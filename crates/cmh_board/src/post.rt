@@ -40,7 +40,7 @@ fn count_unposted(words: &RwWords, seat: &mut RwSeat, processes: &[u32]) -> usiz
     requires idle { (p : ℕ) → Contains processes.now p
         → IsTrue (is_idle (rw_view seat.old).lock.graph p) }
     ensures own { IsSeatOf words.now seat.new }
-    ensures loads { OnlyLoads (rw_view seat.old) (rw_view seat.new) }
+    ensures loads { OnlyLoads (length processes.now) (rw_view seat.old) (rw_view seat.new) }
     ensures count { result ≡ length (unposted_in (rw_view seat.old).seen processes.now) }
 {
     let mut count = 0;
@@ -88,7 +88,7 @@ fn is_unposted(words: &RwWords, seat: &mut RwSeat, p: u32) -> bool
     requires loaded { (rw_view seat.old).loaded ≡ true }
     requires process { p < MAX_PROCESSES }
     ensures own { IsSeatOf words.now seat.new }
-    ensures loads { OnlyLoads (rw_view seat.old) (rw_view seat.new) }
+    ensures loads { OnlyLoads 1 (rw_view seat.old) (rw_view seat.new) }
     ensures answer { result
         ≡ is_none (fold_at ((rw_view seat.old).seen ++ (rw_view seat.old).told) p) }
 {

@@ -4,7 +4,7 @@ use Rattle.cmh_rw.specs.History.{fold_at}
 use Rattle.cmh_rw.specs.Seats.{rw_view}
 use Rattle.cmh_rw.proofs.Folds.{true-few}
 use Rattle.cmh_board.specs.Board.{unposted_in}
-use Rattle.cmh_board.specs.Adding.{Stages}
+use Rattle.cmh_board.specs.Adding.{OnlyLoads, Stages}
 use Rattle.cmh_board.proofs.Lists.{length-filter-le}
 use Rattle.cmh_board.proofs.AddingLemmas.{adds_none, adds_rows, staged_ends, staged_told, staged_number}
 use Rattle.cmh_board.proofs.post.add_posting.Goals as goal
@@ -53,9 +53,11 @@ returns-then-new-gt0-clause-adds c =
     let some : 0 < length (unposted_in (rw_view c.load-count.new.seat).seen c.args.posting.now.processes) =
     subst (λ ps. 0 < length (unposted_in (rw_view c.load-count.new.seat).seen ps)) c.processes-processes.ensures
     (omega (arith, c.if-new-gt0.true, c.count_unposted-new.ensures.count)) in
+    let loads = subst (λ ps. OnlyLoads (length ps) (rw_view c.load-count.new.seat) counted) c.processes-processes.ensures
+    c.count_unposted-new.ensures.loads in
     adds_rows c.args.posting.now (rw_view c.args.seat.now) (rw_view c.load-count.new.seat) counted staged
     (rw_view c.store_count.new.seat)
-    c.load-count.result c.requires.can c.load-count.ensures.loaded c.count_unposted-new.ensures.loads stages
+    c.load-count.result c.requires.can c.load-count.ensures.loaded loads stages
     c.store_count.ensures.posted c.store_count.ensures.posting some
 
 pub returns-else-new-gt0-clause-adds : goal.returns-else-new-gt0-clause-adds
@@ -63,7 +65,9 @@ returns-else-new-gt0-clause-adds c =
     let none : length (unposted_in (rw_view c.load-count.new.seat).seen c.args.posting.now.processes) ≡ 0 =
     subst (λ ps. length (unposted_in (rw_view c.load-count.new.seat).seen ps) ≡ 0) c.processes-processes.ensures
     (omega (arith, c.if-new-gt0.false, c.count_unposted-new.ensures.count)) in
+    let loads = subst (λ ps. OnlyLoads (length ps) (rw_view c.load-count.new.seat) (rw_view c.count_unposted-new.new.seat))
+    c.processes-processes.ensures c.count_unposted-new.ensures.loads in
     adds_none c.args.posting.now (rw_view c.args.seat.now) (rw_view c.load-count.new.seat)
     (rw_view c.count_unposted-new.new.seat)
-    c.load-count.result c.requires.writer c.requires.can c.load-count.ensures.loaded c.count_unposted-new.ensures.loads
+    c.load-count.result c.requires.writer c.requires.can c.load-count.ensures.loaded loads
     none

@@ -6,5 +6,5 @@ use Rattle.cmh_board.proofs.post.count_unposted.Given as goal
 
 abbrev pub invariant-loop-p : goal.invariant-loop-p
 invariant-loop-p l =
-    IsSeatOf l.words l.seat × OnlyLoads (rw_view l.fn.seat) (rw_view l.seat)
+    IsSeatOf l.words l.seat × OnlyLoads l.p-index (rw_view l.fn.seat) (rw_view l.seat)
     × (l.count ≡ length (unposted_in (rw_view l.fn.seat).seen (take l.p-index l.processes)))
