@@ -51,10 +51,10 @@ pub record SeesMore (v w : View) : Type 0 where
 abbrev pub TriesOnce : View → View → Type 0
 TriesOnce v w = w.lock.tries ≡ v.lock.tries + 1
 
--- no writer was found, and words were loaded
-pub record IsRead (v w : View) : Type 0 where
+-- no writer was found, and this number of words was loaded
+pub record IsRead (count : ℕ) (v w : View) : Type 0 where
   pub found : w.lock.found < WRITER
-  pub loads : v.loads < w.loads
+  pub loads : w.loads ≡ v.loads + count
 
 -- a writer was found, by this lock word, and nothing was seen
 pub record IsTurnedAway (n : ℕ) (v w : View) : Type 0 where
@@ -64,16 +64,12 @@ pub record IsTurnedAway (n : ℕ) (v w : View) : Type 0 where
   pub staged : w.staged ≡ v.staged
   pub loads : w.loads ≡ v.loads
 
--- where no writer was found, one word was loaded
-abbrev pub LoadsOnce : View → View → Type 0
-LoadsOnce v w = w.lock.found < WRITER → w.loads ≡ v.loads + 1
-
--- the history is read in one hold, and it is the same at each later reading
-pub record ReadsHistory (v w : View) : Type 0 where
+-- this number of words of the history is loaded in one hold, and the history is the same at each later load
+pub record ReadsHistory (count : ℕ) (v w : View) : Type 0 where
   pub lock : w.lock ≡ v.lock
   pub loaded : w.loaded ≡ true
   pub same : v.loaded ≡ true → w.seen ≡ v.seen
-  pub loads : v.loads < w.loads
+  pub loads : w.loads ≡ v.loads + count
 
 -- why the whole board wasn't read: a writer was found, or memory was refused before any try
 abbrev pub ExplainsReadFault : View → View → BoardFault → Type 0

@@ -59,7 +59,7 @@ impl Board {
     ghost use Rattle.cmh_rw.specs.History.{StartsWith, fold_at, IsHistory, IsTrueOf};
     ghost use Rattle.cmh_rw.specs.declared.machine.SeatState.TheVariants.{Away};
     ghost use Rattle.cmh_rw.specs.View.{opening_view, view_after_try, view_less_one, newcomer_view, joined_view, view_after_end};
-    ghost use Rattle.cmh_board.specs.Board.{board_view, board_graph, SitsAt, IsAway, IsHolding, SeesMore, TriesOnce, IsRead, IsTurnedAway, LoadsOnce, ReadsHistory, Posts, ExplainsReadFault, IsMadeOf};
+    ghost use Rattle.cmh_board.specs.Board.{board_view, board_graph, SitsAt, IsAway, IsHolding, SeesMore, TriesOnce, IsRead, IsTurnedAway, ReadsHistory, Posts, ExplainsReadFault, IsMadeOf};
     ghost use Rattle.cmh_graph.specs.declared.verdict.Verdict.{Verdict};
     ghost use Rattle.cmh_graph.specs.Verdict.{IsVerdict};
     ghost use Rattle.cmh_board.specs.Posting.{IsTruth};
@@ -118,14 +118,13 @@ impl Board {
         ensures sees { SeesMore (board_view seat.old) (board_view seat.new) }
         ensures tried { TriesOnce (board_view seat.old) (board_view seat.new) }
         ensures known { (v : Verdict) → result ≡ Look.Known v
-            → IsRead (board_view seat.old) (board_view seat.new)
+            → IsRead 1 (board_view seat.old) (board_view seat.new)
             × (fold_at (board_view seat.new).seen p ≡ Some v) }
         ensures unknown { result ≡ Look.Unknown
-            → IsRead (board_view seat.old) (board_view seat.new)
+            → IsRead 1 (board_view seat.old) (board_view seat.new)
             × (fold_at (board_view seat.new).seen p ≡ None) }
         ensures busy { (n : ℕ) → result ≡ Look.Busy n
             → IsTurnedAway n (board_view seat.old) (board_view seat.new) }
-        ensures once { LoadsOnce (board_view seat.old) (board_view seat.new) }
         ensures true_verdict { (v : Verdict) → result ≡ Look.Known v
             → IsVerdict (board_graph self.now) p v }
     {
@@ -164,8 +163,7 @@ impl Board {
         requires process { p < process_count (board_graph self.now) }
         ensures sits { SitsAt self.now seat.new }
         ensures sees { SeesMore (board_view seat.old) (board_view seat.new) }
-        ensures reads { ReadsHistory (board_view seat.old) (board_view seat.new) }
-        ensures once { (board_view seat.new).loads ≡ (board_view seat.old).loads + 1 }
+        ensures reads { ReadsHistory 1 (board_view seat.old) (board_view seat.new) }
         ensures answer { result ≡ fold_at (board_view seat.new).seen p }
         ensures true_verdict { IfSome result (λ v. IsVerdict (board_graph self.now) p v) }
     {
@@ -237,7 +235,8 @@ impl Board {
         ensures sees { SeesMore (board_view seat.old) (board_view seat.new) }
         ensures tried { IfOk result (λ snap.
             TriesOnce (board_view seat.old) (board_view seat.new)) }
-        ensures read { IfOk result (λ snap. IsRead (board_view seat.old) (board_view seat.new)) }
+        ensures read { IfOk result (λ snap. IsRead (1 + process_count (board_graph self.now))
+            (board_view seat.old) (board_view seat.new)) }
         ensures shows { IfOk result (λ snap. (p : ℕ)
             → verdict_at snap p ≡ fold_at (board_view seat.new).seen p) }
         ensures true_verdicts { IfOk result (λ snap.
@@ -263,7 +262,8 @@ impl Board {
         ensures sees { SeesMore (board_view seat.old) (board_view seat.new) }
         ensures tried { IfOk result (λ rows.
             TriesOnce (board_view seat.old) (board_view seat.new)) }
-        ensures read { IfOk result (λ rows. IsRead (board_view seat.old) (board_view seat.new)) }
+        ensures read { IfOk result (λ rows. IsRead (1 + length rows.items)
+            (board_view seat.old) (board_view seat.new)) }
         ensures whole { IfOk result (λ rows. rows.items ≡ (board_view seat.new).seen) }
         ensures fault { IfErr result
             (ExplainsReadFault (board_view seat.old) (board_view seat.new)) }
@@ -305,7 +305,7 @@ impl Board {
         requires holding { IsHolding seat.old }
         ensures sits { SitsAt self.now seat.new }
         ensures sees { SeesMore (board_view seat.old) (board_view seat.new) }
-        ensures reads { ReadsHistory (board_view seat.old) (board_view seat.new) }
+        ensures reads { ReadsHistory 1 (board_view seat.old) (board_view seat.new) }
         ensures count { result ≡ length (board_view seat.new).seen }
     {
         self.words.load(&mut seat.seat, ROW_COUNT) as usize
@@ -319,7 +319,8 @@ impl Board {
         requires room { process_count (board_graph self.now) ≤ vec_capacity verdicts.old }
         ensures sits { SitsAt self.now seat.new }
         ensures sees { SeesMore (board_view seat.old) (board_view seat.new) }
-        ensures reads { ReadsHistory (board_view seat.old) (board_view seat.new) }
+        ensures reads { ReadsHistory (1 + process_count (board_graph self.now))
+            (board_view seat.old) (board_view seat.new) }
         ensures shows { (p : ℕ)
             → verdict_at verdicts.new.items p ≡ fold_at (board_view seat.new).seen p }
     {
@@ -338,7 +339,8 @@ impl Board {
         requires room { process_count (board_graph self.now) ≤ vec_capacity rows.old }
         ensures sits { SitsAt self.now seat.new }
         ensures sees { SeesMore (board_view seat.old) (board_view seat.new) }
-        ensures reads { ReadsHistory (board_view seat.old) (board_view seat.new) }
+        ensures reads { ReadsHistory (1 + length rows.new.items)
+            (board_view seat.old) (board_view seat.new) }
         ensures whole { rows.new.items ≡ (board_view seat.new).seen }
     {
         let count = self.held_count(seat);
@@ -356,7 +358,7 @@ impl Board {
         requires there { n < length (board_view seat.old).seen }
         ensures sits { SitsAt self.now seat.new }
         ensures sees { SeesMore (board_view seat.old) (board_view seat.new) }
-        ensures reads { ReadsHistory (board_view seat.old) (board_view seat.new) }
+        ensures reads { ReadsHistory 1 (board_view seat.old) (board_view seat.new) }
         ensures row { slice_get (board_view seat.new).seen n ≡ Some result }
     {
         let code = self.words.load(&mut seat.seat, FIRST_ROW + n);

@@ -23,7 +23,8 @@ loop-n-preserved c =
     let old = (board_view c.loop-n.seat).seen in
     let new = (board_view c.held_row-row.new.seat).seen in
     let same : new ≡ old = row.reads.same held.reads.loaded in (
-      held_on c.args.self.now c.args.seat.now c.loop-n.seat c.held_row-row.new.seat held row.sits row.sees row.reads,
+      held_on _ _ c.args.self.now c.args.seat.now c.loop-n.seat c.held_row-row.new.seat (omega arith) held row.sits
+          row.sees row.reads,
       c.loop-n.invariant.1 ∙ ap length (sym same),
       c.push_reserved.ensures.items
           ∙ ap (λ l. l ++ c.held_row-row.result ∷ []) (c.loop-n.invariant.2 ∙ ap (take c.loop-n.n) (sym same))

@@ -24,7 +24,8 @@ loop-p-preserved c =
     let old = (board_view c.loop-p.seat).seen in
     let new = (board_view c.held_verdict.new.seat).seen in
     let same : new ≡ old = look.reads.same held.reads.loaded in (
-      held_on c.args.self.now c.args.seat.now c.loop-p.seat c.held_verdict.new.seat held look.sits look.sees look.reads,
+      held_on _ _ c.args.self.now c.args.seat.now c.loop-p.seat c.held_verdict.new.seat (omega arith) held look.sits
+          look.sees look.reads,
       c.push_reserved.ensures.items ∙ ap (λ v. c.loop-p.verdicts.items ++ v ∷ []) look.answer
           ∙ verdicts_more new c.loop-p.verdicts.items c.loop-p.p
           (c.loop-p.invariant.1 ∙ ap (λ l. map (fold_at l) (range_with_len 0 c.loop-p.p)) (sym same)),
