@@ -1,9 +1,13 @@
 -- What was found accounts for what a seat added: with each finding, after a join, and at the close.
-use Rattle.std.proofs.Common.{◌≡◌, ◌⊎◌, ℕ, zero, suc, List, [], ◌∷◌, ◌++◌, append_assoc, All, get_or, Some, sym, refl, ap, ◌∙◌, subst, arith, inl, inr, ⊎_elim}
-use Rattle.std.specs.Prelude.{Contains, slice_get}
-use Rattle.std.proofs.lemmas.Option.{slice_get_within, get_or_from_slice_get}
+use Rattle.std.proofs.Common.{◌≡◌, ◌⊎◌, ℕ, ◌<◌, ltb, Option, None, zero, suc, List, [], ◌∷◌, ◌++◌, append_assoc, All, get_or, Some, sym, refl, ap, ◌∙◌, subst, arith, inl, inr, ⊎_elim}
+use Rattle.std.specs.Prelude.{Contains, IfSome, slice_get}
+use Rattle.std.proofs.lemmas.Bool.{cases_Bool, ltb-true, ltb-false}
+use Rattle.std.proofs.lemmas.Option.{none-some, slice_get_within, get_or_from_slice_get}
 use Rattle.std.proofs.lemmas.List.Elements.{All-append, Contains-append_left, Contains-append_right}
 use Rattle.cmh_graph.specs.Graph.{Graph}
+use Rattle.cmh_graph.specs.declared.verdict.Verdict.{Verdict}
+use Rattle.cmh_run.specs.Asks.{Ask, asks_of}
+use Rattle.cmh_rw.specs.declared.TheConstants.{WRITER}
 use Rattle.cmh_run.specs.declared.delivery.Ending.{Ending}
 use Rattle.cmh_run.specs.declared.delivery.Ending.TheVariants.{Declared, AtRest, CutFree}
 use Rattle.cmh_graph.specs.Verdict.{IsVerdict}
@@ -11,10 +15,11 @@ use Rattle.cmh_run.specs.Run.{Run, TellsTruth, verdict_of}
 use Rattle.cmh_rw.specs.declared.row.Row.{Row}
 use Rattle.cmh_rw.specs.declared.view.View.{View}
 use Rattle.cmh_rw.specs.History.{StartsWith, fold_at}
-use Rattle.cmh_board.specs.Board.{SeesMore, AddsPosting, with_posting}
+use Rattle.cmh_board.specs.Board.{SeesMore, Posts, with_posting}
+use Rattle.cmh_board.specs.Hints.{IsLook, Looks}
 use Rattle.cmh_board.specs.Posting.{posting_of, spoken_of}
 use Rattle.cmh_work.specs.declared.finding.Finding.{Finding}
-use Rattle.cmh_work.specs.Record.{IsRunFor}
+use Rattle.cmh_work.specs.Record.{AreAnsweredBy, IsRunFor, StandsAfterHints}
 use Rattle.cmh_work.specs.Finding.{IsAnswered, IsSound, AddsOneOf, IsExplained, AreExplained, Accounts}
 use Rattle.cmh_rw.proofs.Postings.{starts_same}
 use Rattle.cmh_work.proofs.Rows.{starts_trans, fold_more}
@@ -38,20 +43,65 @@ next_posting : (mine more : List (List Row)) (rows : List Row) → more ≡ with
 next_posting mine more [] e = inl e
 next_posting mine more (r ∷ rs) e = inr e
 
+-- rows that begin with others have the answers that those have
+answered_more : (a b : List Row) (asks : List Ask) → StartsWith a b → AreAnsweredBy b asks → AreAnsweredBy a asks
+answered_more a b [] h k = tt
+answered_more a b ((p, None) ∷ asks) h k = (tt, answered_more a b asks h k.1)
+answered_more a b ((p, Some x) ∷ asks) h k = (fold_more a b p x h k.0, answered_more a b asks h k.1)
+
+-- what a seat has seen after looks begins with what it had seen
+looks_see : (v w : View) (asks : List Ask) → Looks v w asks → StartsWith w.seen v.seen
+looks_see v w [] e = subst (λ (u : View). StartsWith u.seen v.seen) e (starts_same v.seen)
+looks_see v w (ask ∷ asks) (u, look, rest) =
+    starts_trans w.seen u.seen v.seen (looks_see u w asks rest) look.sees.seen
+
+-- what a look answers stands in what is seen
+look_stands : (v u : View) (p : ℕ) (answer : Option Verdict) (x : Verdict) → answer ≡ Some x → IsLook v u p answer
+    → fold_at u.seen p ≡ Some x
+look_stands v u p answer x e look = elim (cases_Bool (ltb u.lock.found WRITER)) [
+  | inl below ↦ sym (look.read (ltb-true u.lock.found WRITER below)).1 ∙ e
+  | inr above ↦
+      let none = (look.busy (omega (arith, ltb-false u.lock.found WRITER above))).2 in
+      absurd (none-some x (sym none ∙ e))
+]
+
+-- what looks answer stands in what is seen after them
+looks_answer : (v w : View) (asks : List Ask) → Looks v w asks → AreAnsweredBy w.seen asks
+looks_answer v w [] e = tt
+looks_answer v w ((p, None) ∷ asks) (u, look, rest) = (tt, looks_answer u w asks rest)
+looks_answer v w ((p, Some x) ∷ asks) (u, look, rest) = (
+  fold_more w.seen u.seen p x (looks_see u w asks rest) (look_stands v u p (Some x) x refl look),
+  looks_answer u w asks rest,
+)
+
 -- what a run says, once it is posted, is an answer
 pub run_answers : (g : Graph) (choices : List ℕ) (p : ℕ) (v v1 v2 w : View) (run : Run) → SeesMore v v1 → SeesMore v1 v2
-    → IsRunFor g choices p (verdict_of run.ending) run → TellsTruth g run → AddsPosting (posting_of run) v2 w
+    → IsRunFor g choices p (verdict_of run.ending) run → TellsTruth g run → Posts (posting_of run) v2 w
+    → IsLook v v1 p None → Looks v1 v2 (asks_of g p run.log) → v2.lock.tries < w.lock.tries → w.lock.found ≡ 0
     → IsAnswered g choices p v w record { verdict = verdict_of run.ending; run = Some run }
-run_answers g choices p v v1 v2 w run s t is truth added =
+run_answers g choices p v v1 v2 w run s t is truth posts look looks tried found =
+    let added = posts.added in
     let step : StartsWith w.seen v2.seen =
     (added.between ++ added.rows, added.seen ∙ append_assoc v2.seen added.between added.rows) in
     let mine : v2.mine ≡ v.mine = t.mine ∙ s.mine in
     let spoken : fold_at w.seen run.initiator ≡ Some (verdict_of run.ending) =
-    added.says run.initiator (speaks_of_initiator run.ending run.initiator run.engaged truth.begins) in record {
+    added.says run.initiator (speaks_of_initiator run.ending run.initiator run.engaged truth.begins) in
+    let place = subst (λ l. StartsWith w.seen l) added.seen (starts_same w.seen) in record {
       sees = starts_trans w.seen v2.seen v.seen step (starts_trans v2.seen v1.seen v.seen t.seen s.seen);
       verdict = subst (λ q. IsVerdict g q (verdict_of run.ending)) is.initiator truth.verdict;
       stands = subst (λ q. fold_at w.seen q ≡ Some (verdict_of run.ending)) is.initiator spoken;
       run = is;
+      after = record {
+        before = v2.seen ++ added.between;
+        posting = added.rows;
+        place = place;
+        posted = added.new;
+        hints = answered_more (v2.seen ++ added.between) v2.seen (asks_of g run.initiator run.log)
+            (added.between, refl)
+            (looks_answer v1 v2 (asks_of g run.initiator run.log)
+            (subst (λ q. Looks v1 v2 (asks_of g q run.log)) (sym is.initiator) looks));
+      };
+      looks = record { looked = v2; looks = (v1, look, looks); posts = posts; tried = tried; found = found };
       mine = ⊎_elim
           (λ n. inl (n ∙ mine))
           (λ n. inr (
@@ -59,16 +109,24 @@ run_answers g choices p v v1 v2 w run s t is truth added =
             n ∙ ap (λ l. l ++ added.rows ∷ []) mine,
             run,
             refl,
-            record {
-              before = v2.seen ++ added.between;
-              place = subst (λ l. StartsWith w.seen l) added.seen (starts_same w.seen);
-              posted = added.new;
-            },
+            record { before = v2.seen ++ added.between; place = place; posted = added.new },
           ))
           (next_posting v2.mine w.mine added.rows added.mine);
     }
 
 -- ---- many
+
+-- a run that stands after its hints does so when more is seen
+stands_after_more : (g : Graph) (a b : List Row) (run : Option Run) → StartsWith a b
+    → IfSome run (StandsAfterHints g b) → IfSome run (StandsAfterHints g a)
+stands_after_more g a b None h s = tt
+stands_after_more g a b (Some run) h s = record {
+  before = s.before;
+  posting = s.posting;
+  place = starts_trans a b (s.before ++ s.posting) h s.place;
+  posted = s.posted;
+  hints = s.hints;
+}
 
 -- a sound finding stays sound when more is seen
 pub sound_more : {L : Type 0} (listed : L → List ℕ) (g : Graph) (choices : List ℕ) (a b : List Row) (f : Finding Run L)
@@ -78,6 +136,7 @@ sound_more listed g choices a b f h s = record {
   verdict = s.verdict;
   shape = s.shape;
   run = s.run;
+  after = stands_after_more g a b f.run h s.after;
   stands = fold_more a b f.initiator f.verdict h s.stands;
 }
 

@@ -25,7 +25,7 @@ use Rattle.cmh_work.specs.declared.record.Record.{Record}
 use Rattle.cmh_work.specs.declared.record.Origin.{Origin}
 use Rattle.cmh_work.specs.declared.record.Analysis.{Analysis}
 use Rattle.cmh_work.specs.Shape.{IsShape}
-use Rattle.cmh_work.specs.Record.{IsRunFor, IsSource, IsTrueRecord}
+use Rattle.cmh_work.specs.Record.{IsRunFor, IsSource, IsTrueRecord, StandsAfterHints}
 use Rattle.cmh_work.specs.Analysis.{initiator_of, records_of, history_of, IsAnalysisOf}
 use Rattle.cmh_work.specs.Finding.{finding_initiator, IsSound}
 use Rattle.cmh_work.specs.Numbering.{IsNumbered, AreNumbered, IsNamed}
@@ -39,10 +39,11 @@ use Rattle.cmh_work.proofs.RisingLists.{Rises, rises_from, sorted_same}
 
 -- a sound finding's source is that of its record
 source_of : (g : Graph) (choices : List ℕ) (rows : List Row) (p : ℕ) (v : Verdict) (run : Option Run)
-    (source : Origin Run) → IfSome run (IsRunFor g choices p v) → IsNamed rows p v run source
+    (source : Origin Run) → IfSome run (IsRunFor g choices p v) → IfSome run (StandsAfterHints g rows)
+    → IsNamed rows p v run source
     → IsSource g choices rows p v source
-source_of g choices rows p v (Some run) source ran is = subst (IsSource g choices rows p v) (sym is) ran
-source_of g choices rows p v None source ran (n, is, row) = subst (IsSource g choices rows p v) (sym is) row
+source_of g choices rows p v (Some run) source ran after is = subst (IsSource g choices rows p v) (sym is) (ran, after)
+source_of g choices rows p v None source ran after (n, is, row) = subst (IsSource g choices rows p v) (sym is) row
 
 -- the record of a sound finding is true
 record_true : {L : Type 0} (listed : L → List ℕ) (g : Graph) (choices : List ℕ) (rows : List Row) (f : Finding Run L)
@@ -57,7 +58,7 @@ record_true listed g choices rows f r s n = record {
       (subst (IsShape listed g f.initiator f.verdict) (sym n.shape) s.shape));
   source = subst (λ p. IsSource g choices rows p r.verdict r.source) (sym n.initiator)
       (subst (λ v. IsSource g choices rows f.initiator v r.source) (sym n.verdict)
-      (source_of g choices rows f.initiator f.verdict f.run r.source s.run n.source));
+      (source_of g choices rows f.initiator f.verdict f.run r.source s.run s.after n.source));
 }
 
 -- a sound finding's verdict is what the history says of the process of its record

@@ -11,7 +11,8 @@ use Rattle.cmh_rw.specs.History.{IsPosting, ArePostings, IsTrueOf, fold_at, rows
 use Rattle.cmh_work.specs.declared.finding.Finding.{Finding}
 use Rattle.cmh_work.specs.declared.record.Record.{Record}
 use Rattle.cmh_work.specs.declared.record.Origin.TheVariants.{FromRun}
-use Rattle.cmh_work.specs.Analysis.{IsPostedBy, AreOfRecords}
+use Rattle.cmh_work.specs.Analysis.{AreOfRecords}
+use Rattle.cmh_work.specs.Record.{IsPostedBy}
 use Rattle.cmh_work.specs.Finding.{IsExplained, AreExplained}
 use Rattle.cmh_work.specs.Numbering.{AreNumbered, IsNamed}
 

@@ -24,8 +24,8 @@ use Rattle.cmh_work.specs.declared.record.Origin.TheVariants.{FromRun, FromBoard
 use Rattle.cmh_work.specs.declared.record.Shape.TheVariants.{Leader}
 use Rattle.cmh_work.specs.declared.record.Analysis.{Analysis}
 use Rattle.cmh_work.specs.Cutting.{chunks_of, bounds_of, concat_chunks}
-use Rattle.cmh_work.specs.Record.{IsRunFor, IsTrueRecord}
-use Rattle.cmh_work.specs.Analysis.{records_of, history_of, initiator_of, IsPostedBy, IsPostedByRecords, IsAnalysisOf}
+use Rattle.cmh_work.specs.Record.{IsPostedBy, IsRunFor, IsTrueRecord, StandsAfterHints}
+use Rattle.cmh_work.specs.Analysis.{records_of, history_of, initiator_of, IsPostedByRecords, IsAnalysisOf}
 
 -- the cuts 0, 1, 0 and 9 of three initiators: none, the first, none, the other two, none
 chunks_of_three : chunks_of (0 ∷ 1 ∷ 0 ∷ 9 ∷ []) (0 ∷ 1 ∷ 2 ∷ [])
@@ -199,10 +199,18 @@ legal_r = record {
   tells = refl;
 }
 
+-- p's run got no hint
+after_p : StandsAfterHints cycle_and_follower rows run_of_p
+after_p = record { before = []; posting = p_and_q; place = (r_alone, refl); posted = refl; hints = (tt, tt) }
+
+-- the hint that r's run got about p stands before r's row
+after_r : StandsAfterHints cycle_and_follower rows run_of_r
+after_r = record { before = p_and_q; posting = r_alone; place = ([], refl); posted = refl; hints = (refl, tt) }
+
 -- the records of p, of q and of r are true
 true_p : IsTrueRecord (λ path. path.items) cycle_and_follower [] rows of_p
 unfolding reaches
-true_p = record { idle = refl; verdict = dead_p; shape = refl; source = legal_p }
+true_p = record { idle = refl; verdict = dead_p; shape = refl; source = (legal_p, after_p) }
 
 true_q : IsTrueRecord (λ path. path.items) cycle_and_follower [] rows of_q
 unfolding reaches
@@ -210,7 +218,7 @@ true_q = record { idle = refl; verdict = dead_q; shape = refl; source = (true, r
 
 true_r : IsTrueRecord (λ path. path.items) cycle_and_follower [] rows of_r
 unfolding reaches
-true_r = record { idle = refl; verdict = dead_r; shape = refl; source = legal_r }
+true_r = record { idle = refl; verdict = dead_r; shape = refl; source = (legal_r, after_r) }
 
 -- the rows of p, q and r are true for the graph
 true_rows : IsTrueOf cycle_and_follower rows

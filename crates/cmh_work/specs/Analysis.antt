@@ -5,12 +5,10 @@ use Rattle.cmh_graph.specs.Verdict.{verdict}
 use Rattle.cmh_run.specs.Run.{Run}
 use Rattle.cmh_rw.specs.declared.row.Row.{Row}
 use Rattle.cmh_rw.specs.History.{rows_in, ArePostings, IsTrueOf, fold_at}
-use Rattle.cmh_board.specs.Board.{rows_of, unposted_in}
-use Rattle.cmh_board.specs.Posting.{posting_of}
 use Rattle.cmh_work.specs.declared.record.Record.{Record}
 use Rattle.cmh_work.specs.declared.record.Origin.TheVariants.{FromRun}
 use Rattle.cmh_work.specs.declared.record.Analysis.{Analysis}
-use Rattle.cmh_work.specs.Record.{IsTrueRecord}
+use Rattle.cmh_work.specs.Record.{IsPostedBy, IsTrueRecord}
 
 -- the records of the analysis, one for each idle process
 abbrev pub records_of : {L : Type 0} → Analysis Run L → List (Record Run L)
@@ -23,11 +21,6 @@ history_of a = a.history.items
 -- the process that the record is about
 abbrev pub initiator_of : {L : Type 0} → Record Run L → ℕ
 initiator_of r = r.initiator
-
--- the posting is what this run says of each process that stood in no row before
-abbrev pub IsPostedBy : List Row → List Row → Run → Type 0
-IsPostedBy before posting run = let told = posting_of run in
-    posting ≡ rows_of told.verdict (unposted_in before told.processes)
 
 -- each posting is what the run of a record says of each process that stood in no row before
 abbrev pub AreOfRecords : {L : Type 0} → List (Record Run L) → List Row → List (List Row) → Type 0

@@ -1,16 +1,20 @@
 -- What workers have found, before the history is closed.
-use Rattle.std.specs.Prelude.{◌≡◌, ◌⊎◌, ℕ, List, [], ◌∷◌, ◌++◌, All, Contains, IsTrue, Option, Some, IfSome}
+use Rattle.std.specs.Prelude.{◌≡◌, ◌⊎◌, ℕ, ◌<◌, List, [], ◌∷◌, ◌++◌, All, Contains, IsTrue, Option, Some, None, IfSome}
+use Rattle.cmh_graph.specs.declared.verdict.Verdict.{Verdict}
 use Rattle.cmh_graph.specs.Graph.{Graph, is_idle}
 use Rattle.cmh_graph.specs.Verdict.{IsVerdict}
 use Rattle.cmh_run.specs.Run.{Run}
 use Rattle.cmh_rw.specs.declared.row.Row.{Row}
 use Rattle.cmh_rw.specs.declared.view.View.{View}
 use Rattle.cmh_rw.specs.History.{StartsWith, fold_at}
+use Rattle.cmh_run.specs.Asks.{asks_of}
+use Rattle.cmh_board.specs.Board.{Posts}
+use Rattle.cmh_board.specs.Hints.{Looks}
+use Rattle.cmh_board.specs.Posting.{posting_of}
 use Rattle.cmh_work.specs.declared.finding.Answer.{Answer}
 use Rattle.cmh_work.specs.declared.finding.Finding.{Finding}
 use Rattle.cmh_work.specs.Shape.{IsShape}
-use Rattle.cmh_work.specs.Record.{IsRunFor}
-use Rattle.cmh_work.specs.Analysis.{IsPostedBy}
+use Rattle.cmh_work.specs.Record.{IsPostedBy, IsRunFor, StandsAfterHints}
 
 -- the process that the finding is about
 abbrev pub finding_initiator : {L : Type 0} → Finding Run L → ℕ
@@ -28,14 +32,30 @@ AddsOneOf v w ran = (w.mine ≡ v.mine)
     ⊎ ((posting : List Row) × (w.mine ≡ v.mine ++ posting ∷ [])
     × (run : Run) × (ran ≡ Some run) × IsSeenFrom w.seen posting run)
 
--- a seat that asked about p, and knew v before and w after, has an answer: it is true, it stands in what is seen, and a
--- posting that the seat added is that of its run
+-- A seat that knew v before and w after looked at p, without an answer. Then it made the run, and looked where the run
+-- asks and nowhere else. What the run says was posted once, by a try that found the lock free.
+pub record RunsAfterLook (g : Graph) (p : ℕ) (v w : View) (run : Run) : Type 0 where
+  pub looked : View
+  pub looks : Looks v looked ((p, None) ∷ asks_of g p run.log)
+  pub posts : Posts (posting_of run) looked w
+  pub tried : looked.lock.tries < w.lock.tries
+  pub found : w.lock.found ≡ 0
+
+-- the board is looked at first, once: where it answers there is no run
+abbrev pub LooksFirst : Graph → ℕ → View → View → Verdict → Option Run → Type 0
+LooksFirst g p v w verdict None = Looks v w ((p, Some verdict) ∷ [])
+LooksFirst g p v w verdict (Some run) = RunsAfterLook g p v w run
+
+-- a seat that asked about p, and knew v before and w after, has an answer: it is true, it stands in what is seen, the
+-- board was looked at first, and a posting that the seat added is that of its run
 pub record IsAnswered (g : Graph) (choices : List ℕ) (p : ℕ) (v w : View) (a : Answer Run)
     : Type 0 where
   pub sees : StartsWith w.seen v.seen
   pub verdict : IsVerdict g p a.verdict
   pub stands : fold_at w.seen p ≡ Some a.verdict
   pub run : IfSome a.run (IsRunFor g choices p a.verdict)
+  pub after : IfSome a.run (StandsAfterHints g w.seen)
+  pub looks : LooksFirst g p v w a.verdict a.run
   pub mine : AddsOneOf v w a.run
 
 -- what was found of a process is true, and stands in what is seen
@@ -45,6 +65,7 @@ pub record IsSound {L : Type 0} (listed : L → List ℕ) (g : Graph) (choices :
   pub verdict : IsVerdict g f.initiator f.verdict
   pub shape : IsShape listed g f.initiator f.verdict f.shape
   pub run : IfSome f.run (IsRunFor g choices f.initiator f.verdict)
+  pub after : IfSome f.run (StandsAfterHints g seen)
   pub stands : fold_at seen f.initiator ≡ Some f.verdict
 
 -- what a seat that knew v before and w after has found of p: it is sound, and a posting that the seat added is that of

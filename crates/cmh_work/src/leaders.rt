@@ -3,10 +3,10 @@
 //! Each worker keeps a table of the leaders that it has found. No table is shared: that would spare a second search
 //! where members of one group fall to several workers, and would need a lock and its proofs.
 
-ghost use Rattle.std.specs.Prelude.{◌≡◌, ◌<◌, length, All, IfOk};
+ghost use Rattle.std.specs.Prelude.{◌≡◌, ◌<◌, length, All, IfOk, OnOk};
 ghost use Rattle.cmh_graph.specs.Core.{leader_of};
 ghost use Rattle.cmh_graph.specs.Graph.{process_count};
-ghost use Rattle.cmh_work.specs.Leaders.{KnowsLeaders, LeadsEach};
+ghost use Rattle.cmh_work.specs.Leaders.{KeepsCore, KnowsLeaders, LeadsEach};
 ghost use Rattle.cmh_work.specs.Shape.{AreShapesOf};
 
 use crate::shapes::Shapes;
@@ -36,6 +36,8 @@ pub(crate) fn find_leader(
     requires leaders { KnowsLeaders graph.now leaders.old.items }
     ensures leaders { KnowsLeaders graph.now leaders.new.items }
     ensures leader { IfOk result (λ leader. leader ≡ leader_of graph.now p) }
+    ensures kept { OnOk result (KeepsCore graph.now p shapes.now.alone.items
+        leaders.old.items leaders.new.items) }
 {
     law_built_graph(graph);
     if let Some(leader) = leaders[p as usize] {

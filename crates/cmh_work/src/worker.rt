@@ -4,10 +4,14 @@
 //! runs, which are the long ones, and post what cuts the others short. It does so at no other time, since each time it
 //! may lose its processor to another program.
 
-ghost use Rattle.std.specs.Prelude.{◌≡◌, ◌++◌, map, All, IfOk, OnOk, IsTrue};
+ghost use Rattle.std.specs.Prelude.{◌≡◌, ◌++◌, map, All, IfOk, IfSome, OnOk, IsTrue, Some};
 ghost use Rattle.cmh_graph.specs.Graph.{is_idle};
+ghost use Rattle.cmh_graph.specs.Verdict.{IsVerdict};
+ghost use Rattle.cmh_rw.specs.History.{fold_at};
+ghost use Rattle.cmh_run.specs.Asks.{asks_of};
 ghost use Rattle.cmh_run.specs.Run.{verdict_of, TellsTruth};
 ghost use Rattle.cmh_board.specs.Board.{board_view, SeesMore};
+ghost use Rattle.cmh_board.specs.Hints.{IsLook, Looks};
 ghost use Rattle.cmh_work.specs.Record.{IsRunFor};
 ghost use Rattle.cmh_work.specs.Finding.{finding_initiator, Accounts, IsAnswered, IsFound};
 ghost use Rattle.cmh_work.specs.Work.{ComesBack, GoesOn};
@@ -20,7 +24,7 @@ use crate::finding::{Answer, Finding};
 use crate::job::{Job, Seats, Shared};
 use crate::leaders::no_leaders;
 use cmh_board::{BoardHints, Look, Posting};
-use cmh_graph::WaitGraph;
+use cmh_graph::{Verdict, WaitGraph};
 use cmh_plan::Plan;
 use cmh_run::{Log, ProcessList, RunLog, Runner};
 use std::alloc::{AllocError, Global};
@@ -60,12 +64,31 @@ impl<'a> Worker<'a> {
         ensures run { IfOk result (λ r. IsRunFor
             self.old.job.graph.now self.old.job.plan.now.choices initiator (verdict_of r.ending) r) }
         ensures truth { IfOk result (TellsTruth self.old.job.graph.now) }
+        ensures looks { IfOk result (λ r. Looks (board_view self.old.seats.board)
+            (board_view self.new.seats.board) (asks_of self.old.job.graph.now initiator r.log)) }
     {
         let job = self.job;
         let mut hints = BoardHints::new(&job.shared.board, &mut self.seats.board);
         self.runner
             .run(alloc, initiator, job.plan.choices(), &mut hints)
             .map_err(run_out_of_memory)
+    }
+
+    /// What the board says of the initiator. One look.
+    fn look(&mut self, initiator: u32) -> Option<Verdict>
+        requires idle { IsTrue (is_idle self.old.job.graph.now initiator) }
+        ensures on { GoesOn self.old self.new }
+        ensures look { IsLook (board_view self.old.seats.board)
+            (board_view self.new.seats.board) initiator result }
+        ensures truth { IfSome result (IsVerdict self.old.job.graph.now initiator) }
+        ensures stands { IfSome result (λ v.
+            fold_at (board_view self.new.seats.board).seen initiator ≡ Some v) }
+    {
+        let job = self.job;
+        match job.shared.board.look(&mut self.seats.board, initiator) {
+            Look::Known(verdict) => Some(verdict),
+            Look::Unknown | Look::Busy(_) => None,
+        }
     }
 
     /// The verdict of an initiator: the board's, or else that of a run, which is posted.
@@ -82,7 +105,7 @@ impl<'a> Worker<'a> {
             (board_view self.old.seats.board) (board_view self.new.seats.board)) }
     {
         let job = self.job;
-        if let Look::Known(verdict) = job.shared.board.look(&mut self.seats.board, initiator) {
+        if let Some(verdict) = self.look(initiator) {
             return Ok(Answer { verdict, run: None });
         }
         let run: RunLog<L> = self.run_of(alloc, initiator)?;
