@@ -72,7 +72,8 @@ loads_of_some t (p ∷ ps) l = refl
 -- where new rows were staged and counted, the seat has added the posting
 pub adds_rows : (t : PostingValue) (v a b s w : View) (found : ℕ) → CanPost v.lock.graph t.verdict t.processes
     → AfterLoad v 1 found a
-    → OnlyLoads (length t.processes) a b → Stages t.verdict t.processes b s → w ≡ view_after_posting s → IsPosting s.staged
+    → OnlyLoads (length t.processes) a b → Stages t.verdict t.processes b s → w ≡ view_after_posting s
+    → IsPosting s.staged
     → 0 < length (unposted_in a.seen t.processes)
     → Adds t v w
 adds_rows t v a b s w found can h loads st e posting some =

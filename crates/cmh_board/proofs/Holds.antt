@@ -24,7 +24,8 @@ pub record Held (count : ℕ) (b : Board) (s t : BoardSeat) : Type 0 where
   pub reads : ReadsHistory count (board_view s) (board_view t)
 
 -- a seat that still holds the board, and has read, does so after one more reading
-pub held_on : (count more : ℕ) (b : Board) (s t u : BoardSeat) → more ≡ count + 1 → Held count b s t → SitsAt b u → SeesMore (board_view t) (board_view u)
+pub held_on : (count more : ℕ) (b : Board) (s t u : BoardSeat) → more ≡ count + 1 → Held count b s t → SitsAt b u
+    → SeesMore (board_view t) (board_view u)
     → ReadsHistory 1 (board_view t) (board_view u)
     → Held more b s u
 held_on count more b s t u e h sits sees reads = record {

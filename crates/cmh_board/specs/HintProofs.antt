@@ -1,5 +1,5 @@
--- What hints keep is kept where nothing changes, and from one change to the next, and looks go on. These proofs stand among the
--- definitions, since code can cite no others of its own crate.
+-- What hints keep is kept where nothing changes, and from one change to the next, and looks go on. These proofs stand
+-- among the definitions, since code can cite no others of its own crate.
 use Rattle.std.proofs.Common.{List, [], ◌∷◌, ◌++◌, refl, subst, sym, ap, ◌∙◌, append-nil, append_assoc}
 use Rattle.cmh_run.specs.Asks.{Ask}
 use Rattle.cmh_rw.specs.declared.view.View.{View}

@@ -1,10 +1,10 @@
 -- What a run asks is told by its log: what each process has heard of is the highest number of the queries to it.
-use Rattle.cmh_run.proofs.Common.{inl, inr, ◌%◌, ◌≡◌, ◌≢◌, ◌∙◌, ℕ, ◌+◌, ◌<◌, Bool, true, false, not, ◌&&◌, cond, eqb, ltb, List, [], ◌∷◌, ◌++◌, length, slice_get, slice_set, Option, Some, None, none-some, refl, sym, ap, subst, arith, append-nil, and-false, true≢false, cases_eq, eqb-true, eqb-false, eq-eqb, ne_eqb, le-ltb, get_or-set_same, get_or-set_other, new_proc, Proc, proc_queried, proc_replied, engages, Kind, Query, Reply, Message, Verdict, Deadlocked, Free, Delivery, Graph, process_count, is_awake, IsWithinGraph, by_test, Config, proc_at, nothing_yet, start, asks_hint, after_hint, after_answer, without_message, after_delivery, Going, going_from, going_at_start, going_after, after_restart, after_first_restart, after_due_restart, Rule, MayCome, DeliveriesLead, HintIsFit, chosen_place, RunState}
+use Rattle.cmh_run.proofs.Common.{inl, inr, ◌%◌, ◌≡◌, ◌≢◌, ◌∙◌, ℕ, ◌+◌, ◌<◌, true, false, not, ◌&&◌, cond, eqb, List, [], ◌∷◌, ◌++◌, length, slice_get, slice_set, Option, Some, None, none-some, refl, sym, ap, arith, append-nil, and-false, true≢false, cases_eq, eqb-true, eq-eqb, ne_eqb, le-ltb, get_or-set_same, get_or-set_other, new_proc, Proc, proc_replied, engages, Query, Message, Verdict, Deadlocked, Free, Delivery, Graph, process_count, is_awake, IsWithinGraph, by_test, Config, proc_at, nothing_yet, start, asks_hint, after_hint, without_message, after_delivery, Going, going_from, going_at_start, going_after, after_due_restart, Rule, MayCome, DeliveriesLead, HintIsFit, chosen_place, RunState}
 use Rattle.std.specs.Prelude.{slice_index, Result, Ok, Err, OnErr}
 use Rattle.std.proofs.Common.{append_assoc}
 use Rattle.cmh_run.specs.Asks.{Ask, AskedInPart, is_query_above, highest_from, is_asked, ask_of, asks_after, asks_of}
 use Rattle.cmh_run.specs.Asking.{asks_at, AsksOn, AsksOnInPart}
-use Rattle.cmh_run.specs.Config.{after_reply, is_query}
+use Rattle.cmh_run.specs.Config.{is_query}
 use Rattle.cmh_run.specs.Progress.{IsReady, IsRunState}
 use Rattle.cmh_run.proofs.LiveInvariant.{IsSoundMessage}
 use Rattle.cmh_run.proofs.Configurations.{IsSoundConfig, by_delivery, by_restart, by_start, coming, delivered, fine_at, fresh_at, leads_stands, ready_stands, status_none}
@@ -16,7 +16,8 @@ asks_of_one_more : (g : Graph) (i : ℕ) (before log : List Delivery) (d : Deliv
 asks_of_one_more g i before [] d = rw (append-nil before, append-nil (ask_of g i before d)) refl
 asks_of_one_more g i before (e ∷ log) d =
     rw (asks_of_one_more g i (before ++ e ∷ []) log d, append_assoc before (e ∷ []) log)
-    (sym (append_assoc (ask_of g i before e) (asks_after g i (before ++ e ∷ []) log) (ask_of g i (before ++ e ∷ log) d)))
+    (sym (append_assoc (ask_of g i before e) (asks_after g i (before ++ e ∷ []) log)
+    (ask_of g i (before ++ e ∷ log) d)))
 
 -- where a run has not ended after a restart that is due, it had not ended before
 not_ended_before : (g : Graph) (i : ℕ) (s : Going) → (after_due_restart g i s).config.ended ≡ None
@@ -191,16 +192,6 @@ module _ (restarts : List ℕ) (r : RunState) (way : IsReady restarts r) (x : �
             → HintIsFit r.graph r.going.config m h
         same_fit None e = tt
         same_fit (Some v) e = e
-
--- where nothing was asked, a run that is broken off has asked what its log asks
-pub asks_no_more : (has_asked : List Ask → Type 0) (restarts : List ℕ) (r : RunState) → IsReady restarts r
-    → has_asked [] → AsksOnInPart has_asked restarts r
-asks_no_more has_asked restarts r way none = record {
-  log = r.log;
-  end = r.going;
-  leads = way.leads;
-  asks = record { asks = []; asked = none; are = sym (append-nil (asks_of r.graph r.initiator r.log)) };
-}
 
 -- what is asked from a run on is asked from the run before a restart that was due
 pub asks_before : (has_asked : List Ask → Type 0) (restarts : List ℕ) (before r : RunState) (s : Going)

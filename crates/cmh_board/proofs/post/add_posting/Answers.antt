@@ -53,8 +53,8 @@ returns-then-new-gt0-clause-adds c =
     let some : 0 < length (unposted_in (rw_view c.load-count.new.seat).seen c.args.posting.now.processes) =
     subst (λ ps. 0 < length (unposted_in (rw_view c.load-count.new.seat).seen ps)) c.processes-processes.ensures
     (omega (arith, c.if-new-gt0.true, c.count_unposted-new.ensures.count)) in
-    let loads = subst (λ ps. OnlyLoads (length ps) (rw_view c.load-count.new.seat) counted) c.processes-processes.ensures
-    c.count_unposted-new.ensures.loads in
+    let loads = subst (λ ps. OnlyLoads (length ps) (rw_view c.load-count.new.seat) counted)
+    c.processes-processes.ensures c.count_unposted-new.ensures.loads in
     adds_rows c.args.posting.now (rw_view c.args.seat.now) (rw_view c.load-count.new.seat) counted staged
     (rw_view c.store_count.new.seat)
     c.load-count.result c.requires.can c.load-count.ensures.loaded loads stages
@@ -65,7 +65,8 @@ returns-else-new-gt0-clause-adds c =
     let none : length (unposted_in (rw_view c.load-count.new.seat).seen c.args.posting.now.processes) ≡ 0 =
     subst (λ ps. length (unposted_in (rw_view c.load-count.new.seat).seen ps) ≡ 0) c.processes-processes.ensures
     (omega (arith, c.if-new-gt0.false, c.count_unposted-new.ensures.count)) in
-    let loads = subst (λ ps. OnlyLoads (length ps) (rw_view c.load-count.new.seat) (rw_view c.count_unposted-new.new.seat))
+    let counted = rw_view c.count_unposted-new.new.seat in
+    let loads = subst (λ ps. OnlyLoads (length ps) (rw_view c.load-count.new.seat) counted)
     c.processes-processes.ensures c.count_unposted-new.ensures.loads in
     adds_none c.args.posting.now (rw_view c.args.seat.now) (rw_view c.load-count.new.seat)
     (rw_view c.count_unposted-new.new.seat)

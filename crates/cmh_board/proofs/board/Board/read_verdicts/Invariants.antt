@@ -8,5 +8,6 @@ use Rattle.cmh_board.proofs.board.Board.read_verdicts.Given as goal
 
 abbrev pub invariant-loop-p : goal.invariant-loop-p
 invariant-loop-p l =
-    Held (1 + l.p) l.self l.fn.seat l.seat × (l.verdicts.items ≡ map (fold_at (board_view l.seat).seen) (range_with_len 0 l.p))
+    Held (1 + l.p) l.self l.fn.seat l.seat
+    × (l.verdicts.items ≡ map (fold_at (board_view l.seat).seen) (range_with_len 0 l.p))
     × (process_count (board_graph l.self) ≤ vec_capacity l.verdicts)
