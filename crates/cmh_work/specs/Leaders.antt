@@ -12,7 +12,8 @@ pub record KnowsLeaders (g : Graph) (list : List (Option ℕ)) : Type 0 where
   pub size : length list ≡ process_count g
   pub leads : (p leader : ℕ) → leader_at list p ≡ Some leader → leader ≡ leader_of g p
 
--- where no leader of p stood in the table, and p isn't marked as a core alone, all of p's core have their leader there now
+-- where no leader of p stood in the table, and p isn't marked as a core alone, all of p's core have their leader there
+-- now
 abbrev pub KeepsCore : Graph → ℕ → List Bool → List (Option ℕ) → List (Option ℕ) → Type 0
 KeepsCore g p alone old new = leader_at old p ≡ None → slice_index_or alone p false ≡ false
     → (q : ℕ) → Contains (core_of g p) q → leader_at new q ≡ Some (leader_of g p)

@@ -1,4 +1,4 @@
-use Rattle.std.proofs.Common.{◌<◌, None, ◌∙◌, ap, subst, sym}
+use Rattle.std.proofs.Common.{◌<◌, ◌∙◌, ap, subst, sym}
 use Rattle.std.specs.Prelude.{Some}
 use Rattle.cmh_board.specs.Board.{board_view, Posts}
 use Rattle.cmh_board.specs.Hints.{IsLook, Looks}
@@ -34,8 +34,8 @@ returns g c =
     let answered =
     subst (λ verdict. IsAnswered gr choices p v w record { verdict = verdict; run = Some run })
     (sym c.verdict.ensures)
-    (run_answers gr choices p v (board_view c.look.new.self.seats.board) (board_view c.run_of.new.self.seats.board) w run
-    looked.look.sees told.sees ran truth whole look looks tried c.post.ensures.found) in
+    (run_answers gr choices p v (board_view c.look.new.self.seats.board) (board_view c.run_of.new.self.seats.board) w
+    run looked.look.sees told.sees ran truth whole look looks tried c.post.ensures.found) in
     record {
       on = record {
         job = ap (λ (k : Work). k.job) after ∙ told.on.job ∙ job;
