@@ -1,5 +1,5 @@
 -- What a run asks is told by its log: what each process has heard of is the highest number of the queries to it.
-use Rattle.cmh_run.proofs.Common.{inl, inr, ◌%◌, ◌≡◌, ◌≢◌, ◌∙◌, ℕ, ◌+◌, ◌<◌, true, false, not, ◌&&◌, cond, eqb, List, [], ◌∷◌, ◌++◌, length, slice_get, slice_set, Option, Some, None, none-some, refl, sym, ap, arith, append-nil, and-false, true≢false, cases_eq, eqb-true, eq-eqb, ne_eqb, le-ltb, get_or-set_same, get_or-set_other, new_proc, Proc, proc_replied, engages, Query, Message, Verdict, Deadlocked, Free, Delivery, Graph, process_count, is_awake, IsWithinGraph, by_test, Config, proc_at, nothing_yet, start, asks_hint, after_hint, without_message, after_delivery, Going, going_from, going_at_start, going_after, after_due_restart, Rule, MayCome, DeliveriesLead, HintIsFit, chosen_place, RunState}
+use Rattle.cmh_run.proofs.Common.{inl, inr, ◌%◌, ◌≡◌, ◌≢◌, ◌∙◌, ℕ, ◌<◌, true, false, not, ◌&&◌, cond, eqb, List, [], ◌∷◌, ◌++◌, length, slice_get, slice_set, Option, Some, None, none-some, refl, sym, ap, arith, append-nil, and-false, true≢false, cases_eq, eqb-true, eq-eqb, ne_eqb, le-ltb, get_or-set_same, get_or-set_other, new_proc, Proc, proc_replied, engages, Query, Message, Verdict, Deadlocked, Free, Delivery, Graph, process_count, is_awake, IsWithinGraph, by_test, Config, proc_at, nothing_yet, start, asks_hint, after_hint, without_message, after_delivery, Going, going_from, going_at_start, going_after, after_due_restart, Rule, MayCome, DeliveriesLead, HintIsFit, chosen_place, RunState}
 use Rattle.std.specs.Prelude.{slice_index, Result, Ok, Err, OnErr}
 use Rattle.std.proofs.Common.{append_assoc}
 use Rattle.cmh_run.specs.Asks.{Ask, AskedInPart, is_query_above, highest_from, is_asked, ask_of, asks_after, asks_of}
