@@ -2,7 +2,7 @@
 from __future__ import annotations
 
 import re
-from typing import Callable, List, NamedTuple, Optional
+from typing import Callable, List, NamedTuple, Optional, Sequence, Tuple
 from xml.etree.ElementTree import Element
 
 from .explain import Explanation
@@ -29,14 +29,14 @@ class Drawing(NamedTuple):
         return re.sub(r'"cmh-(title|desc)"', r'"cmh-older-\1"', words)
 
 
-def drawing(this: Explanation, index: Optional[int]) -> Drawing:
-    """Returns the drawing of an answer, laid out by Graphviz, or, where that isn't there or fails, here."""
+def drawings(answers: Sequence[Tuple[Explanation, Optional[int]]]) -> List[Drawing]:
+    """Returns the drawings of some answers, laid out by Graphviz, or, where that isn't there or fails, here."""
     try:
         check_graphviz()
-        return fitting(this, index, best_tree)
+        return [fitting(this, index, best_tree) for this, index in answers]
     except Failure as failure:
         say(f"cmh-explain: the page has a simple picture: {failure}")
-    return fitting(this, index, layered_tree)
+    return [fitting(this, index, layered_tree) for this, index in answers]
 
 
 def fitting(this: Explanation, index: Optional[int], laid_out: Callable[[Picture], Element]) -> Drawing:

@@ -12,7 +12,7 @@ from .check import describe_fault
 from .comparison import Comparison
 from .command import Parser, Read, dump_of_notes, is_dump, is_notes, notes_path, run, sketch_of_dump
 from .dot import dot
-from .drawing import drawing
+from .drawing import drawings
 from .dump import Dump
 from .explain import Explanation
 from .files import (Failure, Refusal, hindrance, read_bytes, read_text, say, shown, text_of_bytes, write_out,
@@ -145,8 +145,9 @@ def write_page(asked: Any, explanation: Explanation, tree: Tree, at: Optional[in
     if sum(len(lines) for _, lines in states) > MOST_OF_STATES:
         raise Refusal(f"--state: a page takes states of at most {MOST_OF_STATES:,} characters")
     summary = explanation.summary(at)
-    older = None if old is None else Older(Comparison(old, explanation), drawing(old, None).beside())
-    write_texts([(asked.html, page(explanation, tree, drawing(explanation, at), states, older))])
+    drawn, *beside = drawings([(explanation, at), *([] if old is None else [(old, None)])])
+    older = None if old is None else Older(Comparison(old, explanation), beside[0].beside())
+    write_texts([(asked.html, page(explanation, tree, drawn, states, older))])
     write_out(summary)
 
 
