@@ -2,17 +2,15 @@
 is refused: its last line counts the others."""
 from __future__ import annotations
 
-import json
 import re
 from dataclasses import dataclass, field
 from functools import cached_property
 from typing import Any, Dict, List, Optional, Tuple
 
 from ..files import Refusal, shown
-from .base import misfits
+from .sessions import Lines
 
 Row = Dict[str, Any]
-MARK = "cmh-mariadb "
 EXPECTED = "lines of take-mariadb are expected"
 NONE = type(None)
 TEXT, WHOLE = (str, NONE), (int, NONE)
@@ -30,6 +28,7 @@ SHAPES: Dict[str, Row] = {
     "held": {"held": str, "table": TEXT, "index": TEXT, "data": TEXT},
     "metadata": {"metadata": int, "mode": str, "type": str, "schema": TEXT, "name": TEXT},
     "end": {"end": int, "process": int, "machine": str, "taken": [float, float]}}
+LINES = Lines("cmh-mariadb ", EXPECTED, SHAPES, "thread")
 
 
 @dataclass(eq=False)
@@ -87,7 +86,7 @@ def looks_of(text: str, path: str) -> List[Look]:
     for number, line in enumerate(text.replace("\r\n", "\n").split("\n"), 1):
         if not line.strip():
             continue
-        kind, row = row_of(line, f"{shown(path)}:{number}")
+        kind, row = LINES.row(line, f"{shown(path)}:{number}")
         if kind == "look":
             looks.append(Look(path))
         if not looks or "end" in looks[-1].rows:
@@ -98,22 +97,6 @@ def looks_of(text: str, path: str) -> List[Look]:
     for look in looks:
         check(look)
     return looks
-
-
-def row_of(line: str, where: str) -> Tuple[str, Row]:
-    """Returns the kind of a line and its row. What isn't as it should be in the row of a connection is kept, as 'odd'.
-    """
-    try:
-        row = json.loads(line[len(MARK):]) if line.startswith(MARK) else None
-    except (ValueError, RecursionError):
-        row = None
-    kind = next((kind for kind in SHAPES if kind in row), "") if isinstance(row, dict) else ""
-    if not kind:
-        raise Refusal(f"{where}: {EXPECTED}, and this line isn't one, or is cut off")
-    odd = next(misfits(row, SHAPES[kind]), "")
-    if odd and (kind != "thread" or odd == ".thread"):
-        raise Refusal(f"{where}: {EXPECTED}, and in this line {shown(odd[1:])} isn't as these have it")
-    return kind, {**row, "odd": odd[1:]} if odd else row
 
 
 def check(look: Look) -> None:

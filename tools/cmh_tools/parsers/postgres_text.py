@@ -2,7 +2,6 @@
 refused: it has one line for each row, and the last one counts them."""
 from __future__ import annotations
 
-import json
 import re
 from collections import Counter
 from dataclasses import dataclass, field
@@ -11,10 +10,9 @@ from functools import cached_property
 from typing import Any, Dict, Iterable, List, Optional, Tuple
 
 from ..files import Refusal, shown
-from .base import misfits
+from .sessions import Lines
 
 Row = Dict[str, Any]
-MARK = "cmh-postgres "
 EXPECTED = "lines of take-postgres are expected"
 NONE = type(None)
 TIME = re.compile(r"(\d{4}-\d\d-\d\dT\d\d:\d\d:\d\d)(\.\d{1,6})?([+-]\d\d:\d\d)")
@@ -47,6 +45,7 @@ def seconds_of(text: str, where: str = "") -> float:
         return datetime.fromisoformat(match[1] + match[3]).timestamp() + float(match[2] or 0)
     except (AssertionError, ValueError, OverflowError) as error:
         raise Refusal(f"{where}: {shown(text)} is no time") from error
+LINES = Lines("cmh-postgres ", EXPECTED, SHAPES, "backend")
 
 
 @dataclass(eq=False)
@@ -126,20 +125,11 @@ def looks_of(text: str, path: str) -> List[Look]:
 
 def row_of(line: str, where: str) -> Tuple[str, Row]:
     """Returns the kind of a line and its row. What isn't as it should be in the row of a backend is kept, as 'odd'."""
-    try:
-        row = json.loads(line[len(MARK):]) if line.startswith(MARK) else None
-    except (ValueError, RecursionError):
-        row = None
-    kind = next((kind for kind in SHAPES if kind in row), "") if isinstance(row, dict) else ""
-    if not kind:
-        raise Refusal(f"{where}: {EXPECTED}, and this line isn't one, or is cut off")
-    odd = next(misfits(row, SHAPES[kind]), "")
-    if odd and (kind != "backend" or odd == ".backend"):
-        raise Refusal(f"{where}: {EXPECTED}, and in this line {shown(odd[1:])} isn't as these have it")
+    kind, row = LINES.row(line, where)
     for value in row.values():
         if isinstance(value, str) and TIME.fullmatch(value):
             seconds_of(value, where)
-    return kind, {**row, "odd": odd[1:]} if odd else row
+    return kind, row
 
 
 def check(look: Look) -> None:

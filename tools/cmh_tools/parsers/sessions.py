@@ -2,10 +2,13 @@
 break waits off. What a limit is called stands among the processes, so that an answer can name it as a doubt."""
 from __future__ import annotations
 
-from typing import Dict, List, Optional, Tuple
+import json
+from typing import Any, Dict, List, NamedTuple, Optional, Tuple
 
+from ..files import Refusal, shown
 from ..model import Part, Sign
 from ..sketch import LIMIT, Sketch, goes_on, premise
+from .base import misfits
 
 SLACK = 2.0  # seconds by which a wait may outlast its limit, until that is carried out
 UNITS = ((86400, "d"), (3600, "h"), (60, "min"), (1, "s"))
@@ -15,6 +18,30 @@ def words_for(seconds: float) -> str:
     """Returns a time in words: '27 min'."""
     size, unit = next(((size, unit) for size, unit in UNITS if seconds >= size), (1, "s"))
     return f"{seconds / size:,.0f} {unit}"
+
+
+class Lines(NamedTuple):
+    """The lines of JSON that a recipe prints: what each begins with, what they are, the shape of each kind of row, and
+    the kind of which a row is kept that isn't as it should be, as 'odd'."""
+
+    mark: str
+    expected: str
+    shapes: Dict[str, Dict[str, Any]]
+    kept: str
+
+    def row(self, line: str, where: str) -> Tuple[str, Dict[str, Any]]:
+        """Returns the kind of a line and its row."""
+        try:
+            row = json.loads(line[len(self.mark):]) if line.startswith(self.mark) else None
+        except (ValueError, RecursionError):
+            row = None
+        kind = next((kind for kind in self.shapes if kind in row), "") if isinstance(row, dict) else ""
+        if not kind:
+            raise Refusal(f"{where}: {self.expected}, and this line isn't one, or is cut off")
+        odd = next(misfits(row, self.shapes[kind]), "")
+        if odd and (kind != self.kept or odd == f".{self.kept}"):
+            raise Refusal(f"{where}: {self.expected}, and in this line {shown(odd[1:])} isn't as these have it")
+        return kind, {**row, "odd": odd[1:]} if odd else row
 
 
 class Limits:
