@@ -6,7 +6,6 @@ from argparse import SUPPRESS
 from collections import Counter
 from typing import Any, Dict, Iterator, List, Sequence, Tuple
 
-from .check import describe_fault
 from .command import Parser, likely_path, notes_path, run
 from .dump import Dump
 from .facts import Facts, read_facts
@@ -204,6 +203,7 @@ def check(path: str) -> int:
     try:
         judge(data)
     except Refusal as fault:
+        from .check import describe_fault
         raise Refusal(describe_fault(path, str(fault), data)) from None
     write_out(f"{shown(path)}: accepted\n")
     return 0

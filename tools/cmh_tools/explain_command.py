@@ -1,28 +1,16 @@
 """The command `cmh-explain`: who is stuck in a dump, who isn't, who is undecided, and where it has to be broken."""
 from __future__ import annotations
 
-import contextlib
 import os
-import stat
-import sys
-from typing import Any, Iterator, Optional, Sequence, Tuple
+from typing import Any, Optional, Sequence, Tuple
 
-from .answer import Tree, answer, text_of_answer
-from .check import describe_fault
-from .comparison import Comparison
 from .command import Parser, Read, dump_of_notes, is_dump, is_notes, notes_path, run, sketch_of_dump
-from .dot import dot
-from .drawing import drawings
 from .dump import Dump
 from .explain import Explanation
-from .files import (Failure, Refusal, hindrance, read_bytes, read_text, say, shown, text_of_bytes, write_out,
-                    write_texts)
-from .page import Older, page
-from .picture import Picture
+from .files import Failure, Refusal, hindrance, read_bytes, read_text, say, shown, text_of_bytes, write_out
 from .screen import screen
 from .program import compare, confirm, deadlocked_names, identity
 from .sketch import near_name, quote, read_json
-from .svg import check_graphviz, svg
 from .terminal import show, style_of_output
 
 ASK_NOTES = "the dump has no notes, so its active processes may be unknown ones: put NAME.notes.json of cmh-dump " \
@@ -31,7 +19,6 @@ ABOUT = """Says in words what is known of a dump, from the notes that cmh-dump w
 confirm it on two dumps: with all unknown ones active, and with all unknown ones idle."""
 MORE = """status: 0 no process is stuck, 3 some process is stuck, 5 none is stuck for certain and some are undecided,
 1 the dump is refused, 2 the command line is, 4 out of memory, an I/O error, or the program doesn't confirm it"""
-MOST_OF_STATES = 2_000_000  # characters, in a page
 
 
 def parser() -> Parser:
@@ -94,6 +81,7 @@ def load_bare(data: bytes, path: str, is_by_hand: bool) -> Dump:
     try:
         found = deadlocked_names(data)
     except Refusal as fault:
+        from .check import describe_fault
         raise Refusal(describe_fault(path, str(fault), data)) from None
     dump = Dump(sketch_of_dump(read_json(data.decode(), path), path, is_by_hand))
     compare(dump, dump.low, found, "low")
@@ -138,58 +126,20 @@ def check_page(asked: Any) -> None:
         raise Failure(f"--html {shown(asked.html)}: the page goes to a file of its own: {why}", 2)
 
 
-def write_page(asked: Any, explanation: Explanation, tree: Tree, at: Optional[int],
-               old: Optional[Explanation]) -> None:
-    """Writes the page of an answer, with an older one beside it, if there is one, and prints its first line."""
-    states = [(os.path.basename(path), read_text(path)) for path in asked.state]
-    if sum(len(lines) for _, lines in states) > MOST_OF_STATES:
-        raise Refusal(f"--state: a page takes states of at most {MOST_OF_STATES:,} characters")
-    summary = explanation.summary(at)
-    drawn, *beside = drawings([(explanation, at), *([] if old is None else [(old, None)])])
-    older = None if old is None else Older(Comparison(old, explanation), beside[0].beside())
-    write_texts([(asked.html, page(explanation, tree, drawn, states, older))])
-    write_out(summary)
-
-
-@contextlib.contextmanager
-def words_for_picture() -> Iterator[None]:
-    """Has the file that standard output goes to say why it is no picture. A shell has made it before this began, and an
-    empty one looks like a picture."""
-    try:
-        yield
-    except Failure as failure:
-        if is_file(sys.stdout):
-            write_out(f"There is no picture here: {failure}\n")
-        raise
-
-
-def is_file(stream: Any) -> bool:
-    with contextlib.suppress(AttributeError, OSError, ValueError):  # (it is closed, or none of the system's)
-        return stat.S_ISREG(os.fstat(stream.fileno()).st_mode)
-    return False
-
-
 def main(words: Sequence[str]) -> int:
     asked = parser().parse_intermixed_args(words)  # (so that --html FILE may stand between both dumps)
     check_page(asked)
-    if asked.svg:
-        with words_for_picture():
-            check_graphviz()
+    is_form = asked.json or asked.dot or asked.svg or asked.html is not None
+    if is_form:  # (what makes them takes as long to load as all the rest)
+        from .forms import check_form, write_form
+        check_form(asked)
     style = style_of_output(asked.color)
     old = None if asked.newer is None else Explanation(load(asked.dump, asked.without_notes)[0], asked.all, style)
     dump, noted = load(asked.dump if asked.newer is None else asked.newer, asked.without_notes)
     explanation = Explanation(dump, asked.all, style)
     at, status = None if asked.why is None else index_of(dump, asked.why), explanation.status()
-    if asked.json:
-        write_out(text_of_answer(answer(explanation, noted, at)))
-    elif asked.dot:
-        write_out(dot(Picture(explanation, at, asked.all)))
-    elif asked.svg:
-        with words_for_picture():
-            picture = svg(Picture(explanation, at, asked.all))
-        write_out(picture)
-    elif asked.html is not None:
-        write_page(asked, explanation, answer(explanation, noted, at), at, old)
+    if is_form:
+        write_form(asked, explanation, noted, at, old)
     elif asked.summary:
         write_out(explanation.summary(at))
     elif not asked.quiet:

@@ -9,7 +9,6 @@ from .command import Read, read_any
 from .facts import Facts
 from .files import Refusal, read_text, shown
 from .idle import leave_out
-from .join import join_sketches
 from .parsers import MODULES, State, parser_of
 from .sketch import Sketch, read_sketch
 from .snapshots import both
@@ -24,6 +23,7 @@ def sketch_for(system: str, paths: Sequence[str], facts: Facts, read: Read = rea
         first, second = map(read_any, paths)
         sketch = both(first, second)
     elif system == "join":
+        from .join import join_sketches
         sketch, what = join_sketches([read_any(path, read) for path in paths], paths), "threads"
     else:
         sketch, what = record(system, [State(path, read(path)) for path in paths]), parser_of(system).IDLE

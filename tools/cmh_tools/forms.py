@@ -1,0 +1,73 @@
+"""The forms of an answer beside its text: JSON, pictures, and pages."""
+from __future__ import annotations
+
+import contextlib
+import os
+import stat
+import sys
+from typing import Any, Iterator, Optional
+
+from .answer import Tree, answer, text_of_answer
+from .comparison import Comparison
+from .dot import dot
+from .drawing import drawings
+from .explain import Explanation
+from .files import Failure, Refusal, read_text, write_out, write_texts
+from .page import Older, page
+from .picture import Picture
+from .svg import check_graphviz, svg
+
+MOST_OF_STATES = 2_000_000  # characters, in a page
+
+
+def check_form(asked: Any) -> None:
+    """Raises Failure if a picture is asked for that can't be made here."""
+    if asked.svg:
+        with words_for_picture():
+            check_graphviz()
+
+
+def write_form(asked: Any, explanation: Explanation, noted: Optional[str], at: Optional[int],
+               old: Optional[Explanation]) -> None:
+    """Writes an answer in the form that is asked for."""
+    if asked.json:
+        write_out(text_of_answer(answer(explanation, noted, at)))
+    elif asked.dot:
+        write_out(dot(Picture(explanation, at, asked.all)))
+    elif asked.svg:
+        with words_for_picture():
+            picture = svg(Picture(explanation, at, asked.all))
+        write_out(picture)
+    else:
+        write_page(asked, explanation, answer(explanation, noted, at), at, old)
+
+
+def write_page(asked: Any, explanation: Explanation, tree: Tree, at: Optional[int],
+               old: Optional[Explanation]) -> None:
+    """Writes the page of an answer, with an older one beside it, if there is one, and prints its first line."""
+    states = [(os.path.basename(path), read_text(path)) for path in asked.state]
+    if sum(len(lines) for _, lines in states) > MOST_OF_STATES:
+        raise Refusal(f"--state: a page takes states of at most {MOST_OF_STATES:,} characters")
+    summary = explanation.summary(at)
+    drawn, *beside = drawings([(explanation, at), *([] if old is None else [(old, None)])])
+    older = None if old is None else Older(Comparison(old, explanation), beside[0].beside())
+    write_texts([(asked.html, page(explanation, tree, drawn, states, older))])
+    write_out(summary)
+
+
+@contextlib.contextmanager
+def words_for_picture() -> Iterator[None]:
+    """Has the file that standard output goes to say why it is no picture. A shell has made it before this began, and an
+    empty one looks like a picture."""
+    try:
+        yield
+    except Failure as failure:
+        if is_file(sys.stdout):
+            write_out(f"There is no picture here: {failure}\n")
+        raise
+
+
+def is_file(stream: Any) -> bool:
+    with contextlib.suppress(AttributeError, OSError, ValueError):  # (it is closed, or none of the system's)
+        return stat.S_ISREG(os.fstat(stream.fileno()).st_mode)
+    return False
