@@ -255,7 +255,7 @@ class Graph:
         self.nodes: List[Set[int]] = []  # of each part
         self.users: Dict[int, List[int]] = {}  # the parts that have a node
         self.parts: List[List[int]] = [[] for _ in subjects]
-        self.outside: AbstractSet[int] = frozenset()  # nodes outside of the greatest set, once that is known
+        self.outside: Set[int] = set()  # nodes outside of the greatest set, once that is known
         for number, part in ((number, part) for number, subject in enumerate(subjects) for part in subject.parts):
             selected = select(subjects[number].name, part)
             if selected is not None:
@@ -275,7 +275,7 @@ class Graph:
         inside = {number for number in candidates if self.parts[number]}.union(sure)
         outside = [number for number, subject in enumerate(self.subjects)
                    if number not in inside and subject.sign is not Sign.ENDED]
-        self.outside = self.reach([*self.lists.lost, *outside], inside - sure).keys()
+        self.outside = set(self.reach([*self.lists.lost, *outside], inside - sure))
         return inside - self.outside
 
     def whole_parts(self, number: int) -> List[Part]:
