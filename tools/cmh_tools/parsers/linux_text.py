@@ -192,6 +192,10 @@ class Machine:
         self.owners = [Owner({**row, "unreadable": unread[row["pid"]]} if row["pid"] in unread else row)
                        for row in rows if "pid" in row]
         self.by_pid = {owner.pid: owner for owner in self.owners}
+        self.kin: Dict[int, List[int]] = {}  # the places of the children of each, and of those that it traces
+        for place, owner in enumerate(self.owners):
+            for pid in {owner.parent, owner.tracer}:
+                self.kin.setdefault(pid, []).append(place)
         self.sockets: Dict[int, Row] = {row["socket"]: row for row in rows if "socket" in row}
         self.warnings = [str(line) for row in rows for line in row.get("warnings", [])]
         # The parent of each process, also of those above them, and when it began. One that isn't known has none.
@@ -242,7 +246,8 @@ class Machine:
         below: Dict[Owner, None] = {}
         pids = {owner.pid for owner in owners}
         while pids:
-            new = [owner for owner in self.owners if owner.parent in pids and owner not in below]
+            kin = [self.owners[place] for place in sorted({place for pid in pids for place in self.kin.get(pid, ())})]
+            new = [owner for owner in kin if owner.parent in pids and owner not in below]
             below.update(dict.fromkeys(new))
             pids = {owner.pid for owner in new}
         return list(below)
@@ -269,7 +274,7 @@ class Machine:
 
     def children(self, pid: int) -> List[Owner]:
         """Returns the processes that a process waits for by `wait`: its children, and those that it traces."""
-        return [owner for owner in self.owners if pid in (owner.parent, owner.tracer)]
+        return [self.owners[place] for place in self.kin.get(pid, ())]
 
 
 def call_threads(machines: List[Machine]) -> None:
