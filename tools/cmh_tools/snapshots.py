@@ -34,6 +34,7 @@ SHOWN = 5  # names in a reason
 # What one with a limit does, by what its place says, if a count says that it has come back there.
 COME_BACK = {Sign.TICKS: Sign.TICKS, Sign.SLEEPS: Sign.POLLS, Sign.POLLS: Sign.POLLS}
 COME = "the states differ in who hasn't come yet"
+Known = Dict[Tuple[int, int], Sequence[str]]  # lists of two states in one, by the ids of both
 
 
 @dataclass
@@ -109,7 +110,8 @@ def merge(first: Sketch, second: Sketch, extent: str = PARTS, before: str = PART
     `before` how much the one that was read before it has. Those with a limit have the sign of their place yet."""
     later = {process.name: process for process in second.processes}
     missing = missing_names(first, later, extent)
-    processes = [forget(it) if it.name in missing else join(it, later.get(it.name)) for it in first.processes]
+    known: Known = {}
+    processes = [forget(it) if it.name in missing else join(it, later.get(it.name), known) for it in first.processes]
     here = {process.name for process in processes}
     wanted = {name for names in lists_of_wakers(processes) for name in names} - here
     known = PARTS if PARTS in (extent, before) else extent
@@ -154,7 +156,7 @@ def newcomer(process: Process, extent: str) -> Process:
     return replace(process, sign=Sign.GOES_ON, parts=[], because=[SYSTEM], reason="it came after the first state")
 
 
-def join(process: Process, later: Optional[Process]) -> Process:
+def join(process: Process, later: Optional[Process], known: Known) -> Process:
     """Returns a process of the first state as it is by both."""
     if process.is_garbled and process.sign is Sign.GOES_ON:
         return process  # (it has moved before)
@@ -170,7 +172,7 @@ def join(process: Process, later: Optional[Process]) -> Process:
     going = [it for it in (process, later) if it.sign in GOING]
     if going and (SYSTEM in going[0].because or Sign.UNKNOWN not in (process.sign, later.sign)):
         return runner_of(process, later)
-    return waiter_of(process, later)
+    return waiter_of(process, later, known)
 
 
 def moved(process: Process, why: str) -> Process:
@@ -194,7 +196,7 @@ def runner_of(process: Process, later: Process) -> Process:
                    count=process.count if is_same else None)
 
 
-def waiter_of(process: Process, later: Process) -> Process:
+def waiter_of(process: Process, later: Process, known: Known) -> Process:
     """One that waits at the same place in both states."""
     made = process.copy()
     made.count = process.count if process.count == later.count else None
@@ -205,7 +207,7 @@ def waiter_of(process: Process, later: Process) -> Process:
         made.reason = process.reason if process.sign is Sign.UNKNOWN else later.reason
         return made
     made.sign = process.sign if process.sign is later.sign else Sign.BLOCKED
-    made.parts = parts_of_both(process.parts, later.parts)
+    made.parts = parts_of_both(process.parts, later.parts, known)
     if (len(process.parts) > 1) != (len(later.parts) > 1):
         made.become_unknown(DIFFER)
     elif not made.parts and process.parts:
@@ -224,13 +226,13 @@ def has_grown(process: Process) -> None:
         process.sign, process.reason = Sign.UNKNOWN, GROWN
 
 
-def parts_of_both(first: List[Part], second: List[Part]) -> List[Part]:
+def parts_of_both(first: List[Part], second: List[Part], known: Known) -> List[Part]:
     """Returns the parts of a wait that can make up no deadlock: any of both states, or all that no state says to have
     come."""
     if len(first) == 1 and len(second) == 1:
-        return [part_of_both(first[0], second[0])]
+        return [part_of_both(first[0], second[0], known)]
     later = {names_of_part(part): part for part in second}
-    return [part_of_both(part, later[key]) for part, key in zip(first, map(names_of_part, first)) if key in later]
+    return [part_of_both(part, later[key], known) for part, key in zip(first, map(names_of_part, first)) if key in later]
 
 
 def names_of_part(part: Part) -> FrozenSet[str]:
@@ -238,20 +240,24 @@ def names_of_part(part: Part) -> FrozenSet[str]:
     return frozenset(part[0].names()) if part else frozenset()
 
 
-def part_of_both(first: Part, second: Part) -> Part:
+def part_of_both(first: Part, second: Part, known: Known) -> Part:
     """Returns the wakers of both states. Where they have the same list it stays one that waits may share."""
     later = {(some.how, some.strength, some.what): some for some in second}
-    made = [wakers_of_both(some, later.pop((some.how, some.strength, some.what), some)) for some in first]
+    made = [wakers_of_both(some, later.pop((some.how, some.strength, some.what), some), known) for some in first]
     return (*made, *later.values())
 
 
-def wakers_of_both(first: Wakers, second: Wakers) -> Wakers:
+def wakers_of_both(first: Wakers, second: Wakers, known: Known) -> Wakers:
+    """Returns the wakers of both states. `known` has the lists that are made of two, for all waits that share these."""
     if isinstance(first.who, Anybody) or isinstance(second.who, Anybody):
         return first if isinstance(first.who, Anybody) else second
-    if first.who is second.who or set(second.who) <= set(first.who):
+    key = id(first.who), id(second.who)
+    if key not in known:
+        is_whole = first.who is second.who or set(second.who) <= set(first.who)
+        known[key] = first.who if is_whole else list(dict.fromkeys([*first.who, *second.who]))
+    if known[key] is first.who:
         return first
-    return first._replace(who=list(dict.fromkeys([*first.who, *second.who])),
-                          because=tuple(dict.fromkeys([*first.because, *second.because])))
+    return first._replace(who=known[key], because=tuple(dict.fromkeys([*first.because, *second.because])))
 
 
 def end_by_both(process: Process, later: Optional[Process]) -> Process:
