@@ -104,9 +104,9 @@ class Screen:
     def roots_words(self) -> str:
         """Returns in a sentence or two who waits for whom, of those who are certain, or else of the likely ones."""
         roots = self.told_roots()
-        members = [index for number in roots for index in self.this.roots.roots[number]]
+        members, told = [index for number in roots for index in self.this.roots.roots[number]], set(roots)
         behind = [index for index, over in self.this.roots.above.items()
-                  if index not in self.this.roots.root_of and set(over) & set(roots)]
+                  if index not in self.this.roots.root_of and not told.isdisjoint(over)]
         is_certain = self.this.headline is Headline.DEADLOCK
         sure = [index for index in behind if not is_certain or index not in self.this.likely]
         more = f"; {len(sure):,} more {'waits' if len(sure) == 1 else 'wait'} behind" if sure else ""
@@ -215,7 +215,7 @@ class Screen:
             frames, whom = self.frames(index), self.whom(index)
             is_alike = frames and whom.endswith(OTHERS)  # (they stand at one line, each at an object of its own)
             groups.setdefault((self.what(index, not is_alike), whom, frames), []).append(index)
-        is_of_any = self.is_of_any(members)
+        is_of_any = self.is_of_any([index for key, alike in groups.items() if key[1] == ANY_OTHER for index in alike])
         if is_of_any:
             groups = {(what, "" if whom == ANY_OTHER else whom, frames): alike
                       for (what, whom, frames), alike in groups.items()}
@@ -228,9 +228,8 @@ class Screen:
         who = "Each waits" if all(whom == "" for _, whom, _ in groups) else "The others wait"
         return lines + ([f"  {who} for any: the state doesn't show for which."] if is_of_any else [])
 
-    def is_of_any(self, members: List[int]) -> bool:
-        """Whether the state doesn't show who of some has what others of them wait for."""
-        waiting = [index for index in members if self.whom(index) == ANY_OTHER]
+    def is_of_any(self, waiting: List[int]) -> bool:
+        """Whether the state doesn't show who has what some wait for."""
         hows = {wakers.how for index in waiting for part in self.waits.processes[index].parts for wakers in part}
         return bool(waiting) and not hows.isdisjoint(NOT_SHOWN)
 
