@@ -244,9 +244,9 @@ def misfit_of_object(value: Dict[str, Any], shape: Dict[Any, Any]) -> Optional[s
                 for key, part in value.items())
         return next((f".{key}{place}" for key, place in rows if place is not None), None)
     for key, wanted in shape.items():
-        name = key.rstrip("?")
+        name = key if key in value else key.rstrip("?")
         if name in value:
-            place = misfit(value[name], wanted)
+            place = None if type(value[name]) is wanted else misfit(value[name], wanted)
             if place is not None:
                 return f".{name}{place}"
         elif name == key:
