@@ -110,8 +110,8 @@ def merge(first: Sketch, second: Sketch, extent: str = PARTS, before: str = PART
     `before` how much the one that was read before it has. Those with a limit have the sign of their place yet."""
     later = {process.name: process for process in second.processes}
     missing = missing_names(first, later, extent)
-    known: Known = {}
-    processes = [forget(it) if it.name in missing else join(it, later.get(it.name), known) for it in first.processes]
+    lists: Known = {}
+    processes = [forget(it) if it.name in missing else join(it, later.get(it.name), lists) for it in first.processes]
     here = {process.name for process in processes}
     wanted = {name for names in lists_of_wakers(processes) for name in names} - here
     known = PARTS if PARTS in (extent, before) else extent
