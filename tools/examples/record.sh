@@ -94,6 +94,18 @@ own_postgres() {
         -c max_connections=40 "$@" > "$work/log" 2>&1 & servers+=($!)
     until psql -qXAtc 'select 1' > /dev/null 2>&1; do await_server $!; done
 }
+# Starts a pgbouncer before it, at $pool, with more lines of its settings: its database `shop` is that of the server.
+own_pgbouncer() {
+    pool=$((port + 1))
+    echo "\"$PGUSER\" \"\"" > "$work/users"
+    printf '%s\n' '[databases]' "shop = host=127.0.0.1 port=$PGPORT dbname=$PGDATABASE" '[pgbouncer]' \
+        listen_addr=127.0.0.1 "listen_port=$pool" unix_socket_dir= auth_type=trust "auth_file=$work/users" \
+        "admin_users=$PGUSER" "$@" > "$work/pgbouncer.ini"
+    chmod 644 "$work/users" "$work/pgbouncer.ini"
+    "${nobody[@]}" timeout 900 pgbouncer -q "$work/pgbouncer.ini" > "$work/log" 2>&1 & started+=($!)
+    until ask_pool 'show version' > /dev/null 2>&1; do await_server $!; done
+}
+ask_pool() { psql -qXAtc "$1" -h 127.0.0.1 -p "$pool" pgbouncer; }
 # Waits a moment for a server that starts, or prints why it has ended.
 await_server() {
     kill -0 "$1" || { cat "$work/log" >&2; exit 1; }

@@ -17,6 +17,8 @@ from ..sketch import LIMIT, SYSTEM, Process, Sketch, blocked, garbled, goes_on, 
 from ..snapshots import APART, Reading
 from . import State
 from .base import Parser, Snapshot, one_line
+from .pgbouncer import end_of, seconds_for
+from .pgbouncer import Row as Client
 from .postgres_text import Look, Row, looks_of, seconds_of
 from .sessions import SLACK, Limits, client_words, connections_of, end_of_socket, with_limits, words_for
 
@@ -26,6 +28,7 @@ CLIENT = "client backend"
 IDLE, IN_TRANSACTION, ACTIVE = "idle", ("idle in transaction", "idle in transaction (aborted)"), \
     ("active", "fastpath function call")
 HIDDEN = "this role may not see what it does: grant pg_monitor to it"
+LACKS = "the console of pgbouncer shows no {}, so nobody is seen through it"
 # Wait events of type IPC at which a leader waits for its workers, and a worker for its leader.
 FOR_WORKERS = ("ExecuteGather", "MessageQueueReceive", "ParallelFinish", "HashBuildHashInner", "BgWorkerShutdown",
                "ParallelCreateIndexScan", "ParallelBitmapScan")
@@ -45,6 +48,7 @@ class Server(Snapshot):
     names: Dict[int, str]
     rows_by_pid: Dict[int, Row]
     wanted: Set[int]
+    pooled: Set[int]
 
 
 class PostgresParser(Parser):
@@ -55,6 +59,7 @@ class PostgresParser(Parser):
         self.limits = Limits()
         self.lasted: Dict[Tuple[int, str], float] = {}  # by backends and counts, how long a wait has lasted at least
         self.last = 0.0  # the time of the last look
+        self.first = 0.0, 0.0  # when the first one was taken
 
     def read(self, state: State) -> List[Reading]:
         return [Reading(look.path, "server", [look], machine=look.machine, time=look.taken)
@@ -64,6 +69,7 @@ class PostgresParser(Parser):
         """Sees how long each wait has lasted in the last look that shows it."""
         first: Dict[Tuple[int, str], float] = {}
         self.last = max(reading.rows[0].time for reading in readings)
+        self.first = min(reading.rows[0].taken or (0.0, 0.0) for reading in readings)
         for look in (reading.rows[0] for reading in readings):
             for row in look.of("backend"):
                 if "odd" not in row and row["blocked_by"]:
@@ -78,16 +84,23 @@ class PostgresParser(Parser):
         snapshot.names = {pid: name_of(row) for pid, row in snapshot.rows_by_pid.items()}
         snapshot.wanted = {pid for row in snapshot.look.of("backend") if "odd" not in row
                            for pid in row["blocked_by"] or ()}
+        pooler = snapshot.look.pooler
+        snapshot.pooled = set() if pooler is None else {
+            pid for row in pooler.waiting() for pid in pooler.sessions_for(row)[0]}
+        snapshot.wanted |= snapshot.pooled
 
     def processes(self, snapshot: Server) -> Iterable[Tuple[str, Row]]:
         return [*(("backend", row) for row in snapshot.look.of("backend")
                   if row["backend"] in snapshot.wanted or not is_of_server(row)),
-                *(("prepared", row) for row in snapshot.look.of("prepared"))]
+                *(("prepared", row) for row in snapshot.look.of("prepared")),
+                *(("client", row) for row in waiting_in(snapshot.look))]
 
     def process_of(self, subject: Tuple[str, Row], snapshot: Server) -> Process:
         kind, row = subject
         if kind == "prepared":
             return prepared_one(row, snapshot.look)
+        if kind == "client":
+            return self.at_pool(row, snapshot)
         name = snapshot.names[row["backend"]]
         if "odd" in row:
             return garbled(name, f"its row has no {row['odd']} as these have it")
@@ -150,7 +163,7 @@ class PostgresParser(Parser):
             is_at_worker = any(is_cancelled(snapshot.rows_by_pid.get(pid)) for pid in blockers)
             part += tuple(wakers(how, [name], premise(LIMIT)) for how in ("breaks", "cancels")[:1 + is_at_worker])
         starts = {"lock_timeout": lock.get("waitstart"), "statement_timeout": row["query_start"],
-                  "transaction_timeout": row["xact_start"]}
+                  "query_timeout": row["query_start"], "transaction_timeout": row["xact_start"]}
         part += self.timeouts(row, look, starts)
         return part + ((unseen("unshown", "the server is a standby, which may cancel it"),)
                        if look.head["standby"] else ())
@@ -208,15 +221,11 @@ class PostgresParser(Parser):
         if state is None and (row["backend_type"] in (None, CLIENT) or "insufficient privilege" in str(row["query"])):
             return unknown(name, HIDDEN, **more)
         if state in IN_TRANSACTION:
-            starts = {"idle_in_transaction_session_timeout": row["state_change"],
-                      "transaction_timeout": row["xact_start"]}
-            more["operation"] = state
-            if row["backend"] not in snapshot.wanted:
-                parts = any_of(unseen("client"), unseen("to-come"))
-                return rests(name, "has an open transaction", parts, [SYSTEM], **more)
-            parts = with_limits(any_of(unseen("client")), self.timeouts(row, look, starts))
-            why = f"{state}{since(row['state_change'], look)}; {client_words(end_of_client(row))}"
-            return blocked(name, parts, [SYSTEM, premise(LIMITS)], reason=why, **more)
+            return self.at_client(name, row, {
+                "idle_in_transaction_session_timeout": row["state_change"], "idle_transaction_timeout":
+                row["state_change"], "transaction_timeout": row["xact_start"]}, snapshot, more)
+        if state == IDLE and row["backend"] in snapshot.pooled:
+            return self.at_client(name, row, {"idle_session_timeout": row["state_change"]}, snapshot, more)
         if state == IDLE:  # (a notice of another session may come to its client)
             parts = any_of(unseen("client"), unseen("to-come"))
             return rests(name, "has nothing to do", parts, [SYSTEM], **{**more, "operation": state})
@@ -228,6 +237,34 @@ class PostgresParser(Parser):
             return blocked(name, parts, [SYSTEM, premise(LIMITS)], reason="waits for its client", **more)
         return unknown(name, f"what ends its wait at {more['operation'] or state} isn't known", **more)
 
+    def at_client(self, name: str, row: Row, starts: Dict[str, Optional[str]], snapshot: Server,
+                  more: Dict[str, Any]) -> Process:
+        """One that has what others wait for, or may have it, until its client goes on with its transaction, or gives it
+        back to its pool."""
+        more["operation"] = row["state"]
+        if row["backend"] not in snapshot.wanted:
+            parts = any_of(unseen("client"), unseen("to-come"))
+            return rests(name, "has an open transaction", parts, [SYSTEM], **more)
+        parts = with_limits(any_of(unseen("client")), self.timeouts(row, snapshot.look, starts))
+        why = f"{row['state']}{since(row['state_change'], snapshot.look)}; {client_words(end_of_client(row))}"
+        return blocked(name, parts, [SYSTEM, premise(LIMITS)], reason=why, **more)
+
+    # Clients of pgbouncer
+
+    def at_pool(self, client: Client, snapshot: Server) -> Process:
+        """A client that waits until another one gives a session of its pool back. It is the same wait if it began
+        before the first look did, and another one if it began after that."""
+        look, name, lasted = snapshot.look, name_of_client(client), seconds_for(client)
+        assert look.pooler is not None and look.taken is not None
+        limits = look.pooler.limits_of(client, name, self.limits, self.last - look.time)
+        parts = with_limits([look.pooler.part_of(client, snapshot.names)], limits)
+        stamp, (begin, end), first = f"{client['ptr']} since {client['request_time']}", look.taken, self.first
+        is_same, is_another = look.taken == first or end - lasted < first[0], begin - lasted > first[1]
+        return blocked(name, parts, [SYSTEM, premise(LIMITS)], operation="pool", count=stamp if is_same else None,
+                       objects=[stamp, *(["another"] if is_another else [])],
+                       site=f"client {name.rpartition(' ')[2]}", frames=[client.get("application_name") or "client"],
+                       note=f"a session of the pool {client['database']} for {words_for(lasted)}")
+
     def finish(self, sketch: Sketch, snapshots: List[Server]) -> None:
         """Adds the limits, and who serves which connection. Warns of what the role couldn't see."""
         self.limits.add_to(sketch)
@@ -236,6 +273,9 @@ class PostgresParser(Parser):
             sketch.connections.update(connections_of({
                 name: keys_of(snapshot.rows_by_pid[pid], snapshot.look) for pid, name in snapshot.names.items()
                 if name in names and "odd" not in snapshot.rows_by_pid[pid]}))
+            sketch.connections.update(connections_of({
+                name_of_client(row): [end_of(row)] for row in waiting_in(snapshot.look) if end_of(row)}))
+            sketch.warnings += [LACKS.format(", ".join(snapshot.look.lacks))] if snapshot.look.lacks else []
         hidden = sum(process.reason == HIDDEN for process in sketch.processes)
         if hidden:
             sketch.warnings.append(f"{HIDDEN}, for {hidden} of them")
@@ -256,6 +296,17 @@ def keys_of(row: Row, look: Look) -> List[str]:
     is of the machine on which the state was taken."""
     end = end_of_client(row)
     return [*([end] if end else []), *([f"process {row['backend']} of {look.machine}"] if look.machine else [])]
+
+
+def waiting_in(look: Look) -> List[Client]:
+    """Returns the clients that wait for a session of a pool."""
+    return look.pooler.waiting() if look.pooler is not None else []
+
+
+def name_of_client(row: Client) -> str:
+    """Returns what a client is called that has no session: as that would be, with its end of its connection."""
+    who = one_line(row.get("application_name") or row["user"], 40)
+    return f"{who}@{one_line(row['database'], 40)} {end_of(row) or row['ptr']}"
 
 
 def name_of(row: Row) -> str:

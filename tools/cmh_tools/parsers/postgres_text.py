@@ -10,6 +10,8 @@ from functools import cached_property
 from typing import Any, Dict, Iterable, List, Optional, Tuple
 
 from ..files import Refusal, shown
+from .pgbouncer import LIMITS as OF_POOLER
+from .pgbouncer import MARK, Pooler, pooler_of
 from .sessions import Lines
 
 Row = Dict[str, Any]
@@ -57,6 +59,9 @@ class Look:
     rows: Dict[str, List[Row]] = field(default_factory=dict)
     machine: str = ""
     taken: Optional[Tuple[float, float]] = None
+    console: List[str] = field(default_factory=list)  # lines of pgbouncer's, if it was asked
+    pooler: Optional[Pooler] = None
+    lacks: List[str] = field(default_factory=list)  # columns that these should have
 
     @cached_property
     def time(self) -> float:
@@ -78,7 +83,11 @@ class Look:
 
     def limit(self, name: str, backend: Row) -> Optional[float]:
         """Returns a limit that is in force for a backend as far as settings say, in seconds, 0 for none, or None where
-        that isn't known. What is set for a role in a database counts before what is set for the role, and so on."""
+        that isn't known. What is set for a role in a database counts before what is set for the role, and so on. A
+        limit of pgbouncer's is in force for those that it has, alone."""
+        if name in OF_POOLER:
+            pooler = self.pooler
+            return pooler.limit(name) if pooler is not None and backend["backend"] in pooler.clients else None
         here = backend["usesysid"], backend["datid"]
         value = self.set_for(name, *here)
         own = self.set_for(name, self.head["role"], self.head["database"])
@@ -110,6 +119,9 @@ def looks_of(text: str, path: str) -> List[Look]:
     looks: List[Look] = []
     lines: Iterable[Tuple[int, str]] = enumerate(text.replace("\r\n", "\n").split("\n"), 1)
     for number, line in ((number, line) for number, line in lines if line.strip()):
+        if looks and line.startswith(MARK):
+            looks[-1].console.append(line)
+            continue
         kind, row = row_of(line, f"{shown(path)}:{number}")
         if kind == "look":
             looks.append(Look(path))
@@ -142,5 +154,8 @@ def check(look: Look) -> None:
         names = [tuple(row[key] for key in keys) for row in look.of(kind)]
         if len(set(names)) != len(names):
             raise Refusal(f"{shown(look.path)}: a row of {kind} stands twice in a look")
+    if look.console and taken:  # (without its time a look is cut off there)
+        look.pooler, look.lacks = pooler_of(look.console, shown(look.path))
+        look.pooler.find_clients(look.of("backend"))
     if taken:
         look.taken, look.machine = (taken[0]["taken"][0], taken[0]["taken"][1]), taken[0]["machine"]

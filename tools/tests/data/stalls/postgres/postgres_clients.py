@@ -2,7 +2,7 @@
 """Has clients of a server do what stalls them, or what is only slow: statement after statement, each by a session that
 is called as its application. Says 'ready' then, and ends with its standard input. psql says which server it is.
 
-usage: postgres_clients.py NAME
+usage: postgres_clients.py NAME [PORT OF PGBOUNCER]
 """
 import os
 import subprocess
@@ -28,6 +28,7 @@ def circle(last=row(1)):
             ("packer", row(2)), ("web", row(2))]
 
 
+POOL = [("shop", "begin;" + row(1)), ("web", "begin;" + row(2)), ("audit", row(3)), ("api", row(3))]
 CASES = {
     "migration": migration(),
     "migration_slow": migration(SLEEP),
@@ -54,6 +55,18 @@ CASES = {
     # A client that doesn't take what the server sends: the COPY goes to a pipe that nobody reads.
     "unread": [("shop", "begin;" + row(1)),
                ("shop", "copy (select repeat('x', 1000) from generate_series(1, 100000)) to stdout;"), ("web", row(1))],
+    # Behind pgbouncer, whose pool has two sessions: each request has one in a transaction, and asks for another one.
+    "pool": POOL,
+    "pool_limit": POOL,
+    "pool_slow": [(name, text.replace("begin;", "begin;" + SLEEP)) for name, text in POOL],
+    # It has no session left for the one who would commit what both wait for.
+    "pool_prepared": [("bank", "begin;" + row(1) + "prepare transaction 'transfer-17';"), ("shop", row(1)),
+                      ("web", row(1)), ("bank", "commit prepared 'transfer-17';")],
+    # It keeps a session for each client as long as that is connected.
+    "pool_sessions": [("shop", "select 1;"), ("web", "begin;" + row(1)), ("audit", row(1))],
+    "pool_sessions_slow": [("shop", SLEEP), ("web", "begin;" + row(1) + SLEEP), ("audit", row(1))],
+    # An operator lets nobody begin, though it may have one more session.
+    "pool_paused": [("shop", "begin;" + row(1)), ("console", "pause shop;"), ("web", row(1))],
     # What a role can't see that has no right to.
     "hidden": [("shop", "begin;" + row(1)), ("web", row(1))],
 }
@@ -62,6 +75,8 @@ CASES = {
 def start(name):
     out = subprocess.PIPE if sys.argv[1] == "unread" else subprocess.DEVNULL
     env = {**os.environ, "PGAPPNAME": name, **({"PGUSER": "clerk"} if name in ("packer", "printer") else {})}
+    if sys.argv[1].startswith("pool"):
+        env.update(PGHOST="127.0.0.1", PGPORT=sys.argv[2], PGDATABASE="pgbouncer" if name == "console" else "shop")
     return subprocess.Popen(["psql", "-qX"], stdin=subprocess.PIPE, stdout=out, text=True, env=env)
 
 
