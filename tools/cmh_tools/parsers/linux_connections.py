@@ -8,7 +8,8 @@ from .linux_files import AT_LISTENER
 from .linux_text import Machine, Owner, Row, Thread
 from .linux_waits import EPOLLS, READ, SETS, int32
 
-SERVERS = ("beam.smp", "postgres", "mariadbd", "mysqld")  # programs whose states say who is at the other end
+# Programs whose states say who is at the other end.
+SERVERS = ("beam.smp", "postgres", "pgbouncer", "mariadbd", "mysqld")
 MAPPED = "[::ffff:"  # an address of IPv4 in one of IPv6
 
 
