@@ -195,7 +195,8 @@ def fault_of(system: str, targets: Sequence[str]) -> str:
         return "whom to take isn't said"
     if system in SERVERS and any(map(PASSWORD.search, targets)):
         return "a password is on the command line, where all users see it: a file for passwords takes it"
-    return "one server is expected" if system in SERVERS and targets[1:] else ""
+    most = 1 + (system == "postgres")  # (behind the server stands the console of pgbouncer)
+    return "one server is expected" if system in SERVERS and targets[most:] else ""
 
 
 def with_sockets(captures: List[Capture]) -> List[Capture]:
