@@ -85,7 +85,7 @@ class Likely:
     def doubts(self, members: AbstractSet[str]) -> List[Doubt]:
         """Returns the doubts: those on members of roots first, and of these those that most often hold."""
         groups: Dict[str, List[rule.Doubt]] = {}
-        for aside in self.decision.doubts(self.numbers.values()):
+        for aside in self.decision.doubts_of_likely:
             groups.setdefault(self.key_of(aside), []).append(aside)
         on_roots = {key for key, asides in groups.items()
                     if any(not members.isdisjoint(aside.waits) for aside in asides)}

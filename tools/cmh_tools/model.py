@@ -8,7 +8,7 @@ wakers is one that nobody can end.
 from __future__ import annotations
 
 from enum import Enum
-from typing import Dict, Iterable, Iterator, List, NamedTuple, Sequence, Tuple, Union
+from typing import Dict, Iterable, List, NamedTuple, Sequence, Tuple, Union
 
 
 class Sign(Enum):
@@ -24,6 +24,8 @@ class Sign(Enum):
     UNKNOWN = "is unknown"  # what it waits at isn't understood
     ENDED = "has ended"
 
+    __hash__ = object.__hash__  # (that of an Enum is no C, and each waker is looked up by these)
+
 
 class Strength(Enum):
     """How much a waker says about a wait."""
@@ -32,6 +34,8 @@ class Strength(Enum):
     ABLE = "able"  # it can reach what is waited at
     AGAINST = "against"  # it may end the wait in another way, as the state shows
     UNSEEN = "unseen"  # it isn't in the state; so the rule takes whoever is named and isn't there
+
+    __hash__ = object.__hash__
 
 
 class Anybody:
@@ -139,8 +143,3 @@ def any_of(*part: Wakers) -> List[Part]:
 def all_of(names: Iterable[str], how: str, *because: str, beside: Part = ()) -> List[Part]:
     """The parts of a wait for all of these names, each of which those `beside` may end too."""
     return [(wakers(how, [name], *because), *beside) for name in names]
-
-
-def of_strength(part: Part, *strengths: Strength) -> Iterator[Wakers]:
-    """Yields the wakers of these strengths."""
-    return (group for group in part if group.strength in strengths)

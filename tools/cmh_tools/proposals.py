@@ -119,7 +119,7 @@ def freeing_lines(waits: Waits) -> List[Proposal]:
     """Returns a line for those who may end the wait of some, likely end none, and alone keep these from being stuck."""
     decision = waits.decision
     lists: Dict[Tuple[str, ...], List[str]] = {}
-    for doubt in decision.doubts(decision.likely):
+    for doubt in decision.doubts_of_likely:
         if doubt.who is not None and doubt.strength is not Strength.UNSEEN:
             lists.setdefault(tuple(doubt.waits), []).append(doubt.who)
     kept = {some: list(dict.fromkeys(names)) for some, names in lists.items()}

@@ -19,7 +19,7 @@ from itertools import chain
 from typing import AbstractSet, Callable, Collection, Dict, FrozenSet, Iterable, Iterator, List, NamedTuple, Optional
 from typing import Sequence, Set, Tuple
 
-from .model import Anybody, Part, Sign, Strength, Wakers, of_strength
+from .model import Anybody, Part, Sign, Strength, Wakers
 
 PRESENT = frozenset(Sign)  # whoever is in the state has one of these
 NOT_ASIDE = PRESENT - {Sign.UNKNOWN, Sign.RESTS, Sign.TICKS}  # signs of able ones that aren't set aside
@@ -98,7 +98,21 @@ class Decision:
 
     @cached_property
     def freed(self) -> Dict[int, Optional[str]]:
-        return self.graph(self.freeing_in).freed(self.moving, self.blocked)
+        return self.freeing.freed(self.moving, self.blocked)
+
+    @cached_property
+    def freeing(self) -> Graph:
+        return self.graph(self.freeing_in)
+
+    @cached_property
+    def freed_beside(self) -> Dict[int, Optional[str]]:
+        """Who is freed if nobody frees those who are likely to be stuck."""
+        return self.freeing.freed(self.moving, self.blocked - self.likely)
+
+    @cached_property
+    def doubts_of_likely(self) -> List[Doubt]:
+        """On whom it hangs that all of them are stuck."""
+        return self.doubts(sorted(self.likely))
 
     @cached_property
     def headline(self) -> Headline:
@@ -151,8 +165,8 @@ class Decision:
 
     def freeing_in(self, owner: str, part: Part) -> List[Sequence[str]]:
         """Returns those of a part who end it once they go on."""
-        return [*(self.those(named, PRESENT) for named in of_strength(part, Strength.NAMED)),
-                *(self.those(able, FREEING) for able in of_strength(part, Strength.ABLE))]
+        return [self.those(wakers, PRESENT if wakers.strength is Strength.NAMED else FREEING) for wakers in part
+                if wakers.strength is Strength.NAMED or wakers.strength is Strength.ABLE]
 
     def those(self, wakers: Wakers, signs: FrozenSet[Sign]) -> Sequence[str]:
         """Returns those of some wakers who have one of these signs: one list for all waits that share theirs."""

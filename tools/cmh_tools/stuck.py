@@ -12,6 +12,7 @@ sends no more, so it counts here as one of the set, but is none of the stuck.
 from __future__ import annotations
 
 from collections import Counter, deque
+from copy import copy
 from typing import Callable, Container, Dict, Iterable, List, Optional, Sequence, Set, Tuple
 
 from .files import Refusal
@@ -108,6 +109,25 @@ class Waits:
         self.subjects = [self.subject(at) for at in range(self.number)]
         self.decision = Decision(self.subjects)
         self.kinds = [self.kind_of(at) for at in range(self.number)]
+        self.number_nodes()
+
+    def without_doubts(self, sketch: Sketch, changed: Iterable[int]) -> Waits:
+        """Returns the waits of the same sketch where some have only those wakers left by whom they are likely to be
+        stuck. All else is as it was, but for lists that are shared."""
+        if self.shared or self.alike:
+            return Waits(sketch)
+        made = copy(self)
+        made.processes, made.subjects, made.kinds = sketch.processes, list(self.subjects), self.kinds[:self.number]
+        for at in changed:
+            made.subjects[at] = made.subject(at)
+            made.kinds[at] = made.kind_of(at)
+        made.decision = Decision(made.subjects)
+        made.decision.freed = self.decision.freed_beside
+        made.number_nodes()
+        return made
+
+    def number_nodes(self) -> None:
+        """Sets whom each one still waits for, with the hubs of lists, and who waits for each."""
         self.has_ended = ENDED in self.kinds
         self.left: List[List[int]] = [[] for _ in self.processes]
         self.hubs: Dict[int, int] = {}
@@ -116,7 +136,8 @@ class Waits:
         for at, subject in enumerate(self.subjects):
             self.left[at] = self.nodes_of(subject.parts) if self.kinds[at] in (ANY, ALL) else []
         self.senders = [senders & set(self.all_left(at)) if senders and self.kinds[at] == ANY else set()
-                        for at, senders in enumerate(self.senders)] + [set() for _ in self.left[self.number:]]
+                        for at, senders in enumerate(self.senders[:self.number])]
+        self.senders += [set() for _ in self.left[self.number:]]
         self.waiters: List[List[int]] = [[] for _ in self.left]
         for at, others in enumerate(self.left):
             for other in others:
