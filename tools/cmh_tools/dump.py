@@ -12,7 +12,7 @@ from typing import Any, Dict, List, NamedTuple, Optional, Sequence, Set
 from .doubts import Doubt, Likely
 from .reduction import Reduction
 from .roots import Roots
-from .sketch import Sketch, text_of_sketch
+from .sketch import Sketch, text_of_rows, text_of_sketch
 from .stuck import Answer, Waits
 
 MESSAGES, LONGEST = 4096, 64
@@ -54,9 +54,9 @@ class Dump:
     `left_out` and `folded` say what became of others: a list, and who stands for each. `named` has the names in the
     dump, also of hubs, and `known` the keys of doubts in the order of their numbers."""
 
-    def __init__(self, sketch: Sketch, known: Sequence[str] = ()) -> None:
+    def __init__(self, sketch: Sketch, known: Sequence[str] = (), waits: Optional[Waits] = None) -> None:
         self.sketch, self.known = sketch, known
-        self.waits = Waits(sketch)
+        self.waits = waits or Waits(sketch)
         self.kept_likely: Optional[LikelyAnswer] = None
         self.names = program_names([process.name for process in sketch.processes])
         sites = dict.fromkeys(process.site for process in sketch.processes if process.site is not None)
@@ -82,7 +82,8 @@ class Dump:
             likely = Likely(self.waits, self.known)
             self.kept_likely = LikelyAnswer(self, [], likely)
             if likely.numbers:
-                dump = Dump(likely.sketch(self.sketch))
+                sketch = likely.sketch(self.sketch)
+                dump = Dump(sketch, (), self.waits.without_doubts(sketch, likely.numbers.values()))
                 members = Roots(dump.waits, dump.low.members()).root_of
                 doubts = likely.doubts({self.waits.processes[at].name for at in members})
                 self.kept_likely = LikelyAnswer(dump, doubts, likely)
@@ -118,7 +119,7 @@ class Dump:
     def text(self, answer: Answer, part: int = 0) -> str:
         """Returns the text of this tree, with a line for each process."""
         tree = self.tree(answer, part)
-        lines = ",\n  ".join(map(json.dumps, tree["processes"]))
+        lines = text_of_rows(tree["processes"])
         more = f',\n"in_transit":{json.dumps(tree["in_transit"])}' if "in_transit" in tree else ""
         return f'{{"version":{tree["version"]},"sites":{json.dumps(tree["sites"])},"processes":[\n  {lines}]{more}}}\n'
 

@@ -47,6 +47,7 @@ GOING = (Sign.GOES_ON, Sign.TICKS, Sign.SLEEPS, Sign.POLLS)  # signs of those th
 WAITING = (Sign.BLOCKED, Sign.RESTS)
 TEXTS = ("site", "note", "operation", "thread", "meeting", "remedy", "effect")
 LISTS = ("frames", "objects", "because")
+TOLD = ("reason", *TEXTS, *LISTS, "count")
 SIGNS = {sign.value: sign for sign in Sign}
 STRENGTHS = {strength.value: strength for strength in Strength}
 WAKER_KEYS = {"who", "how", "strength", "because", "what"}
@@ -610,9 +611,15 @@ def tree_of(sketch: Sketch) -> Dict[str, Any]:
 def text_of_sketch(sketch: Sketch) -> str:
     """Returns the JSON that `read_sketch` reads, with a line for each process."""
     tree = tree_of(sketch)
-    rows = ",\n  ".join(map(json.dumps, tree.pop("processes")))
+    rows = text_of_rows(tree.pop("processes"))
     more = "".join(f",\n {json.dumps(key)}: {json.dumps(value)}" for key, value in tree.items())
     return f'{{"processes": [\n  {rows}]{more}}}'
+
+
+def text_of_rows(rows: List[Dict[str, Any]]) -> str:
+    """Returns the JSON of rows whose first key is their name, and of which no value has such rows: each on a line. To
+    write all at once takes half as long, and within a text no quote stands without a backslash."""
+    return json.dumps(rows)[1:-1].replace('}, {"name": ', '},\n  {"name": ')
 
 
 def row_of(process: Process, lists: Dict[int, str]) -> Dict[str, object]:
@@ -620,11 +627,9 @@ def row_of(process: Process, lists: Dict[int, str]) -> Dict[str, object]:
     row: Dict[str, object] = {"name": process.name, "sign": process.sign.value}
     if process.parts:
         row["wait"] = [[row_of_wakers(some, lists) for some in part] for part in process.parts]
-    for key in ("reason", *TEXTS, *LISTS, "count"):
-        value = getattr(process, key)
-        if value:
-            row[key] = value
-    row.update({key: True for key, name in FLAGS.items() if getattr(process, name)})
+    about = vars(process)
+    row.update({key: about[key] for key in TOLD if about[key]})
+    row.update({key: True for key, name in FLAGS.items() if about[name]})
     return row
 
 
