@@ -15,7 +15,7 @@ from .files import short_name, shown
 from .model import Sign, Wakers
 from .rule import Headline
 from .sketch import ALL, ANY, ENDED, REST
-from .terminal import AsItIs, fill, painted
+from .terminal import AsItIs, Painted, fill, painted
 
 WIDTH = 80
 MEMBERS, ROOTS, DOUBTS, ENDS, CURES = 4, 5, 3, 4, 4  # of each, as many are shown; the others are counted
@@ -60,6 +60,7 @@ class Screen:
         self.cures = this.cures
         self.members = [set(members) for members in this.roots.roots[:ROOTS]]
         self.names_unit = True
+        self.heads: Dict[bool, Painted] = {}  # by whether they name the unit
         self.known: Dict[Tuple[int, ...], Tuple[Dict[int, None], Optional[int]]] = {}
         self.prefix = prefix_of([process.name for process in this.waits.processes])
 
@@ -78,10 +79,16 @@ class Screen:
     # The headline
 
     def head(self) -> List[str]:
+        """Returns the headline, made once as it is with the unit or without."""
+        if self.names_unit not in self.heads:
+            self.heads[self.names_unit] = self.head_words()
+        return [self.heads[self.names_unit]]
+
+    def head_words(self) -> Painted:
         headline = self.this.headline
         words = {Headline.DEADLOCK: self.roots_words, Headline.LIKELY: self.roots_words, Headline.NONE: self.free_words,
                  Headline.IDLE: self.idle_words, Headline.NOT_KNOWN: self.open_words}[headline]()
-        return [painted(f"{headline.value}: {words}", (headline.value, COLOURS.get(headline, "undecided")))]
+        return painted(f"{headline.value}: {words}", (headline.value, COLOURS.get(headline, "undecided")))
 
     def height(self, lines: List[str]) -> int:
         """Returns how many lines of the screen some take."""
