@@ -77,9 +77,8 @@ class Process:
     of one that people end in another way than by a restart of its site, and `effect` is what its end does besides.
 
     `is_collective` says that its operation needs all of a group to come to it, and `meeting` at which one it is, or for
-    which of several all have to come, where that may differ from others of that operation. `moment` says how it was
-    read, if not as others of its system. `is_garbled` says that its text in a look isn't understood, so that no fact on
-    its place decides it. """
+    which of several all have to come, where that may differ from others of that operation. `is_garbled` says that its
+    text in a look isn't understood, so that no fact on its place decides it. """
 
     name: str
     sign: Sign
@@ -97,7 +96,6 @@ class Process:
     remedy: str = ""
     effect: str = ""
     is_collective: bool = False
-    moment: str = ""
     is_garbled: bool = False
 
     def copy(self) -> Process:

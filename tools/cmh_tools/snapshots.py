@@ -34,6 +34,7 @@ SHOWN = 5  # names in a reason
 # What one with a limit does, by what its place says, if a count says that it has come back there.
 COME_BACK = {Sign.TICKS: Sign.TICKS, Sign.SLEEPS: Sign.POLLS, Sign.POLLS: Sign.POLLS}
 COME = "the states differ in who hasn't come yet"
+Moments = Dict[str, str]  # how processes were read, by their names
 Known = Dict[Tuple[int, int], Sequence[str]]  # lists of two states in one, by the ids of both
 
 
@@ -62,17 +63,23 @@ def snapshots_of(readings: List[Reading]) -> List[List[Optional[Reading]]]:
     return [list(some) for some in zip_longest(*sources.values())]
 
 
-def compare(sketches: List[Sketch], extents: List[str], moment: str) -> Sketch:
+def compare(sketches: List[Sketch], extents: List[str], moment: str, moments: Sequence[Moments] = ()) -> Sketch:
     """Returns the sketch of the sketches of one system, each as it was read later than the one before, where names
     stand for the same processes. `extents` has how much of the system each has, and `moment` is ONCE, WOKEN or APART
-    unless a process has its own."""
+    unless `moments` of each has another one for a process."""
     made = functools.reduce(lambda first, row: merge(first, *row), zip(sketches[1:], extents[1:], extents), sketches[0])
     made.readings = len(sketches)
     set_signs(made, sketches[1:])
     for process in made.processes:
-        if (process.moment or moment) != ONCE and (len(sketches) == 1 or process.count is None):
+        if (moment_of(process.name, moments) or moment) != ONCE and (len(sketches) == 1 or process.count is None):
             doubt_wait(process, ONE_STATE if len(sketches) == 1 else UNCOUNTED)
     return made
+
+
+def moment_of(name: str, moments: Sequence[Moments]) -> str:
+    """Returns how a process was read, if it was read in the same way each time and not as others of its system."""
+    own = {some[name] for some in moments if name in some}
+    return own.pop() if len(own) == 1 else ""
 
 
 def doubt_wait(process: Process, doubt: str) -> None:
@@ -200,7 +207,6 @@ def waiter_of(process: Process, later: Process, known: Known) -> Process:
     """One that waits at the same place in both states."""
     made = process.copy()
     made.count = process.count if process.count == later.count else None
-    made.moment = process.moment if process.moment == later.moment else ""
     made.because = list(dict.fromkeys([*process.because, *later.because]))
     if Sign.UNKNOWN in (process.sign, later.sign):
         made.sign, made.parts = Sign.UNKNOWN, []

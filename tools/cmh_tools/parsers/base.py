@@ -17,8 +17,8 @@ from ..assumptions import sentence_of
 from ..files import Refusal, shown
 from ..model import Wakers, unseen, wakers
 from ..sketch import Process, Sketch, quote
-from ..snapshots import APART, CUT, ONCE, OVERLAP, PARTS, WHOLE, Reading, compare, doubt_wait, left_out, overlap, \
-    snapshots_of
+from ..snapshots import APART, CUT, ONCE, OVERLAP, PARTS, WHOLE, Moments, Reading, compare, doubt_wait, left_out, \
+    overlap, snapshots_of
 from . import State
 
 KEPT = 65536  # lists of reasons whose assumptions are kept
@@ -34,11 +34,13 @@ class Break(NamedTuple):
 
 
 class Snapshot:
-    """The readings of all sources at one time. A source that was not read then is left out. A parser that finds more
-    for all processes in `prepare` derives its own from it, which says what that is."""
+    """The readings of all sources at one time. A source that was not read then is left out. `moments` has how each
+    process was read, ONCE, WOKEN or APART, or nothing where it was read as others are. A parser that finds more for all
+    processes in `prepare` derives its own from it, which says what that is."""
 
     def __init__(self, readings: Sequence[Optional[Reading]]) -> None:
         self.readings = [reading for reading in readings if reading is not None]
+        self.moments: Moments = {}
         whole = len(self.readings) == len(readings)
         extents = {reading.extent for reading in self.readings} | (set() if whole else {PARTS})
         self.extent = next((extent for extent in (PARTS, CUT, WHOLE) if extent in extents), WHOLE)
@@ -126,7 +128,8 @@ class Parser:
         if self.MOMENT == APART and overlap(readings):
             for process in sketches[0].processes:
                 doubt_wait(process, OVERLAP)
-        sketch = compare(sketches, [snapshot.extent for snapshot in snapshots], self.MOMENT)
+        sketch = compare(sketches, [snapshot.extent for snapshot in snapshots], self.MOMENT,
+                         [snapshot.moments for snapshot in snapshots])
         machines = {reading.machine for reading in readings}
         sketch.machine = machines.pop() if len(machines) == 1 else ""
         times = [snapshot.time() for snapshot in snapshots]
@@ -145,6 +148,7 @@ class Parser:
         sketch = Sketch([], system=self.NAME)
         for subject in self.processes(snapshot):
             process = self.process_of(subject, snapshot)
+            snapshot.moments.setdefault(process.name, "")
             for name in assumptions_in(tuple(reasons_of(process))):
                 sketch.premises[name] = sentence_of(name)
                 broken = self.BREAKS[name].shown_by(subject, snapshot) if name in self.BREAKS else ""

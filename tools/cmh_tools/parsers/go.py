@@ -156,7 +156,7 @@ class GoParser(Parser):
         where = f" at {place.frames[0]}" if place.frames else ""
         process.note = f"{place.operation}{where}{since}"
         if goroutine.state in OF_THE_SYSTEM or not snapshot.is_stopped:
-            process.moment = APART
+            snapshot.moments[name] = APART
         return process
 
     def values(self, goroutine: Goroutine) -> List[str]:

@@ -121,12 +121,13 @@ class JvmParser(Parser):
             if thread.state == "BLOCKED" and thread.key in snapshot.locks.wanted else ""
         call = " ".join(filter(None, [place.call or own, of_class]))
         process.note = " at ".join(filter(None, [call, *place.frames[:1]])) + taken_in(thread, snapshot)
-        process.moment = APART if snapshot.dump.is_file else process.moment
+        if snapshot.dump.is_file:
+            snapshot.moments[name] = APART
         set_count(process, thread, place, snapshot)
         return process
 
     def finish(self, sketch: Sketch, snapshots: List[Threads]) -> None:
-        count_owned(sketch.processes)
+        count_owned(sketch.processes, [snapshot.moments for snapshot in snapshots])
         add_inner(sketch, snapshots)
         warnings = [line for dump in self.dumps for line in dump.warnings]
         sketch.warnings = list(dict.fromkeys([*warnings, *sketch.warnings]))
@@ -161,7 +162,8 @@ def awake_of(dump: Dump) -> List[Thread]:
 def set_count(process: Process, thread: Thread, place: Place, snapshot: Threads) -> None:
     """Sets the processor time as its count. Who is blocked at a monitor, or only waits again, wakes up by itself and
     uses some, so that it counts nothing there."""
-    if process.moment == ONCE or place.has(AGAIN) or thread.state == "BLOCKED" or not thread.cpu or not snapshot.counts:
+    is_once = snapshot.moments.get(process.name) == ONCE
+    if is_once or place.has(AGAIN) or thread.state == "BLOCKED" or not thread.cpu or not snapshot.counts:
         return
     process.count = f"cpu {thread.cpu}"
     process.because = process.because + ([premise(TIMED)] if process.sign in WAITING else [])

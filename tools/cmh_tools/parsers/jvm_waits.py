@@ -142,11 +142,10 @@ def named(name: str, how: str, whom: List[str], because: List[str], *beside: Par
     return blocked(name, any_of(wakers(how, whom), *(more for part in beside for more in part)), because)
 
 
-def owned(name: str, owner: str, because: List[str], *beside: Part) -> Process:
+def owned(name: str, owner: str, because: List[str], snapshot: Threads, *beside: Part) -> Process:
     """One that waits for what another owns, which alone gives it back: one moment shows that."""
-    process = named(name, "owns", [owner], because, *beside)
-    process.moment = ONCE
-    return process
+    snapshot.moments[name] = ONCE
+    return named(name, "owns", [owner], because, *beside)
 
 
 def wait_for_monitor(thread: Thread, name: str, snapshot: Threads) -> Process:
@@ -156,7 +155,7 @@ def wait_for_monitor(thread: Thread, name: str, snapshot: Threads) -> Process:
         return undecided(name, (snapshot.everybody.able,), "it waits for a monitor, and the state doesn't show which")
     holders = snapshot.locks.monitor_holders(wanted, thread.key)
     if len(holders) == 1:
-        return owned(name, snapshot.names[holders[0]], [SYSTEM], snapshot.left_out())
+        return owned(name, snapshot.names[holders[0]], [SYSTEM], snapshot, snapshot.left_out())
     perhaps = [snapshot.names[key] for key in snapshot.locks.perhaps.get(wanted, []) if key != thread.key]
     names = [snapshot.names[key] for key in holders] or perhaps
     shows = "shows several holders of it" if holders else "shows no holder of it"
@@ -201,7 +200,7 @@ def wait_without_limit(thread: Thread, place: Place, name: str, snapshot: Thread
     owner, parked = snapshot.locks.owner(thread), parked_at(thread)
     beside = (*(snapshot.cancelling(thread) if place.has(INTERRUPTIBLY) else ()), *snapshot.left_out())
     if owner is not None and (thread.parked_class or parked).startswith(OF_THE_JDK):
-        return owned(name, snapshot.names[owner], [SYSTEM], beside)
+        return owned(name, snapshot.names[owner], [SYSTEM], snapshot, beside)
     if parked and snapshot.dump.has_owners and READS.fullmatch(place.call) and snapshot.locks.writers[parked]:
         return wait_to_read(parked, name, beside, snapshot)
     wait = snapshot.heap.wait_of(thread)
@@ -353,7 +352,7 @@ def wait_for_class(thread: Thread, name: str, snapshot: Threads) -> Process:
     why = other_initialiser(thread, snapshot)
     if why:
         return undecided(name, (wakers("guess", [snapshot.names[key] for key in others]),), why)
-    return owned(name, snapshot.names[keys[0]], [premise(INITIALISER)], snapshot.left_out())
+    return owned(name, snapshot.names[keys[0]], [premise(INITIALISER)], snapshot, snapshot.left_out())
 
 
 def meetings_of(threads: Iterable[Thread], locks: Locks) -> Dict[str, str]:

@@ -7,7 +7,7 @@ from typing import Dict, List, Protocol, Sequence
 
 from ..assumptions import sentence_of
 from ..sketch import INNER, Process, Sketch
-from ..snapshots import ONCE
+from ..snapshots import ONCE, Moments, moment_of
 from .jvm_frames import is_inside, is_of_jvm
 from .jvm_text import Dump, Thread
 
@@ -19,12 +19,12 @@ class Whole(Protocol):
     threads: List[Thread]
 
 
-def count_owned(processes: List[Process]) -> None:
+def count_owned(processes: List[Process], moments: List[Moments]) -> None:
     """One that waits for what another owns is at that wait as long as the owner is at its own. Those who own what the
     others want never go on."""
     counted = {process.name for process in processes if process.count is not None}
     owners = {process.name: owner_of(process) for process in processes
-              if process.count is None and process.moment == ONCE and owner_of(process)}
+              if process.count is None and moment_of(process.name, moments) == ONCE and owner_of(process)}
     waiters: Dict[str, List[str]] = defaultdict(list)
     for name, owner in owners.items():
         waiters[owner].append(name)

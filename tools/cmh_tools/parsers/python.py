@@ -151,14 +151,14 @@ class PythonParser(Parser):
             process.is_garbled = True
         add_enders(process, subject)
         if subject.what not in PLACES and process.sign is not Sign.BLOCKED:
-            process.moment = ONCE  # (it waits for what comes from outside, however often that comes)
+            snapshot.moments[process.name] = ONCE  # (it waits for what comes from outside, however often that comes)
         elif process.count is None:
-            self.count(process, subject)
+            self.count(process, subject, snapshot)
         elif self.is_alone:
-            process.moment = ONCE
+            snapshot.moments[process.name] = ONCE
         return process
 
-    def count(self, process: Process, subject: Subject) -> None:
+    def count(self, process: Process, subject: Subject, snapshot: Jobs) -> None:
         """Gives a process the count of its waits, and says of it how it was read."""
         thread = subject.thread()
         is_held = subject.what in HANDED or subject.what == "task" and \
@@ -173,7 +173,7 @@ class PythonParser(Parser):
         if has_grown:
             doubt_place(process)
         elif self.is_alone and is_vouched(thread, is_held, subject):
-            process.moment = ONCE
+            snapshot.moments[process.name] = ONCE
 
     def stops_of_main(self, thread: Row, look: Look) -> Optional[int]:
         """Returns how often the main thread has stopped. Each signal that asks for states wakes it, so that is known of
