@@ -12,7 +12,8 @@ from typing import Any, Callable, Dict, List, NoReturn, Optional, Sequence, Tupl
 from . import VERSION
 from .dump import Dump
 from .files import Failure, Refusal, read_text, say, shown, write_out
-from .sketch import BARE, OLDER, Sketch, is_texts, read_json, sketch_of
+from .sketch import BARE, OLDER, Sketch, read_json
+from .sketch_json import is_texts, sketch_of
 
 Read = Callable[[str], str]  # the text of a path
 

@@ -12,7 +12,8 @@ from typing import Any, Dict, List, NamedTuple, Optional, Sequence, Set
 from .doubts import Doubt, Likely
 from .reduction import Reduction
 from .roots import Roots
-from .sketch import Sketch, text_of_rows, text_of_sketch
+from .sketch import Sketch
+from .sketch_json import text_of_rows, text_of_sketch
 from .stuck import Answer, Waits
 
 MESSAGES, LONGEST = 4096, 64

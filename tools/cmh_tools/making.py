@@ -10,7 +10,8 @@ from .facts import Facts
 from .files import Refusal, read_text, shown
 from .idle import leave_out
 from .parsers import MODULES, State, parser_of
-from .sketch import Sketch, read_sketch
+from .sketch import Sketch
+from .sketch_json import read_sketch
 from .snapshots import both
 
 

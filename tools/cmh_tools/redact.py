@@ -12,8 +12,8 @@ from typing import Any, Dict, Iterator, List, Sequence, Tuple
 from .dump import NO_SITE, RUNNING, STUCK, Dump
 from .making import known_premises
 from .model import HOWS, Anybody, Sign, Strength, Wakers, Who
-from .sketch import (BARE, BY_HAND, DONE, FACT, NEEDED, OLDER, PREMISE, REST, SYSTEM, WORK, FactRow, Process, Sketch,
-                     sketch_of, text_of_sketch, tree_of)
+from .sketch import BARE, BY_HAND, DONE, FACT, NEEDED, OLDER, PREMISE, REST, SYSTEM, WORK, FactRow, Process, Sketch
+from .sketch_json import sketch_of, text_of_sketch, tree_of
 
 HIDDEN = "not shown"
 KEYS = {

@@ -30,7 +30,8 @@ from .rule import STATUSES, Headline
 from .running import proposals as what_runs
 from .saying import numbers_of, say_true
 from .screen import BESIDE, More, screen
-from .sketch import Sketch, quote, read_json, sketch_of
+from .sketch import Sketch, quote, read_json
+from .sketch_json import sketch_of
 from .start import SIGNALS
 from .terminal import style_of_output
 from .timeout_command import add_options, seconds_of

@@ -20,7 +20,7 @@ os.environ["CMH"] = PROGRAM
 from cmh_tools import dump_command, explain_command  # noqa: E402
 from cmh_tools.explain import Explanation  # noqa: E402
 from cmh_tools.proposals import propose  # noqa: E402
-from cmh_tools.sketch import sketch_of  # noqa: E402
+from cmh_tools.sketch_json import sketch_of  # noqa: E402
 from cmh_tools.stuck import Waits  # noqa: E402
 from plain import plain_edges, plain_roots  # noqa: E402
 
