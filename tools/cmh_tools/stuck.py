@@ -335,7 +335,3 @@ class Answer:
             picks = [other for other in there if self.inside[other]] or (there if not self.inside[at] else [])
             self.picks[at] = [min(picks)] if picks else []
         return self.picks[at]
-
-
-def names_in(waits: Waits, some: Iterable[int]) -> Set[str]:
-    return {waits.processes[at].name for at in some}

@@ -67,8 +67,6 @@ SHARED_WORKER = re.compile(r"ForkJoinPool\.commonPool-worker-\d+")
 LIMITS_FUTURES = re.compile(r"CompletableFutureDelayScheduler|.*-delayScheduler")
 FUTURE = re.compile(r"CompletableFuture\.\w+")
 CONDITION, OF_QUEUES = "ConditionObject", "java.util.concurrent."
-# Calls that put something into a queue, or take it out.
-OF_ITEMS = re.compile(r"java\.util\.concurrent\.\w+(?:Queue|Deque)\.(?:put|offer|take|poll)\w*")
 POOLS_OWN = "java.util.concurrent.ThreadPoolExecutor$Worker"  # a lock of each worker at work
 # Calls within which a socket has a lock of its own.
 SOCKETS = re.compile(r"sun\.nio\.ch\.(?:NioSocketImpl|(?:Server)?SocketChannelImpl)"
@@ -91,17 +89,12 @@ MEETS = re.compile(r"CyclicBarrier\.await|Phaser\.arriveAndAwaitAdvance")
 # Calls by which nobody means to wait for ever: to put something where there is no room, or to meet others.
 NEVER_MEANT = re.compile(r"\w+(?:Queue|Deque)\.(?:put\w*|transfer)|Exchanger\.exchange|CyclicBarrier\.await"
                          r"|Phaser\.arriveAndAwaitAdvance")
-# Waits where several meet, and those for the end of threads and pools.
-MEETINGS = re.compile(r"java\.util\.concurrent\.(?:CyclicBarrier\.(?:await|dowait)|Phaser\.\w*[aA]wait\w*)")
+# Waits for the end of threads and pools.
 LEAVES = re.compile(r"java\.lang\.Thread\.join|java\.util\.concurrent\.\w+\.(?:awaitTermination|close)")
-# Calls that end once a task has run, the code of tasks, and the frames of threads of pools, which run tasks.
+# Calls that end once a task has run, and the frames of threads of pools, which run tasks.
 TASK = re.compile(r"(?:FutureTask|CompletableFuture|ForkJoinTask)\.(?:get|join)")
-OF_TASKS = re.compile(r"java\.util\.concurrent\.(?:FutureTask|CompletableFuture|ForkJoinTask)\..*")
 POOLED = re.compile(r"java\.util\.concurrent\.(?:ThreadPoolExecutor\$Worker|ForkJoinWorkerThread)\.run")
 BARRIER = re.compile(r"java\.util\.concurrent\.CyclicBarrier\.(?:await|dowait)")
-# Calls that interrupt other threads.
-INTERRUPTS = re.compile(r"java\.lang\.Thread\.interrupt0?|java\.util\.concurrent\.FutureTask\.cancel"
-                        r"|java\.util\.concurrent\.\w+\.shutdownNow|java\.lang\.ThreadGroup\.interrupt")
 # Calls that come to threads without a reference.
 FINDS_THREADS = re.compile(r"java\.lang\.(?:ThreadGroup\.(?:enumerate|interrupt|stop)"
                            r"|Thread\.(?:enumerate|getAllStackTraces|getAllThreads|getThreads))")
