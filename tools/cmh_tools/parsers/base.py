@@ -23,6 +23,8 @@ from . import State
 
 KEPT = 65536  # lists of reasons whose assumptions are kept
 COUNT = range(1 << 63)  # the shape of a number that counts something
+Check = Callable[[Any], Optional[str]]
+CHECKS: Dict[int, Tuple[Any, Check]] = {}  # by the id of a shape
 
 
 class Break(NamedTuple):
@@ -210,52 +212,69 @@ def fits(value: Any, shape: Any) -> bool:
 
 
 def misfit(value: Any, shape: Any) -> Optional[str]:
-    """Returns the first place that hasn't its shape, or None. Each value of a large state comes here."""
-    if type(value) is shape or shape is object:
-        return None
+    """Returns the first place that hasn't its shape, or None. Each value of a large state is looked at, so what does so
+    is made once of each shape."""
+    if id(shape) not in CHECKS:
+        CHECKS[id(shape)] = shape, check_of(shape)  # (kept, so that its id stays its own)
+    return CHECKS[id(shape)][1](value)
+
+
+def check_of(shape: Any) -> Check:
+    """Returns what finds the first place in a value that hasn't a shape."""
     if isinstance(shape, dict):
-        return misfit_of_object(value, shape) if type(value) is dict else ""
+        form: Any = next(iter(shape), "")
+        return check_of_rows(form, check_of(shape[form])) if form is str or isinstance(form, re.Pattern) else \
+            check_of_object([(key, key.rstrip("?"), wanted, check_of(wanted)) for key, wanted in shape.items()])
     if isinstance(shape, list):
-        return misfit_of_list(value, shape) if type(value) is list else ""
+        return check_of_list([check_of(part) for part in shape if part is not ...], ... in shape)
     if isinstance(shape, tuple):
-        return None if any(fits(value, one) for one in shape) else ""
-    return None if is_one_of(value, shape) else ""
-
-
-def is_one_of(value: Any, shape: Any) -> bool:
-    """Whether a text matches an expression, or a number is within a range."""
+        checks = [check_of(one) for one in shape]
+        return lambda value: None if any(check(value) is None for check in checks) else ""
     if isinstance(shape, range):
-        return type(value) is int and value in shape
-    return isinstance(shape, re.Pattern) and isinstance(value, str) and shape.fullmatch(value) is not None
+        return lambda value: None if type(value) is int and value in shape else ""
+    if isinstance(shape, re.Pattern):
+        return lambda value: None if isinstance(value, str) and shape.fullmatch(value) else ""
+    return lambda value: None if type(value) is shape or shape is object else ""
 
 
-def misfit_of_list(value: List[Any], shape: List[Any]) -> Optional[str]:
-    has_more = ... in shape
-    if len(value) < len(shape) - 2 if has_more else len(shape) != 1 and len(value) != len(shape):
-        return ""
-    wanted = itertools.chain(shape[:-2], itertools.repeat(shape[-2])) if has_more else itertools.cycle(shape)
-    for number, part in enumerate(value):
-        place = misfit(part, next(wanted))
-        if place is not None:
-            return f".{number}{place}"
-    return None
+def check_of_list(checks: List[Check], has_more: bool) -> Check:
+    """Returns the check of a list: of each entry by the only one, or of as many as there are, or of more by the last.
+    """
+    def check(value: Any) -> Optional[str]:
+        number, least = len(value) if type(value) is list else -1, len(checks) - has_more
+        if number < 0 or (number < least if has_more else least != 1 and number != least):
+            return ""
+        wanted = itertools.chain(checks[:-1], itertools.repeat(checks[-1])) if has_more else itertools.cycle(checks)
+        places = ((place, one(part)) for place, (part, one) in enumerate(zip(value, wanted)))
+        return next((f".{place}{odd}" for place, odd in places if odd is not None), None)
+    return check
 
 
-def misfit_of_object(value: Dict[str, Any], shape: Dict[Any, Any]) -> Optional[str]:
-    form: Any = next(iter(shape), "")
-    if form is str or isinstance(form, re.Pattern):
-        rows = ((key, misfit(part, shape[form]) if form is str or form.fullmatch(key) else "")
-                for key, part in value.items())
-        return next((f".{key}{place}" for key, place in rows if place is not None), None)
-    for key, wanted in shape.items():
-        name = key if key in value else key.rstrip("?")
-        if name in value:
-            place = None if type(value[name]) is wanted else misfit(value[name], wanted)
-            if place is not None:
-                return f".{name}{place}"
-        elif name == key:
-            return f".{name}"
-    return None
+def check_of_rows(form: Any, of_part: Check) -> Check:
+    """Returns the check of an object all of whose values have one shape, and its keys too unless `form` is str."""
+    def check(value: Any) -> Optional[str]:
+        if type(value) is not dict:
+            return ""
+        rows = ((key, of_part(part) if form is str or form.fullmatch(key) else "") for key, part in value.items())
+        return next((f".{key}{odd}" for key, odd in rows if odd is not None), None)
+    return check
+
+
+def check_of_object(rows: List[Tuple[str, str, Any, Check]]) -> Check:
+    """Returns the check of an object with a shape for each key: its row has the key with and without a mark that it may
+    be missing."""
+    def check(value: Any) -> Optional[str]:
+        if type(value) is not dict:
+            return ""
+        for key, name, wanted, of_part in rows:
+            if name not in value:
+                odd = None if name != key else ""
+            else:
+                odd = None if type(value[name]) is wanted else of_part(value[name])
+            if odd is not None:
+                return f".{name}{odd}"
+        return None
+    return check
 
 
 def one_line(text: str, width: int = 200) -> str:

@@ -60,6 +60,7 @@ HEAD = {"version": int, "host": str, "space": str}
 SHAPES: Dict[str, Dict[str, Any]] = {
     "threads": RANK, "fault": {"pid": int, "fault": str, "rank?": int}, "ended": {"pid": int, "ended": bool},
     "reading": {"reading": int, "time": [float, float]}, "end": {"end": (int, str), "ranks?": int}, "version": HEAD}
+UNKNOWN_ROW: Dict[str, Any] = {}  # the shape of a row of none of these
 # Keys of which each is there if another one is. Older readers printed none of some.
 TOGETHER = (("calls", "polls", "name", "kind"), ("number", "comm", "partner", "tag"), ("requests", "more"),
             ("parent", "made"), ("held", "target", "alone"), ("any_tag", "begun"), ("alarms", "asked", "named"))
@@ -109,7 +110,7 @@ def object_of(pairs: List[Tuple[str, Any]]) -> Row:
 
 def odd_of(row: Row) -> Iterator[str]:
     """Yields what in a row isn't as these have it."""
-    shape: Dict[str, Any] = next((SHAPES[key] for key in SHAPES if key in row), {})
+    shape = next((SHAPES[key] for key in SHAPES if key in row), UNKNOWN_ROW)
     yield from (path[1:] for path in misfits(row, shape))
     yield from odd_keys(row, shape)
     threads, comms = row.get("threads", []), row.get("comms", [])
