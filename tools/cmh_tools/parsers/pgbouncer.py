@@ -24,6 +24,8 @@ NEEDED = {"config": ("key", "value"),
           "servers": ("user", "database", "addr", "local_addr", "local_port", "ptr", "link", "remote_pid"),
           "pools": ("database", "user", "sv_active"),
           "databases": ("name", "pool_size", "reserve_pool", "paused", "disabled"), "end": ()}
+NUMBERS = ("port", "local_port", "wait", "wait_us", "pool_size", "reserve_pool")
+NUMBER = re.compile(r"\d{1,12}")
 LIMITS = ("query_timeout", "idle_transaction_timeout")  # of a session that a client has
 OF_WAIT = ("query_wait_timeout", "query_timeout")  # of a client that waits for one
 SECONDS = re.compile(r"\d{1,9}(\.\d{1,6})?")
@@ -121,10 +123,18 @@ def pooler_of(lines: List[str], where: str) -> Tuple[Pooler, List[str]]:
         raise Refusal(f"{where}: {EXPECTED}, and it isn't whole")
     lacks = [f"{name}.{key}" for name, keys in NEEDED.items() for key in keys if key not in (tables[name] or [[]])[0]]
     made = {name: [] if lacks else [dict(zip(table[0], row)) for row in table[1:]] for name, table in tables.items()}
-    for name in ("clients", "servers"):
-        if len({row["ptr"] for row in made[name]}) != len(made[name]):
-            raise Refusal(f"{where}: a row of {name} stands twice in what the console of pgbouncer has printed")
+    check(made, where)
     return Pooler(made), lacks
+
+
+def check(tables: Dict[str, List[Row]], where: str) -> None:
+    """Raises Refusal if a number in a table is none, or a row stands twice."""
+    for key, value in (item for rows in tables.values() for row in rows for item in row.items()):
+        if key in NUMBERS and not NUMBER.fullmatch(value):
+            raise Refusal(f"{where}: {EXPECTED}, and {shown(value)} is no number for {key}")
+    for name in ("clients", "servers"):
+        if len({row["ptr"] for row in tables[name]}) != len(tables[name]):
+            raise Refusal(f"{where}: a row of {name} stands twice in what the console of pgbouncer has printed")
 
 
 def rows_of(lines: List[str], where: str) -> List[List[str]]:
