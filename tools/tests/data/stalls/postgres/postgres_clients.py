@@ -11,6 +11,7 @@ import time
 
 SLEEP, COMPUTE = "select pg_sleep(900);", "select count(*) from generate_series(1, 100000000000);"
 WORKER = "set force_parallel_mode = on; set max_parallel_workers_per_gather = 1; "
+UNREAD = "copy (select repeat('x', 1000) from generate_series(1, 100000)) to stdout;"
 HOUR = "alter system set deadlock_timeout = '1h'; select pg_reload_conf();"
 
 
@@ -47,14 +48,20 @@ CASES = {
     "prepared": [("bank", "begin;" + row(1) + "prepare transaction 'transfer-17';"),
                  ("bank", "begin;" + row(2) + "prepare transaction 'transfer-18';"), ("shop", row(1)),
                  ("drop", "truncate orders;")],
+    "prepared_slow": [("bank", "begin;" + row(1) + SLEEP), ("shop", row(1)), ("drop", "truncate orders;")],
     # A program that asks by a second connection while its first one is in a transaction.
     "own_client": [("shop", "begin;" + row(1)), ("audit", row(1)), ("web", row(1))],
     "standby": [("ops", "alter system set synchronous_standby_names = 'standby_1'; select pg_reload_conf();"),
                 ("shop", "begin;" + row(1) + "commit;"), ("web", row(1))],
+    "standby_slow": [("ops", "alter system set synchronous_standby_names = 'standby_1'; select pg_reload_conf();"),
+                     ("shop", "begin;" + row(1) + SLEEP), ("web", row(1))],
+    "workers": [("shop", "begin;" + row(1)), ("shop", WORKER + UNREAD), ("web", row(1))],
     "workers_slow": [("shop", "begin;" + row(1)), ("shop", WORKER + SLEEP), ("web", row(1))],
     # A client that doesn't take what the server sends: the COPY goes to a pipe that nobody reads.
-    "unread": [("shop", "begin;" + row(1)),
-               ("shop", "copy (select repeat('x', 1000) from generate_series(1, 100000)) to stdout;"), ("web", row(1))],
+    "unread": [("shop", "begin;" + row(1)), ("shop", UNREAD), ("web", row(1))],
+    "unread_slow": [("shop", "begin;" + row(1)), ("shop", f"copy ({SLEEP[:-1]}) to stdout;"), ("web", row(1))],
+    # A worker of the server that looks after a table, and ends where it blocks others.
+    "autovacuum_slow": [("ops", HOUR), ("migrate", "alter table orders add column note text;")],
     # Behind pgbouncer, whose pool has two sessions: each request has one in a transaction, and asks for another one.
     "pool": POOL,
     "pool_limit": POOL,
@@ -73,7 +80,7 @@ CASES = {
 
 
 def start(name):
-    out = subprocess.PIPE if sys.argv[1] == "unread" else subprocess.DEVNULL
+    out = subprocess.PIPE if sys.argv[1] in ("unread", "workers") else subprocess.DEVNULL
     env = {**os.environ, "PGAPPNAME": name, **({"PGUSER": "clerk"} if name in ("packer", "printer") else {})}
     if sys.argv[1].startswith("pool"):
         env.update(PGHOST="127.0.0.1", PGPORT=sys.argv[2], PGDATABASE="pgbouncer" if name == "console" else "shop")
