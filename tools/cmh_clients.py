@@ -4,7 +4,7 @@ sleeps, runs, or waits at the socket of its connection. `take-rabbitmq` calls it
 
     rabbitmqctl -q list_connections pid peer_host peer_port host port --formatter json | cmh_clients.py
 
-It prints a line for each connection whose client is here and can be read, as a list of JSON. A socket that several
+Or it reads an object with such a list, at "value" and "ends". It prints a line for each connection whose client is here and can be read, as a list of JSON. A socket that several
 processes have is left out. Nothing is stopped, no signal is sent, and nothing is written. It needs Python 3.8.
 """
 from __future__ import annotations
@@ -163,7 +163,9 @@ def clients(rows: List[Row]) -> Iterator[Row]:
 
 
 def main() -> int:
-    rows = json.load(sys.stdin) if platform.machine() in ("x86_64", "aarch64") else []  # (whose calls are known)
+    rows = json.load(sys.stdin)
+    rows = rows["value"]["ends"] if isinstance(rows, dict) else rows
+    rows = rows if platform.machine() in ("x86_64", "aarch64") else []  # (whose calls are known)
     print(json.dumps([*clients(rows)]).replace("}, {\"connection", "}\n,{\"connection"))
     return 0
 

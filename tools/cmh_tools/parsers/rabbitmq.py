@@ -10,6 +10,7 @@ connection has carried, without heartbeats: each of these is a packet of eight b
 from __future__ import annotations
 
 import functools
+import json
 import re
 from collections import Counter
 from typing import Any, Dict, List, Optional, Set, Tuple
@@ -26,7 +27,7 @@ from .rabbitmq_clients import AT, COMPUTES, ELSEWHERE, OPEN, SLEEPING, Activity,
 from .rabbitmq_routes import Routes, odd_row
 
 NEEDED = ("list_connections", "list_channels", "list_consumers", "list_queues", "list_bindings")
-HEADING = re.compile(r"^# (?:rabbitmqctl (\w+)|(clients|server|taken)$).*\n", re.M)
+HEADING = re.compile(r"^# (?:rabbitmqctl (\w+)|(clients|server|taken|tables)$).*\n", re.M)
 # Rows of a name, a type and a value.
 TABLE = [([str, re.compile("longstr"), str], [str, re.compile("bool"), bool],
           [str, re.compile("(un)?signedint|(unsigned)?(short|byte)|long"), int],
@@ -454,6 +455,8 @@ class RabbitmqParser(Parser):
         ends = [head.start() for head in heads[1:]] + [len(state.text)]
         lists = [(head[1] or head[2], "\n" * state.text.count("\n", 0, head.end()) + state.text[head.end():end])
                  for head, end in zip(heads, ends)]  # (each in its own lines of the text)
+        lists = [row for name, text in lists for row in (
+            tables_of(text, state.path) if name == "tables" else [(name, text)])]
         starts = [at for at, (name, _) in enumerate(lists) if name == NEEDED[0]]
         if not starts:
             raise Refusal(f"{shown(state.path)}: no line begins with '# rabbitmqctl {NEEDED[0]}'")
@@ -648,6 +651,15 @@ def stands_by(service: Service, name: str, more: Dict[str, Any]) -> Process:
     more["note"] = f"stands by for {', '.join(service.queues)}"
     parts = any_of(of_list(list(dict.fromkeys(active))), *service.by_limit())
     return rests(name, "stands by", parts, [premise(KEEPS)], **more)
+
+
+def tables_of(text: str, path: str) -> List[Tuple[str, str]]:
+    """Returns the lists of what was asked at once, the connections first, as they begin a reading."""
+    tree = read_json(text, path)
+    tables = tree.get("value") if isinstance(tree, dict) else None
+    if not isinstance(tables, dict) or NEEDED[0] not in tables:
+        raise Refusal(f"{shown(path)}: what is below '# tables' isn't as rabbitmqctl prints it")
+    return [(name, json.dumps(tables[name])) for name in SHAPES if name in tables]
 
 
 def reading_of(path: str, lists: List[Tuple[str, str]]) -> Reading:
