@@ -7,6 +7,7 @@ from __future__ import annotations
 
 import re
 from collections import defaultdict
+from itertools import chain
 from typing import Any, Dict, Iterable, List, NamedTuple, Optional, Sequence
 
 from ..model import Part, Wakers, unseen, wakers
@@ -17,6 +18,7 @@ from .python_text import Frame, Look, Row, callers_of
 CHILD, FUTURE, BLOCK, DEAD, CANCEL = "child-process", "future", "block", "dead", "cancel"  # assumptions
 INSIDE = "runtime"  # the assumption that only its own process ends a wait at an object of the runtime
 FEW = 250  # names in a list that each of its members has without itself
+CODE = {"holds", "ends", "cancels", "releases", "taken"}  # keys of rows that say something of one's code
 KILLS = {"kill", "killpg"}  # calls that end any process, by its number
 ENDS = re.compile(r"(_thread\.interrupt_main|_signal\.(raise_signal|pthread_kill)"
                   r"|posix\.(kill|killpg|_exit|abort|exec\w+))$")
@@ -91,9 +93,11 @@ class Job:
         return (wakers("same-process", names, premise(INSIDE)), *handlers, *lost)
 
     def cancellers(self, key: Any, is_work: bool = True) -> Part:
-        """Those who may end a task, a future or a child: who has it in a variable, and whose code may cancel any."""
+        """Those who may end a task, a future or a child: who has it in a variable, and whose code may cancel any. Of
+        one that isn't told from others, whoever has any."""
         holders = holders_in(self.look)
-        held = self.names_of([*holders.get(key, ()), *holders[None]])
+        keys = [holders.get(key, []), holders[None]] if isinstance(key, str) else holders.values()
+        held = self.names_of(dict.fromkeys(chain.from_iterable(keys)))
         lists: List[Sequence[str]] = [held, self.cancelling if is_work else []]
         return tuple(wakers("cancels" if is_work else "kills", names) for names in lists if names)
 
@@ -157,13 +161,12 @@ def timer_call(row: Row) -> str:
 
 
 def enders_of(looks: List[Look], names: Names) -> Dict[Any, List[str]]:
-    """Returns those whose code may end an OS process: their own one, or any if it kills by number. Where a state says
-    it of others alone, one may."""
+    """Returns those whose code may end an OS process: their own one, or any if it kills by number. One of whom a state
+    doesn't say it may, but for one of 1.0, which says nothing of anybody's code."""
     enders: Dict[Any, List[str]] = defaultdict(list)
     for look in looks:
-        is_said = any("ends" in row.more for row in look.rows())
         for row in look.rows():
-            ends = row.more.get("ends", {} if is_said else [])
+            ends = row.more.get("ends", [] if CODE.isdisjoint(row.more) else {})
             place = None if KILLS.intersection(map(str, ends)) else look.place()
             name = names.of(look, row.key)
             enders[place] += [name] if (ends or isinstance(ends, dict)) and name is not None else []

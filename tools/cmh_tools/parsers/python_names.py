@@ -119,10 +119,10 @@ def actor_of(look: Look, key: Any) -> Any:
 
 def holders_in(look: Look) -> Dict[Any, List[Any]]:
     """Returns the keys of the threads and tasks that have each task or child in a variable: they may end it. Under None
-    it has those that may have any, since the state doesn't say it of them, though it does of others."""
+    it has those that may have any, since the state doesn't say it of them."""
     if look.holders is None:
         look.holders = {None: []}
-        for row in look.rows() if any("holds" in row.more for row in look.rows()) else ():
+        for row in look.rows():
             held = row.more.get("holds")
             for what in held if isinstance(held, list) else [None]:
                 look.holders.setdefault(what, []).append(row.key)
