@@ -13,7 +13,8 @@ from typing import Dict, List, Optional, Tuple
 from ..files import Refusal, shown
 
 HEADER = re.compile(r"goroutine (?P<id>\d+)(?: gp=\S+)?(?: m=\S+)?(?: mp=\S+)? \[(?P<state>.*)\](?: \{.*\})?:\s*")
-FUNCTION = re.compile(r"panic|[^\s.()][^\s()]*\.(?:\(\*[^()]+\)\.)?[^()]+")  # of a package, and perhaps of a type
+# Of a package, and perhaps of a type.
+FUNCTION = re.compile(r"panic|[^\s.()][^\s()]*\.(?:\(\*[^()*[\]]+(?:\[[^()]*\])?\)\.)?[^()]+")
 CALL = re.compile(r"(?P<function>\S.*)\((?P<arguments>[^()]*)\)\s*")
 PLACE = re.compile(r"\t(?P<file>.*):(?P<line>\d{1,9})(?: (?P<offset>\+0x[0-9a-f]+))?"
                    r"(?: fp=(?P<fp>\S+) sp=(?P<sp>\S+).*)?\s*")
