@@ -201,8 +201,8 @@ def misfits(value: Any, shape: Any) -> Iterator[str]:
     """Yields the first place in a value of JSON that hasn't its shape, as '.threads.0.tid', if there is one. A shape is
     a type, an expression that a text matches, a range that has a number, [SHAPE] of each entry, [SHAPE, SHAPE ..] of
     just these, [SHAPE, SHAPE, ...] of the first and any more of the second, {str: SHAPE} of each value, also with an
-    expression for the keys, {KEY: SHAPE}, where a KEY that ends in '?' may be missing, or a tuple of shapes, each of
-    which will do."""
+    expression for the keys, {KEY: SHAPE} of just these keys, where one that ends in '?' may be missing, with any others
+    by {KEY: SHAPE, ...: object}, or a tuple of shapes, each of which will do."""
     place = misfit(value, shape)
     yield from () if place is None else (place,)
 
@@ -223,8 +223,11 @@ def check_of(shape: Any) -> Check:
     """Returns what finds the first place in a value that hasn't a shape."""
     if isinstance(shape, dict):
         form: Any = next(iter(shape), "")
-        return check_of_rows(form, check_of(shape[form])) if form is str or isinstance(form, re.Pattern) else \
-            check_of_object([(key, key.rstrip("?"), wanted, check_of(wanted)) for key, wanted in shape.items()])
+        if form is str or isinstance(form, re.Pattern):
+            return check_of_rows(form, check_of(shape[form]))
+        shapes = {key: wanted for key, wanted in shape.items() if key is not ...}
+        return check_of_object([(key, key.rstrip("?"), wanted, check_of(wanted)) for key, wanted in shapes.items()],
+                               ... in shape)
     if isinstance(shape, list):
         return check_of_list([check_of(part) for part in shape if part is not ...], ... in shape)
     if isinstance(shape, tuple):
@@ -260,9 +263,11 @@ def check_of_rows(form: Any, of_part: Check) -> Check:
     return check
 
 
-def check_of_object(rows: List[Tuple[str, str, Any, Check]]) -> Check:
+def check_of_object(rows: List[Tuple[str, str, Any, Check]], has_more: bool) -> Check:
     """Returns the check of an object with a shape for each key: its row has the key with and without a mark that it may
-    be missing."""
+    be missing. Unless it may have more, a key without a shape is odd."""
+    names = {name for _, name, _, _ in rows}
+
     def check(value: Any) -> Optional[str]:
         if type(value) is not dict:
             return ""
@@ -273,7 +278,7 @@ def check_of_object(rows: List[Tuple[str, str, Any, Check]]) -> Check:
                 odd = None if type(value[name]) is wanted else of_part(value[name])
             if odd is not None:
                 return f".{name}{odd}"
-        return None
+        return None if has_more else next((f".{key}" for key in value if key not in names), None)
     return check
 
 

@@ -7,7 +7,7 @@ from __future__ import annotations
 
 import re
 from dataclasses import dataclass, field
-from typing import Any, Dict, List, NamedTuple, Optional, Set, Tuple
+from typing import Any, Dict, List, NamedTuple, Optional, Set
 
 from ..files import Refusal, shown
 from .base import misfits
@@ -25,11 +25,11 @@ UNREAD = "server"  # a kind of rows that older readers print, and of which nothi
 ROW = {"thread": LABEL, "frames": [str], "waits": re.compile("|".join(KINDS)), "for": [LABEL], "besides": [LABEL],
        "reach": (type(None), [LABEL]), "is_full": bool, "is_direct": bool, "is_all": bool}
 # In rows of the first version some keys are missing where they say nothing, and there are others, which nobody reads.
-OLD_KEYS = {"object", "tasks", "sites", "answers", "fields", "held"}
+OLD = {f"{key}?": object for key in ("object", "tasks", "sites", "answers", "fields", "held")}
 OLD_ROW: Dict[str, Any] = {"thread": LABEL, "frames": [str], "waits": re.compile("|".join([*KINDS, UNREAD])),
                            "for": [LABEL], "besides?": [LABEL], "reach?": [LABEL], "is_full?": bool,
-                           "is_direct?": bool, "is_all?": bool}
-VERSIONS: Dict[Any, Tuple[Dict[str, Any], Set[str]]] = {1: (OLD_ROW, OLD_KEYS), 2: (ROW, set())}
+                           "is_direct?": bool, "is_all?": bool, **OLD}
+VERSIONS: Dict[Any, Dict[str, Any]] = {1: OLD_ROW, 2: ROW}
 
 
 @dataclass
@@ -85,11 +85,8 @@ def read_heap(path: str, text: str) -> Optional[Heap]:
         raise Refusal(f"{heap.place}: rows of the heap are missing, or there are two heaps: take the state anew by "
                       "take-jvm --heap")
     heap.time = head["time"] if isinstance(head["time"], (int, float)) else 0.0
-    shape, old_keys = VERSIONS[version]
-    known = {key.rstrip("?") for key in shape} | old_keys
     for place, row in rows[1:-1]:
-        odd = next(misfits(row, shape), None)
-        odd = next((f".{key}" for key in row if key not in known), None) if odd is None else odd
+        odd = next(misfits(row, VERSIONS[version]), None)
         if odd is not None:
             raise Refusal(f"{place}: this row of the heap isn't understood at '{shown(odd)}'")
         heap.waits[key_of(row["thread"])] = wait_of_row(row)

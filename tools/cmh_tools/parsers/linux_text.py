@@ -27,7 +27,8 @@ ENDED = "ZX"  # the states of those that have ended
 NUMBER, NUMBERED = re.compile(r"\d+"), re.compile(r"(.* )?\d+")  # within the name of a thread, and at its end
 NUMBERS = re.compile(r"[0-9]{1,9}(\s+[0-9]{1,9})*")
 HEX = re.compile(r"(0x)?[0-9a-f]{1,16}")
-# (Older states have keys besides, of code that was followed: these say nothing.)
+# Keys of older states, of code that was followed: they say nothing.
+OLD = {f"{key}?": object for key in ("apart", "awaits", "handlers", "traps", "builtin", "family", "spares")}
 RUNNING = "running"  # the call of one that is in none, and so has no arguments
 STATE = re.compile("[A-Za-z]")
 THREAD = {"tid": int, "state": STATE, "inner?": int, "comm?": str, "call?": str, "args?": [HEX] * 6,
@@ -35,20 +36,23 @@ THREAD = {"tid": int, "state": STATE, "inner?": int, "comm?": str, "call?": str,
           "range?": [int] * 4, "path?": str, "wchan?": str, "memory?": str, "mask?": HEX, "key?": int, "users?": [int],
           "changed?": int, "within?": str, "frames?": [str], "stack?": [int], "cut?": bool, "again?": bool,
           "object?": [str, int], "limit?": [(float, int, type(None))] * 2, "waited?": (float, int), "pending?": bool,
-          "addressed?": bool}
-OWNER = {"pid": int, "ppid?": int, "comm": str, "group?": int, "session?": int,
-         "exe?": str, "TracerPid?": re.compile(r"\d{1,9}"), "SigCgt?": HEX,
-         "fds?": {re.compile(r"\d{1,9}|memory .*"): [str, re.compile("r?w?"), str, ...]}, "threads?": [THREAD],
-         "kin?": [int], "timers?": bool, "aio?": bool, "runtime?": str,
-         "frames?": [[str, int, int]], "modules?": [[str, str]], "start?": int, "NSpid?": NUMBERS,
-         "NSpgid?": NUMBERS, "SigIgn?": HEX, "collects?": bool}
+          "addressed?": bool, **OLD}
+OWNER = {"pid": int, "ppid": int, "comm": str, "group?": int, "session?": int, "exe?": str, "command?": str,
+         "net?": str, "living?": int, "TracerPid?": re.compile(r"\d{1,9}"), "SigCgt?": HEX, "SigIgn?": HEX,
+         "fds": {re.compile(r"\d{1,9}|memory .*"): [str, re.compile("r?w?"), str, ...]}, "threads?": [THREAD],
+         "kin?": [int], "timers?": bool, "aio?": bool, "runtime?": str, "frames?": [[str, int, int]],
+         "modules?": [[str, str]], "start?": int, "NSpid?": NUMBERS, "NSpgid?": NUMBERS, "collects?": bool,
+         "state": STATE, **OLD}
 SOCKET = {"socket": int, "kind": re.compile("tcp|u_(str|dgr|seq)"), "state": str, "at": str, "to": str,
-          "peers": [int], "away?": bool, "unread?": int}
-SHAPES = {"asked": {"asked": [int]}, "pid": OWNER, "socket": SOCKET, "listening": {"listening": {str: [int]}},
-          "warnings": {"warnings": [str]},
-          "parents": {"parents": {re.compile(r"[0-9]{1,9}"): [int, int]}},
-          "stacks": {"stacks": int, "still": {str: [str]}, "text": str},
-          "unreadable": {"unreadable": str, "pid": int}}
+          "peers": [int], "away?": bool, "unread?": int, "timer?": object}
+# The form of each row, by the first of these keys that it has.
+SHAPES = {"version": {"version": int, "machine?": str, "release?": str, "asked?": [int], "seconds?": (int, float),
+                      "outside": str, "space?": str, "with_stacks?": bool},
+          "reading": {"reading": int, "began?": float, "seconds?": (int, float), "warnings": [str]},
+          "unreadable": {"unreadable": str, "pid": int, ...: object}, "pid": OWNER, "socket": SOCKET,
+          "listening": {"listening": {str: [int]}}, "parents": {"parents": {re.compile(r"[0-9]{1,9}"): [int, int]}},
+          "stacks": {"stacks": int, "by": str, "still": {str: [str]}, "text": str},
+          "end": {"end": (int, str), "processes?": int}}
 # What each process that was read says of itself, but for one that has ended and for the collector.
 NEEDED = ("SigCgt", "TracerPid", "fds", "timers", "start")
 NEEDED_IN_CALL = ("pending", "wchan")  # and each thread that is in a call
@@ -335,11 +339,12 @@ def rows_of(text: str, path: str) -> List[Row]:
             row = json.loads(line[len(MARK):]) if line.startswith(MARK) else None
         except (ValueError, RecursionError):
             row = None
-        if not isinstance(row, dict):
+        kind = next((kind for kind in SHAPES if kind in row), "") if isinstance(row, dict) else ""
+        if not kind:
             raise Refusal(f"{shown(path)}:{number}: {EXPECTED}, and this line isn't one, or is cut off")
-        odd = next((place for key in row.keys() & SHAPES.keys() for place in misfits(row, SHAPES[key])), None)
-        if "pid" in row and "unreadable" not in row:
-            odd = odd or next((f".{key}" for key in ("ppid", "fds") if key not in row), None)
+        odd = next(misfits(row, SHAPES[kind]), None)
+        if kind == "pid":
+            odd = odd or (".threads" if "threads" not in row and row["state"] not in ENDED else None)
             odd = odd or next((".threads.args" for thread in row.get("threads", ()) if "args" not in thread
                                and thread.get("call", RUNNING) != RUNNING), None)
         if odd is not None:

@@ -8,7 +8,7 @@ from __future__ import annotations
 import json
 import re
 from collections import Counter
-from typing import Any, Dict, Iterator, List, Optional, Sequence, Set, Tuple
+from typing import Any, Dict, Iterator, List, Optional, Sequence, Tuple
 
 from ..files import Refusal, shown
 from ..sketch import quote
@@ -61,18 +61,11 @@ SHAPES: Dict[str, Dict[str, Any]] = {
     "threads": RANK, "fault": {"pid": int, "fault": str, "rank?": int}, "ended": {"pid": int, "ended": bool},
     "reading": {"reading": int, "time": [float, float]}, "end": {"end": (int, str), "ranks?": int}, "version": HEAD}
 UNKNOWN_ROW: Dict[str, Any] = {}  # the shape of a row of none of these
-# Keys of which each is there if another one is. Older readers printed none of some.
-TOGETHER = (("calls", "polls", "name", "kind"), ("number", "comm", "partner", "tag"), ("requests", "more"),
-            ("parent", "made"), ("held", "target", "alone"), ("any_tag", "begun"), ("alarms", "asked", "named"))
-
-
-def keys_of(shape: Dict[str, Any]) -> Tuple[Set[str], List[Tuple[str, ...]]]:
-    """Returns the keys of a shape, and which of them stand together."""
-    known = {key.rstrip("?") for key in shape}
-    return known, [keys for keys in TOGETHER if known.issuperset(keys)]
-
-
-KNOWN = {id(shape): keys_of(shape) for shape in (THREAD, COMM, *SHAPES.values())}
+# Keys of which each is there if another one is, in rows of threads, communicators and ranks, by a key that tells these.
+# Older readers printed none of some.
+TOGETHER = {"tid": (("calls", "polls", "name", "kind"), ("number", "comm", "partner", "tag"), ("requests", "more")),
+            "id": (("parent", "made"), ("held", "target", "alone")),
+            "comms": (("any_tag", "begun"), ("alarms", "asked", "named"))}
 
 
 def rows_of(text: str, path: str) -> List[Row]:
@@ -112,20 +105,17 @@ def odd_of(row: Row) -> Iterator[str]:
     """Yields what in a row isn't as these have it."""
     shape = next((SHAPES[key] for key in SHAPES if key in row), UNKNOWN_ROW)
     yield from (path[1:] for path in misfits(row, shape))
-    yield from odd_keys(row, shape)
     threads, comms = row.get("threads", []), row.get("comms", [])
-    for part, wanted in ((part, wanted) for parts, wanted in ((threads, THREAD), (comms, COMM)) for part in parts):
-        yield from odd_keys(part, wanted)
+    for part in [row, *threads, *comms]:
+        yield from odd_keys(part)
     yield from ("threads" for thread in threads if not is_whole(thread))
     yield from (key for key in ("tid", "inner") if has_twice([thread.get(key) for thread in threads]))
     yield from ["comms"] if has_twice([comm.get("id") for comm in comms if comm.get("id") != "0"]) else []
 
 
-def odd_keys(row: Row, shape: Dict[str, Any]) -> Iterator[str]:
-    """Yields the keys of a row that aren't known, or that others of it need."""
-    known, together = KNOWN.get(id(shape), (set(), []))
-    yield from (key for key in row if key not in known)
-    for keys in together:
+def odd_keys(row: Row) -> Iterator[str]:
+    """Yields the keys that a row lacks and that others of it need."""
+    for keys in next((groups for key, groups in TOGETHER.items() if key in row), ()):
         lost = [key for key in keys if key not in row]
         yield from lost if len(lost) < len(keys) else []
 

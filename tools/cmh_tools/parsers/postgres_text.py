@@ -21,14 +21,17 @@ TIME = re.compile(r"(\d{4}-\d\d-\d\dT\d\d:\d\d:\d\d)(\.\d{1,6})?([+-]\d\d:\d\d)"
 NUMBER = re.compile(r"\d{1,12}")
 OF_TEXT, OF_TIME, OF_OID = (str, NONE), (TIME, NONE), (NUMBER, NONE)
 LOOK = {"look": TIME, "version": NUMBER, "port": (int, NONE), "role": OF_OID, "database": OF_OID, "standby": bool}
+# Columns of pg_stat_activity of which nothing is read.
+UNREAD = ("pid", "backend_start", "backend_xid", "backend_xmin", "client_hostname")
 BACKEND = {"backend": int, "datname": OF_TEXT, "datid": OF_OID, "usename": OF_TEXT, "usesysid": OF_OID,
            "application_name": OF_TEXT, "client_addr": OF_TEXT, "client_port": (int, NONE), "backend_type": OF_TEXT,
            "state": OF_TEXT, "wait_event_type": OF_TEXT, "wait_event": OF_TEXT, "xact_start": OF_TIME,
            "query_start": OF_TIME, "state_change": OF_TIME, "query": OF_TEXT, "blocked_by": ([int], NONE),
-           "leader_pid?": (int, NONE), "query_id?": (int, NONE)}
+           "leader_pid?": (int, NONE), "query_id?": (int, NONE), **dict.fromkeys(UNREAD, object)}
 LOCK = {"lock": str, "pid": (int, NONE), "granted": bool, "name": OF_TEXT, "relation": OF_OID, "page": (int, NONE),
         "tuple": (int, NONE), "transactionid": OF_OID, "virtualtransaction": OF_TEXT, "virtualxid": OF_TEXT,
-        "classid": OF_OID, "objid": OF_OID, "objsubid": (int, NONE), "database": OF_OID, "waitstart?": OF_TIME}
+        "classid": OF_OID, "objid": OF_OID, "objsubid": (int, NONE), "database": OF_OID, "waitstart?": OF_TIME,
+        "locktype": str, "mode": OF_TEXT, "fastpath": bool}
 SHAPES: Dict[str, Row] = {
     "look": LOOK, "backend": BACKEND, "lock": LOCK,
     "prepared": {"transaction": NUMBER, "gid": str, "prepared": TIME, "database": OF_TEXT, "owner": OF_TEXT},

@@ -227,8 +227,9 @@ def add_enders(process: Process, subject: Subject) -> None:
     more: Part = subject.job.process_enders
     signals = subject.job.interrupting() if subject.job.is_main(subject.thread()) else ()
     if more or signals:
-        process.parts = [(*(some for some in part if some.how != "handles" or not signals), *more, *signals)
-                         for part in process.parts]
+        parts = process.parts or ([(unseen("unshown"),)] if process.sign is Sign.UNKNOWN else [])
+        process.parts = [(*(group for group in part if group.how != "handles" or not signals), *more, *signals)
+                         for part in parts]
 
 
 def place_of(subject: Subject) -> Process:

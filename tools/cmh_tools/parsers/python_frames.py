@@ -21,8 +21,8 @@ HEAD = {"version": int, "pid": int, "by": str, "name": str, "seconds": (int, flo
 SPY = re.compile(r"^Process (\d+): ", re.M)
 SPY_THREAD = re.compile(r'^Thread (\S+) \((active\+gil|active|idle)\)(?:: "(.*)")?$')
 SPY_FRAME = re.compile(r"^    (\S.*) \(([^()]*?)(?::(\d+))?\)$")
-SPY_JSON = {"frames": [{"name": str, "filename": str, "line": int}], "os_thread_id?": (int, type(None)),
-            "thread_name?": (str, type(None)), "thread_id": int}
+SPY_JSON = {"frames": [{"name": str, "filename": str, "line": int, ...: object}], "os_thread_id?": (int, type(None)),
+            "thread_name?": (str, type(None)), "thread_id": int, ...: object}
 GDB_THREAD = re.compile(r'^Thread \d+ \(Thread 0x[0-9a-f]+ \(LWP (\d+)\)(?: ".*")?\):$')
 GDB_FRAME = re.compile(r'^  File "(.*)", line (\d+), in (.*)$')
 GDB_LOST = re.compile(r"^  \(unable to read python frame information\)|^  File .* in .*frame information optimized out")
@@ -158,16 +158,7 @@ def json_rows(body: List[str]) -> List[Thread]:
         return []
     return [(row.get("os_thread_id") or hex(row["thread_id"]), row.get("thread_name") or "",
              [frame_of(it["name"], it["filename"], str(it["line"])) for it in row["frames"]], None)
-            for row in rows if fits_spy(row)]
-
-
-def fits_spy(row: Any) -> bool:
-    """Whether a row has what is read of it; it may have more."""
-    if not isinstance(row, dict) or not isinstance(row.get("frames"), list):
-        return False
-    frames = [{key: it.get(key) for key in ("name", "filename", "line")} for it in row["frames"]
-              if isinstance(it, dict)]
-    return len(frames) == len(row["frames"]) and fits({**row, "frames": frames}, SPY_JSON)
+            for row in rows if fits(row, SPY_JSON)]
 
 
 def spy_rows(lines: List[str]) -> Iterator[Thread]:

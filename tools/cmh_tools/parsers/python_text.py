@@ -22,26 +22,32 @@ NUMBER, TEXT, FLAG = (int, type(None)), (str, type(None)), (bool, type(None))
 ERROR = {"error": str}  # what stands in the place of a value that an odd object kept from being read
 HEAD = {"version": int, "process": str, "pid": int, "seconds": (int, float), "unseen?": [str], "signal?": NUMBER,
         "alarm?": (int, float), "on_alarm?": TEXT, "on_child?": TEXT, "handlers?": {str: str}, "foreign_timer?": FLAG,
-        "others?": NUMBER, "queues?": NUMBER, "parent?": int, "host?": str}
+        "others?": NUMBER, "queues?": NUMBER, "parent?": int, "host?": str, "began?": object, "ended?": object,
+        "python?": str, "reader?": NUMBER, "space?": TEXT, "time?": str}
 FRAME = ({"in": str, "file": str, "line": NUMBER, "has?": {str: object}}, ERROR)
 # What the rows of threads and tasks have alike: `holds`, `ends`, `cancels` and `releases` may be missing in older ones.
 PLACE = {"of": int, "name": str, "moved": bool, "frames": [FRAME], "holds?": (type(None), [str], ERROR),
-         "ends?": ([str], ERROR), "cancels?": (bool, ERROR), "releases?": bool, "taken?": [str], "again?": bool}
-# The form of each row of a state, by the key that tells it from others.
+         "ends?": ([str], ERROR), "cancels?": (bool, ERROR), "releases?": bool, "taken?": [str], "again?": bool,
+         "error?": str, "at?": object, "inside?": object}  # (the last two: of old states)
+# The form of each row of a state, by the first of these keys that it has.
 ROWS: Dict[str, Dict[str, Any]] = {
-    "thread": {**PLACE, "thread": int, "native": NUMBER, "daemon": bool, "main": bool, "stops": NUMBER, "spent": NUMBER,
-               "new_stops?": NUMBER, "asleep?": FLAG, "loop": TEXT, "call": (type(None), {str: object})},
-    "task": {**PLACE, "task": str, "number": int, "loop": str, "wait": int, "waits": object, "limit": bool,
-             "sets": [str], "parent?": str, "completes?": object},
     "runs": {"of": int, "runs": str, "thread": NUMBER, "current": TEXT, "callers?": ({str: bool}, ERROR),
              "callbacks?": [str], "signals?": [str]},
+    "thread": {**PLACE, "thread": int, "native": NUMBER, "daemon": bool, "main": bool, "stops": NUMBER, "spent": NUMBER,
+               "new_stops?": NUMBER, "asleep?": FLAG, "loop": TEXT, "call": (type(None), {str: object}),
+               "connections?": object},
+    "task": {**PLACE, "task": str, "number": int, "loop": str, "wait": int, "waits": object, "limit": bool,
+             "sets": [str], "parent?": str, "completes?": object},
     "asked": {"of": int, "asked": str, "loop": str, "name": str},
     "child": {"of": int, "child": NUMBER, "name": str, "ended": FLAG},
     "semaphore": {"of": int, "semaphore": TEXT, "count": int},
-    "queue": {"of": int, "queue": TEXT}}
+    "queue": {"of": int, "queue": TEXT, "by?": object, "in?": object},
+    "wait": {"of": int, "wait": object, "by": object, "nameless?": object, "signals?": object},
+    "quiet": {"of": int, "quiet": object, "loops": object, "apart?": object, "steady?": object},
+    "sleeper": {"of": int, "sleeper": object, "ends": object}}
+OLDER = ("wait", "quiet", "sleeper")  # kinds of rows that older states have, and that nobody reads any more
 # Keys that not all rows have, and those that both kinds have.
 VARY, BOTH = {"at", "again", "completes", "parent"}, {key.rstrip("?") for key in PLACE}
-OLDER = ("wait", "quiet", "sleeper")  # keys of rows that older states have, and that nobody reads any more
 STANDARD = re.compile(r"/lib(?:64)?/python3(?:\.\d+)?/(?!(?:site|dist)-packages/)(.*)$|^<frozen (.*)>$")
 PACKAGE = re.compile(r"/(?:site|dist)-packages/(.*)$")
 # Frames of the library that begin the work of a thread, a task or a worker.
@@ -49,6 +55,7 @@ BEGINS = re.compile(r"threading\.(Thread\.)?(_bootstrap|_bootstrap_inner|run)$|a
                     r"|concurrent\.futures\.(thread\.(_WorkItem\.run|_worker)|process\._process_\w+)$"
                     r"|multiprocessing\.queues\.(Queue\.)?_feed$"
                     r"|multiprocessing\.(pool\.(worker|mapstar)|process\.BaseProcess\.(run|_bootstrap))$")
+LIMITED = re.compile(r"threading\.(Condition\.wait|Thread\.(join|_wait_for_tstate_lock))$|selectors\.\w+\.select$")
 FORKED = "multiprocessing.process.BaseProcess._bootstrap"  # what stands outside of it is what the parent did
 FAULT_HEAD = re.compile(r"(?:Current thread|Thread) (0x[0-9a-f]+)(?: \[(.*)\])? \(most recent call first\):$")
 FAULT_FRAME = re.compile(r'  File "(.*)", line (\d+|\?\?\?)(?: in (.*))?$')
@@ -170,6 +177,10 @@ def is_number(value: Any) -> bool:
     return isinstance(value, (int, float)) and not isinstance(value, bool) and abs(value) < 1e18
 
 
+def is_limit(value: Any) -> bool:
+    return value is None or is_number(value)
+
+
 def last_word(call: Dict[str, Any]) -> str:
     return (call.get("words") or "").split(".")[-1]
 
@@ -285,18 +296,22 @@ def are_alike(look: Look) -> bool:
 
 def add_row(look: Look, row: Dict[str, Any], path: str, at: int) -> None:
     """Adds a row to its look. One that is of no known form, or stands twice, counts as missing."""
-    if any(key in row for key in OLDER) and "task" not in row:
-        return
-    kind = next((key for key in ("runs", "task", *ROWS) if key in row), "")
-    if not kind or not fits(row, ROWS[kind]) or not has_names(row) or not keep_row(look, kind, row):
+    kind = next((key for key in ROWS if key in row), "")
+    is_known = kind != "" and fits(row, ROWS[kind]) and is_described(row)
+    if not is_known or kind not in OLDER and not keep_row(look, kind, row):
         look.is_whole = False
         look.warnings.append(f"{shown(path)}:{at}: this line of a state isn't understood, so what it shows is missing")
 
 
-def has_names(row: Dict[str, Any]) -> bool:
-    """Whether what the call of a thread is on is called by a text, if it has a name."""
-    on = row["call"].get("on") if isinstance(row.get("call"), dict) else None
-    return not isinstance(on, dict) or isinstance(on.get("id", ""), str)
+def is_described(value: Any) -> bool:
+    """Whether all that a row describes has its form: a name is a text, and a gather has what is gathered."""
+    if isinstance(value, list):
+        return all(map(is_described, value))
+    if not isinstance(value, dict):
+        return True
+    is_gather = value.get("type") == "gather"
+    return isinstance(value.get("id", ""), str) and isinstance(value.get("all"), list) >= is_gather \
+        and all(map(is_described, value.values()))
 
 
 def keep_row(look: Look, kind: str, row: Dict[str, Any]) -> bool:
@@ -341,6 +356,8 @@ def row_of_place(key: Any, row: Dict[str, Any]) -> Row:
     fault = "" if len(frames) == len(row["frames"]) else "a frame of its stack couldn't be read"
     odd = next((line for line in frames if not is_of_file(line.at, line.file)), None)
     fault = fault or (f"a frame of its stack is {shown(odd.at)}, which isn't of its file" if odd else "")
+    if frames and LIMITED.match(frames[0].at) and not is_limit(frames[0].has.get("timeout", "")):
+        fault = fault or "the limit of its wait isn't shown"
     if frames and isinstance(row.get("call"), dict):
         frames[0].call = row["call"]
     return Row(key, row["name"], frames[:outermost], row, fault)

@@ -130,7 +130,7 @@ def by_limit(standing: Standing) -> Optional[Wait]:
     if top.at == "threading.Thread._wait_for_tstate_lock":
         is_wait, timeout = True, timeout if is_number(timeout) and timeout >= 0 else None
     limits = [owner.get("limit") for owner in (standing.call.get("on"), top.has.get("self")) if isinstance(owner, dict)]
-    if is_wait and "timeout" not in top.has or not is_wait and top.kind == "standard" and is_number(timeout):
+    if not is_wait and top.kind == "standard" and is_number(timeout):
         return unsure("the limit of its wait isn't understood")
     is_limited = is_wait and is_number(timeout) and timeout >= 0 or any(map(is_number, limits))
     return limited("it waits with a limit") if is_limited else None

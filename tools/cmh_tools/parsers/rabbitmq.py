@@ -34,24 +34,25 @@ TABLE = [([str, re.compile("longstr"), str], [str, re.compile("bool"), bool],
           [str, re.compile("table|array|float|double|decimal|timestamp|void|binary"), object])]
 ARGUMENTS = (TABLE, re.compile(""))
 NUMBER = (COUNT, re.compile(""))  # nothing where the queue is down
-CONNECTION = {"pid": str, "client_properties": TABLE}  # one that isn't so has no name
+# A connection that isn't so has no name.
+CONNECTION = {"pid": str, "client_properties": TABLE, "state": str, "ssl": bool, ...: object}
 SHAPES = {
     "list_connections": [object],
-    "list_channels": [{"pid": str, "connection": str, "messages_unacknowledged": COUNT}],
-    "list_consumers": [{"queue_name": str, "channel_pid": str, "ack_required": bool, "active?": bool}],
+    "list_channels": [{"pid": str, "connection": str, "messages_unacknowledged": COUNT, ...: object}],
+    "list_consumers": [{"queue_name": str, "channel_pid": str, "ack_required": bool, "active?": bool, ...: object}],
     "list_queues": [{"name": str, "messages_ready": NUMBER, "messages_unacknowledged": NUMBER,
-                     "arguments": ARGUMENTS}],
+                     "arguments": ARGUMENTS, ...: object}],
     "list_bindings": [{"source_name": str, "routing_key": str, "destination_name": str,
-                       "destination_kind?": re.compile("queue|exchange")}],
-    "list_exchanges": [{"name": str, "type": str, "arguments?": ARGUMENTS}],
-    "list_policies": [{"name": str, "definition": (str, {str: object})}],
+                       "destination_kind?": re.compile("queue|exchange"), ...: object}],
+    "list_exchanges": [{"name": str, "type": str, "arguments?": ARGUMENTS, ...: object}],
+    "list_policies": [{"name": str, "definition": (str, {str: object}), ...: object}],
     "eval": ([], {"value": {"statistics": str, "published": [{"channel": str, "queue": str, "number": COUNT}],
-                            "taken?": [{"channel": str, "number": COUNT}]}}),
+                            "taken?": [{"channel": str, "number": COUNT}]}, ...: object}),
     "server": ([], {"value": {"plugins": [str], "connections": [{"pid": str, "vhost": str, "timeout": int}],
-                              "channels": [{"pid": str, "messages_unconfirmed": COUNT}]}}),
+                              "channels": [{"pid": str, "messages_unconfirmed": COUNT}]}, ...: object}),
     "taken": ([], {"began": float, "ended": float, "space": str}),
-    "clients": [{"connection": str, "process?": int, "end?": str, "is_deaf?": bool,
-                 "threads": [{"tid": int, "state": str, "call?": str, "at?": str, "count?": int}]}],
+    "clients": [{"connection": str, "process": int, "end?": str, "is_deaf?": bool,
+                 "threads": [{"tid": int, "state": str, "call?": str, "at?": str, "count?": int, "limit?": object}]}],
 }
 HEARTBEAT = 8  # bytes of the frame, a packet of its own
 READY, MOVES, ROUTED, ACTS, KEEPS, EXPIRES = "ready", "moves", "routed", "acts", "keeps", "expires"
