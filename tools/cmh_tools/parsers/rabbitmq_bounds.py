@@ -38,19 +38,19 @@ class Server:
         raw, routes = self.raw, self.routes
         states = [row.get("state") for row in raw["list_connections"] if isinstance(row, dict)]
         has_some = [name for name in routes.settings if routes.ready.get(name) != 0]
-        return self.plugins is None or not {*self.plugins} <= {*PLAIN} or any(it != RUNNING for it in states) \
+        return self.plugins is None or not {*self.plugins} <= {*PLAIN} or any(state != RUNNING for state in states) \
             or any(kind not in STANDARD for kind in routes.kinds.values()) \
-            or any(source.startswith(OF_THE_BROKER) for some in routes.bound.values() for source, _ in some) \
+            or any(source.startswith(OF_THE_BROKER) for bindings in routes.bound.values() for source, _ in bindings) \
             or any(routes.settings[name].get(EXCHANGE) is not None for name in has_some) \
-            or any(it.get("queue-type") == STREAM for it in routes.settings.values())
+            or any(settings.get("queue-type") == STREAM for settings in routes.settings.values())
 
     def is_silent(self, connections: List[str]) -> bool:
         """Whether nothing is sent on connections but messages, no heartbeat and no confirm, and none is closed as its
         client sends no heartbeat."""
-        rows = [self.connections.get(it, {}) for it in connections]
-        channels = [it["pid"] for it in self.channels.values() if it["connection"] in connections]
+        rows = [self.connections.get(channel, {}) for channel in connections]
+        channels = [channel["pid"] for channel in self.channels.values() if channel["connection"] in connections]
         return all(row.get("timeout") == 0 and row.get("vhost") == HOST for row in rows) \
-            and all(self.unconfirmed.get(it) == 0 for it in channels)
+            and all(self.unconfirmed.get(channel) == 0 for channel in channels)
 
     def consumers(self, connection: str) -> List[Row]:
         """Returns the consumers of a connection that get a message if there is one."""
@@ -61,7 +61,7 @@ class Server:
     def is_full(self, row: Row, rows: List[Row]) -> bool:
         """Whether a consumer, the only one of its channel, has as many messages as it may have."""
         most, number = row.get("prefetch_count"), self.channels[row["channel_pid"]]["messages_unacknowledged"]
-        is_only = sum(it["channel_pid"] == row["channel_pid"] for it in rows) == 1
+        is_only = sum(other["channel_pid"] == row["channel_pid"] for other in rows) == 1
         return isinstance(most, int) and is_only and row["ack_required"] and 0 < most <= number
 
     def may_send_at_once(self, connection: str) -> bool:
@@ -71,7 +71,7 @@ class Server:
     def is_open(self, connection: str) -> bool:
         """Whether anybody may publish to a queue of which a connection gets messages."""
         queues = [str(row["queue_name"]) for row in self.consumers(connection)]
-        return not all(it.startswith(NAMED_BY_BROKER) and self.routes.is_by_name(it) for it in queues)
+        return not all(queue.startswith(NAMED_BY_BROKER) and self.routes.is_by_name(queue) for queue in queues)
 
 
 def all_who_may_end(server: Server, connections: List[str], others: Optional[List[str]], anybody: str) -> List[Wakers]:

@@ -39,17 +39,17 @@ def activities(rows: List[Row], ticking: Dict[int, bool]) -> Dict[str, Activity]
 
 
 def activity_of(threads: List[Row], ticking: Dict[int, bool]) -> Activity:
-    living = [it for it in threads if it["state"] not in "ZX"]
-    if any(it["state"] in "Tt" for it in living):  # (somebody holds it)
+    living = [thread for thread in threads if thread["state"] not in "ZX"]
+    if any(thread["state"] in "Tt" for thread in living):  # (somebody holds it)
         return Activity(OPEN)
     if len(living) == 1:
         return single(living[0])._replace(is_sure=True)
-    rest = [single(it) for it in living if it["tid"] not in ticking and it.get("at") != ITSELF]
-    kinds = {it.kind for it in rest}
+    rest = [single(thread) for thread in living if thread["tid"] not in ticking and thread.get("at") != ITSELF]
+    kinds = {activity.kind for activity in rest}
     first = next((kind for kind in (COMPUTES, ELSEWHERE, SLEEPING, OPEN) if kind in kinds), "")
     if first or not rest:
         return Activity(first or OPEN)
-    return rest[0] if len({it.connection for it in rest}) == 1 else Activity(OPEN)
+    return rest[0] if len({activity.connection for activity in rest}) == 1 else Activity(OPEN)
 
 
 def single(thread: Row) -> Activity:
@@ -66,9 +66,9 @@ def single(thread: Row) -> Activity:
 
 def ticking_of(first: List[Row], later: List[Row]) -> Dict[int, bool]:
     """Returns the threads that have come back to the same sleep between two states, as heartbeats do."""
-    counts = {it["tid"]: it.get("count") for row in later for it in row["threads"] if it.get("call") in SLEEPS}
-    return {it["tid"]: True for row in first for it in row["threads"]
-            if it.get("call") in SLEEPS and counts.get(it["tid"], it.get("count")) != it.get("count")}
+    before, after = ({thread["tid"]: thread.get("count") for row in rows for thread in row["threads"]
+                      if thread.get("call") in SLEEPS} for rows in (first, later))
+    return {tid: True for tid, count in before.items() if after.get(tid, count) != count}
 
 
 def looks_on(name: str) -> bool:

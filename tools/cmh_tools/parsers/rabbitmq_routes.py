@@ -5,8 +5,7 @@ import functools
 import re
 from typing import Any, Dict, List, Tuple
 
-from ..files import Refusal, shown
-from ..sketch import quote, read_json
+from ..files import shown
 
 DIRECT, TOPIC = "direct", "topic"
 BY_KEY, STANDARD = (DIRECT, TOPIC), (DIRECT, TOPIC, "fanout", "headers")
@@ -33,10 +32,10 @@ class Routes:
         for row in raw["list_exchanges"]:
             other = table_of(row.get("arguments")).get("alternate-exchange")
             self.feed(other, f"exchange {row['name']} hands on what it can't route")
-        policies = {str(row["name"]): definition_of(row) for row in raw["list_policies"]}
+        policies = {str(row["name"]): row["definition"] for row in raw["list_policies"]}
         self.settings = {str(row["name"]): {**policies.get(str(row.get("policy")), {}), **table_of(row["arguments"])}
                          for row in raw["list_queues"]}
-        self.dead = {name: it for name, it in self.settings.items() if it.get(EXCHANGE) is not None}
+        self.dead = {name: settings for name, settings in self.settings.items() if settings.get(EXCHANGE) is not None}
         for definition in policies.values():
             self.feed(definition.get("alternate-exchange"), "a policy hands on what an exchange can't route")
 
@@ -51,6 +50,17 @@ class Routes:
         if isinstance(exchange, str):
             self.fed[exchange] = f"{shown(why)} to exchange {shown(exchange)}, and the keys of these aren't known"
 
+    def lost(self) -> str:
+        """Returns what the lists lack, or nothing: each queue has a binding of the default exchange, and what others
+        take messages to is listed, but for what came in between."""
+        queues = self.settings
+        bare = next((name for name in queues if ("", name) not in self.bound.get(name, ())), None)
+        if bare is not None:
+            return f"queue {shown(bare)} has no binding of the default exchange"
+        others = [name for name, rows in self.bound.items() if name not in queues and any(source for source, _ in rows)]
+        others += [name for name in self.fed if self.kinds and name not in self.kinds]
+        return f"messages are taken to {shown(others[0])}, which isn't listed" if others else ""
+
     def kind(self, exchange: str) -> str:
         return self.kinds.get(exchange, DIRECT if exchange == "" else "")
 
@@ -61,26 +71,26 @@ class Routes:
     def is_resting(self, queue: str) -> bool:
         """Whether nobody reads another queue of the same family, which differs in the last part of its name."""
         family = family_of(queue)
-        return family != "" and any(family_of(it) == family for it in self.settings.keys() - self.consumed)
+        return family != "" and any(family_of(other) == family for other in self.settings.keys() - self.consumed)
 
     def ends(self, queue: str) -> Tuple[Dict[str, str], str]:
         """Returns the keys by which messages come to a queue, each with the expression for those that are used, and
         what keeps them from being known. The name of the queue itself is one only if it has no other. A key that
         another exchange takes to another queue needs its exchange: EXCHANGE/KEY."""
-        found: Dict[str, str] = {}
+        keys: Dict[str, str] = {}
         bindings = self.bound.get(queue, [])
         for source, key in bindings:
             fault = self.fault_of(source)
             if fault:
                 return {}, fault
             if self.kind(source) not in BY_KEY:
-                found[source] = re.escape(source)  # (its messages come whatever their keys)
+                keys[source] = re.escape(source)  # (its messages come whatever their keys)
             elif source or len(bindings) == 1:
                 exact = f"{re.escape(source)}/(?:{self.expression(source, key)})"
                 is_shared = self.is_shared(source, key, queue)
-                found[f"{source}/{key}" if is_shared else key] = \
+                keys[f"{source}/{key}" if is_shared else key] = \
                     exact if is_shared else f"{exact}|{self.expression(source, key)}"
-        return found or {queue: re.escape(queue)}, ""
+        return keys or {queue: re.escape(queue)}, ""
 
     def fault_of(self, source: str) -> str:
         """Returns what keeps it from being known who publishes to an exchange, or nothing."""
@@ -106,13 +116,13 @@ class Routes:
 
     def feeders(self, queue: str) -> List[str]:
         """Returns the queues whose dead messages may come to a queue, also by others between them."""
-        found: Dict[str, None] = {}
+        feeders: Dict[str, None] = {}
         new = [queue]
         while new:
-            new = [other for other, settings in self.dead.items() if other not in found
-                   and any(self.may_hand(other, settings, it) for it in new)]
-            found.update(dict.fromkeys(new))
-        return [it for it in found if it != queue]
+            new = [other for other, settings in self.dead.items() if other not in feeders
+                   and any(self.may_hand(other, settings, name) for name in new)]
+            feeders.update(dict.fromkeys(new))
+        return [name for name in feeders if name != queue]
 
     def mover(self, queue: str) -> str:
         """Returns what hands messages to a queue by itself, or nothing: a queue that has some, whether or not they have
@@ -148,7 +158,7 @@ class Routes:
 
     def may_hand(self, other: str, settings: Dict[str, Any], queue: str) -> bool:
         """Whether dead messages of another queue may come to this one."""
-        exchange, key = (None if it is None else str(it) for it in (settings.get(EXCHANGE), settings.get(KEY)))
+        exchange, key = (None if value is None else str(value) for value in (settings.get(EXCHANGE), settings.get(KEY)))
         if exchange is None:
             return False
         if exchange == "":
@@ -169,34 +179,9 @@ def family_of(queue: str) -> str:
     return re.sub(r"[^.:/]+$", "", queue)
 
 
-def odd_row(raw: Dict[str, Any]) -> str:
-    """Returns which row has what no broker takes, or nothing: the default exchange takes messages to a queue by its
-    name alone, and no queue has a key for its dead messages and no exchange."""
-    for row in raw["list_bindings"]:
-        name = str(row["destination_name"])
-        if row["source_name"] == "" and (row["routing_key"] != name or row.get("destination_kind", "queue") != "queue"):
-            return f"list_bindings: the default exchange takes to {quote(name)} what isn't of its name"
-    for row in raw["list_queues"]:
-        arguments = table_of(row["arguments"])
-        if KEY in arguments and EXCHANGE not in arguments:
-            return f"list_queues: queue {quote(str(row['name']))} has a key for dead messages, and no exchange for them"
-    return ""
-
-
 def table_of(rows: Any) -> Dict[str, Any]:
     """Returns the table of arguments, each [NAME, TYPE, VALUE], with the names as policies have them."""
     return {re.sub("^x-", "", str(name)): value for name, _, value in rows or []}
-
-
-def definition_of(row: Dict[str, Any]) -> Dict[str, Any]:
-    """Returns what a policy sets. Raises Refusal if it isn't an object, or the text of one, or sets nothing, which the
-    broker doesn't take."""
-    definition: Any = row["definition"]
-    where = f"policy {row['name']}"
-    found = read_json(definition, where) if isinstance(definition, str) else definition
-    if not isinstance(found, dict) or not found:
-        raise Refusal(f"{shown(where)}: its definition is no object, or an empty one")
-    return found
 
 
 @functools.lru_cache(maxsize=None)
@@ -216,9 +201,9 @@ def pattern(routing_key: str) -> str:
     """Returns the expression of a binding: `*` stands for a word, `#` for any number of words, also none."""
     words = re.sub(r"(?<![^.])#(\.#(?![^.]))+", "#", routing_key).split(".")
     text = ""
-    for at, word in enumerate(words):
+    for place, word in enumerate(words):
         if word == "#":
-            text += r"(?:(?:^|\.)[^.]+)*" if at else r"(?:[^.]+(?:\.|$))*"
+            text += r"(?:(?:^|\.)[^.]+)*" if place else r"(?:[^.]+(?:\.|$))*"
         else:
-            text += (r"\." if at and words[:at] != ["#"] else "") + (r"[^.]+" if word == "*" else re.escape(word))
+            text += (r"\." if place and words[:place] != ["#"] else "") + (r"[^.]+" if word == "*" else re.escape(word))
     return text
