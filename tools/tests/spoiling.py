@@ -15,9 +15,9 @@ from harness import read
 
 DIGITS = re.compile(r"\d+")
 TOKEN = re.compile(r'"(?:[^"\\\n]|\\.)*"|[A-Za-z_]\w*|\d+|[^\w\s]')
-HEADING = re.compile(r'=\w|goroutine \d|"|# |Thread \d|Process \d|.{0,20}\{"(?:reading|version)"')
+HEADING = re.compile(r'=\w|goroutine \d|"|# |Thread \d|Process \d|.{0,20}\{"(?:reading|version|look)"')
 # Values in the place of one of JSON.
-STRANGE: Tuple[Any, ...] = (None, "x", "", "xx", -1, 7.5, True, [], {}, [None], {"x": 1})
+STRANGE: Tuple[Any, ...] = (None, "x", "", "xx", -1, 7.5, 10 ** 25, 1e300, True, [], {}, [None], {"x": 1})
 
 
 class Kept:
@@ -146,6 +146,40 @@ def strange_tokens(token):
     return ["", token * 2, "x"]
 
 
+def spoil_everywhere(case, number, random):
+    """Makes a word of a row, as a key or a flag, another one in each row."""
+    words = [token[0] for token in TOKEN.finditer(case.rows[number]) if token[0][0] == '"' or token[0][0].isalpha()]
+    if not words:
+        return {}
+    word = words[int(random.random() * len(words))]
+    form = re.compile(rf"(?<!\w){re.escape(word)}(?!\w)")
+    new = strange_tokens(word)[0 if word[0] == '"' else int(random.random() * len(strange_tokens(word)))]
+    return {other: [form.sub(lambda _: new, row)] for other, row in enumerate(case.rows) if word in row}
+
+
+def double_changed(case, number, random):
+    """Has a row twice, of which one has another number or value."""
+    row, numbers = case.rows[number], list(DIGITS.finditer(case.rows[number]))
+    if not numbers or random.random() < 0.5:
+        return {number: [row, *spoil_value(case, number, random).get(number, [row])]}
+    old = numbers[int(random.random() * len(numbers))]
+    changed = row[:old.start()] + str(int(old[0]) + 1) + row[old.end():]
+    return {number: random.choice(([row, changed], [changed, row]))}
+
+
+def text_at(case, number):
+    """Returns the numbers of the rows of the text that a row is in."""
+    return [other for other, text in enumerate(case.text_of) if text == case.text_of[number]]
+
+
+def end_as_windows(case, number, random):
+    return {other: [f"{case.rows[other]}\r"] for other in text_at(case, number)}
+
+
+def lose_text(case, number, random):
+    return {other: [] for other in text_at(case, number)}
+
+
 def spoil_value(case, number, random):
     """Loses, doubles, renames or makes strange a value of a row of JSON."""
     row = case.rows[number]
@@ -186,5 +220,6 @@ def spoil_place(holder, key, random):
         holder.insert(key, holder[key])
 
 
-WAYS = (lose_lines, lose_lines, double_line, cut_line, lose_block, lose_end_of_block, double_block,
-        spoil_token, spoil_token, spoil_token, spoil_value, spoil_value, spoil_value, spoil_value)
+WAYS = (lose_lines, lose_lines, double_line, cut_line, lose_block, lose_end_of_block, double_block, double_changed,
+        spoil_token, spoil_token, spoil_token, spoil_value, spoil_value, spoil_value, spoil_everywhere,
+        spoil_everywhere, end_as_windows, lose_text)

@@ -43,13 +43,14 @@ OWNER = {"pid": int, "ppid": int, "comm": str, "group?": int, "session?": int, "
          "kin?": [int], "timers?": bool, "aio?": bool, "runtime?": str, "frames?": [[str, int, int]],
          "modules?": [[str, str]], "start?": int, "NSpid?": NUMBERS, "NSpgid?": NUMBERS, "collects?": bool,
          "state": STATE, **OLD}
+UNREADABLE = {**{f"{key.rstrip('?')}?": shape for key, shape in OWNER.items()}, "pid": int, "unreadable": str}
 SOCKET = {"socket": int, "kind": re.compile("tcp|u_(str|dgr|seq)"), "state": str, "at": str, "to": str,
           "peers": [int], "away?": bool, "unread?": int, "timer?": object}
 # The form of each row, by the first of these keys that it has.
 SHAPES = {"version": {"version": int, "machine?": str, "release?": str, "asked?": [int], "seconds?": (int, float),
                       "outside": str, "space?": str, "with_stacks?": bool},
           "reading": {"reading": int, "began?": float, "seconds?": (int, float), "warnings": [str]},
-          "unreadable": {"unreadable": str, "pid": int, ...: object}, "pid": OWNER, "socket": SOCKET,
+          "unreadable": UNREADABLE, "pid": OWNER, "socket": SOCKET,
           "listening": {"listening": {str: [int]}}, "parents": {"parents": {re.compile(r"[0-9]{1,9}"): [int, int]}},
           "stacks": {"stacks": int, "by": str, "still": {str: [str]}, "text": str},
           "end": {"end": (int, str), "processes?": int}}
