@@ -31,18 +31,19 @@ HEX = re.compile(r"(0x)?[0-9a-f]{1,16}")
 OLD = {f"{key}?": object for key in ("apart", "awaits", "handlers", "traps", "builtin", "family", "spares")}
 RUNNING = "running"  # the call of one that is in none, and so has no arguments
 STATE = re.compile("[A-Za-z]")
+FILE = re.compile(r"(?!pipe:|socket:).*|(pipe|socket):\[\d{1,20}\]", re.S)
 THREAD = {"tid": int, "state": STATE, "inner?": int, "comm?": str, "call?": str, "args?": [HEX] * 6,
           "counts?": [int, int], "set?": ([[int, int]], [[int, int, int]]), "words?": re.compile("([0-9a-f]{2})*"),
           "range?": [int] * 4, "path?": str, "wchan?": str, "memory?": str, "mask?": HEX, "key?": int, "users?": [int],
           "changed?": int, "within?": str, "frames?": [str], "stack?": [int], "cut?": bool, "again?": bool,
           "object?": [str, int], "limit?": [(float, int, type(None))] * 2, "waited?": (float, int), "pending?": bool,
           "addressed?": bool, **OLD}
-OWNER = {"pid": int, "ppid": int, "comm": str, "group?": int, "session?": int, "exe?": str, "command?": str,
-         "net?": str, "living?": int, "TracerPid?": re.compile(r"\d{1,9}"), "SigCgt?": HEX, "SigIgn?": HEX,
-         "fds": {re.compile(r"\d{1,9}|memory .*"): [str, re.compile("r?w?"), str, ...]}, "threads?": [THREAD],
-         "kin?": [int], "timers?": bool, "aio?": bool, "runtime?": str, "frames?": [[str, int, int]],
-         "modules?": [[str, str]], "start?": int, "NSpid?": NUMBERS, "NSpgid?": NUMBERS, "collects?": bool,
-         "state": STATE, **OLD}
+OWNER: Row = {"pid": int, "ppid": int, "comm": str, "group?": int, "session?": int, "exe?": str, "command?": str,
+              "net?": str, "living?": int, "TracerPid?": re.compile(r"\d{1,9}"), "SigCgt?": HEX, "SigIgn?": HEX,
+              "fds": {re.compile(r"\d{1,9}|memory .*"): [FILE, re.compile("r?w?"), str, ...]}, "threads?": [THREAD],
+              "kin?": [int], "timers?": bool, "aio?": bool, "runtime?": str, "frames?": [[str, int, int]],
+              "modules?": [[str, str]], "start?": int, "NSpid?": NUMBERS, "NSpgid?": NUMBERS, "collects?": bool,
+              "state": STATE, **OLD}
 UNREADABLE = {**{f"{key.rstrip('?')}?": shape for key, shape in OWNER.items()}, "pid": int, "unreadable": str}
 SOCKET = {"socket": int, "kind": re.compile("tcp|u_(str|dgr|seq)"), "state": str, "at": str, "to": str,
           "peers": [int], "away?": bool, "unread?": int, "timer?": object}
