@@ -118,9 +118,9 @@ class Waits:
             return Waits(sketch)
         made = copy(self)
         made.processes, made.subjects, made.kinds = sketch.processes, list(self.subjects), self.kinds[:self.number]
-        for at in changed:
-            made.subjects[at] = made.subject(at)
-            made.kinds[at] = made.kind_of(at)
+        for number in changed:
+            made.subjects[number] = made.subject(number)
+            made.kinds[number] = made.kind_of(number)
         made.decision = Decision(made.subjects)
         made.decision.freed = self.decision.freed_beside
         made.number_nodes()
