@@ -10,6 +10,7 @@ from .linux_waits import EPOLLS, READ, SETS, int32
 
 # Programs whose states say who is at the other end.
 SERVERS = ("beam.smp", "postgres", "pgbouncer", "mariadbd", "mysqld")
+HELPERS = ("erl_child_setup", "inet_gethost")  # programs that a node of Erlang's starts for itself
 MAPPED = "[::ffff:"  # an address of IPv4 in one of IPv6
 
 
@@ -20,8 +21,8 @@ def connections_of(machine: Machine, space: str) -> Dict[str, Dict[str, List[str
     for owner, target, key in ends_of(machine, space):
         row = rows.setdefault(key, {"has": [], "awaits": [], "sockets": [target]})
         row["has"] += [name for name in owner.names if name not in row["has"]]
-        row["awaits"] += [thread.name for thread in owner.living if target_of(thread) == target]
-    beside = [name for owner in machine.owners if owner.command in SERVERS for name in owner.names]
+        row["awaits"] += [thread.name for thread in owner.living if target_of(thread, machine) == target]
+    beside = [name for owner in machine.owners if owner.command in (*SERVERS, *HELPERS) for name in owner.names]
     return {**rows, "servers": {"beside": beside}} if beside else rows
 
 
@@ -51,12 +52,22 @@ def plain(end: str) -> str:
     return end[len(MAPPED):].replace("]", "", 1) if end.startswith(MAPPED) else end
 
 
-def target_of(thread: Thread) -> str:
-    """Returns the one descriptor's file at which a thread waits, or nothing."""
+def target_of(thread: Thread, machine: Machine) -> str:
+    """Returns the one descriptor's file at which a thread waits, beside those by which its own process wakes it, or
+    nothing."""
     fds: List[int] = []
     if thread.call in READ and thread.arguments:
         fds = [int32(thread.arguments[0])]
     elif thread.call in (*SETS, *EPOLLS):
         fds = [row[0] for row in thread.events]
-    words = thread.owner.files.get(str(fds[0])) if len(fds) == 1 else None
-    return words[0] if words else ""
+    targets = [words[0] for words in (thread.owner.files.get(str(fd), [""]) for fd in fds)]
+    others = [target for target in targets if not wakes_itself(target, thread, machine)]
+    return others[0] if len(others) == 1 else ""
+
+
+def wakes_itself(target: str, thread: Thread, machine: Machine) -> bool:
+    """Whether the other end of a socket is of the process itself alone, which is connected with no other."""
+    row = machine.sockets.get(int(target[8:-1]), {}) if target.startswith("socket:[") else {}
+    peers = [f"socket:[{peer}]" for peer in row.get("peers", ())]
+    return bool(peers) and row.get("state") != AT_LISTENER and all(
+        machine.with_file(peer) == [thread.owner] for peer in (target, *peers))
