@@ -204,7 +204,7 @@ def with_sockets(captures: List[Capture]) -> List[Capture]:
     systems = [capture.system for capture in captures]
     clients = [pid for capture in captures if capture.system in ("jvm", "python") for pid in capture.targets
                if pid.isdigit()]
-    if clients and "linux" not in systems and not set(SERVERS).isdisjoint(systems):
+    if clients and "linux" not in systems and not {*SERVERS, "rabbitmq"}.isdisjoint(systems):
         return [*captures, Capture("linux", list(dict.fromkeys(clients)), "its connections are read as the kernel "
                                    "sees them, which stops nothing")]
     return captures
