@@ -1,4 +1,4 @@
-"""Forks while another thread has a lock, which the child then wants: there nobody has it. The parent waits for the child."""
+"""Forks while another thread has a lock, which the child wants: there nobody has it. The parent waits for the child."""
 import os
 import threading
 import time

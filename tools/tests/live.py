@@ -1,14 +1,11 @@
-"""What the tests of the recorders share: answers of the tools, and stalls that are started and recorded anew."""
+"""What the tests of the recorders share: answers of the tools."""
 import json
 import re
-import shutil
 import tempfile
-import unittest
-from concurrent.futures import Future, ThreadPoolExecutor
-from typing import Dict, List, NamedTuple, Sequence, Tuple
+from typing import NamedTuple
 
 from common import DUMP, EXPLAIN, TOOLS
-from harness import PROGRAM, Case, read, run, write
+from harness import PROGRAM, read, run
 
 EXAMPLES = f"{TOOLS}/examples"
 TRIES = 5
@@ -43,36 +40,3 @@ def roots_of(text):
     """The members of each certain root of an answer."""
     parts = re.findall(r"^Root \d+: .*\n((?:  .*\n)+)", text, re.M)
     return sorted(sorted(re.findall(r"^  (\S.*?) (?:on \S+ )?waits for", part, re.M)) for part in parts)
-
-
-class Live(Case):
-    """Stalls that are started on this machine. `stalls` has the folder of each, its words, and the commands needed."""
-
-    stalls: List[Tuple[str, str, Sequence[str]]] = []
-    first: "Dict[Tuple[str, str], Future[str]]" = {}
-
-    @classmethod
-    def begin(cls):
-        """Records all of them, as most of that is waiting. A script calls this before its first test."""
-        pool = ThreadPoolExecutor(4)
-        unittest.addModuleCleanup(pool.shutdown)
-        cls.first = {(folder, words): pool.submit(record, folder, words) for folder, words, needed in cls.stalls
-                     if all(map(shutil.which, needed))}
-
-    def try_stall(self, folder, words, wanted, found_in):
-        """Compares what is found in a state with what is right. A stall lasts: where it isn't there yet, the state was
-        taken too early, and the stall is started and recorded anew."""
-        self.need(*next(needed for *stall, needed in self.stalls if stall == [folder, words]))
-        for at in range(TRIES):
-            text = record(folder, words) if at else self.first[folder, words].result()
-            found = found_in(write(f"{self.folder()}/it.raw", text))
-            if found == wanted:
-                break
-        self.same(f"{folder} {words}, live", found, wanted)
-
-
-def record(folder, words):
-    ran = run(["bash", f"{EXAMPLES}/{folder}/record", *words.split()])
-    if ran.status:
-        raise RuntimeError(f"record of {folder} {words}: {ran.err}")
-    return ran.out
