@@ -5,6 +5,7 @@ A script of tests is a file whose classes derive from Case, and that ends in `ma
 """
 from __future__ import annotations
 
+import functools
 import glob
 import os
 import re
@@ -182,15 +183,17 @@ def build_preload(source: str, folder: str) -> str | None:
 # Several Pythons
 
 
+@functools.lru_cache(maxsize=None)
 def pythons() -> dict[str, str]:
-    """Returns the Pythons that are there, by those of PYTHONS: the one that runs this, and others in usual places."""
+    """Returns the Pythons that are there, by those of PYTHONS: the one that runs this, and others in usual places. What
+    only chooses among several takes as long as a small script, so it comes last."""
     found = {}
     for version in PYTHONS:
-        places = [shutil.which(f"python{version}"), f"/usr/bin/python{version}", f"/usr/local/bin/python{version}",
-                  *sorted(glob.glob(os.path.expanduser(f"~/.pyenv/versions/{version}.*/bin/python3")))]
-        own = [sys.executable] if version_of(sys.executable) == version else []
-        there = [it for it in [*own, *filter(None, places)] if version_of(it) == version]
-        found.update({version: there[0]} if there else {})
+        places = [*sorted(glob.glob(os.path.expanduser(f"~/.pyenv/versions/{version}.*/bin/python3"))),
+                  f"/usr/bin/python{version}", f"/usr/local/bin/python{version}", shutil.which(f"python{version}")]
+        own = [sys.executable] if "%d.%d" % sys.version_info[:2] == version else []
+        there = next((path for path in [*own, *filter(None, places)] if version_of(path) == version), None)
+        found.update({version: there} if there else {})
     return found
 
 
@@ -222,6 +225,22 @@ def skipped_of(lines: list[str]) -> list[str]:
     return [it for it in lines if it.startswith("skipped ")]
 
 
+class Measured(NamedTuple):
+    """What a command has printed, and the seconds that processors have worked for it and for all that it waited for."""
+
+    status: int
+    out: str
+    seconds: float
+
+
+def measured(words: Sequence[str], **how: Any) -> Measured:
+    with subprocess.Popen(words, **PIPES, **how) as ran:
+        out = ran.stdout.read() if ran.stdout else ""
+        _, status, used = os.wait4(ran.pid, 0)
+        ran.returncode = -os.WTERMSIG(status) if os.WIFSIGNALED(status) else os.WEXITSTATUS(status)
+    return Measured(ran.returncode, out, used.ru_utime + used.ru_stime)
+
+
 class Summary:
     """Runs commands, and adds up their closing lines."""
 
@@ -245,16 +264,13 @@ class Summary:
         """Runs commands, each a name and its words, as many at a time as there are processors. Passes on what each has
         printed, in their order."""
 
-        def ran(command: tuple[str, Sequence[str]]) -> subprocess.CompletedProcess[str]:
-            return subprocess.run(command[1], check=False, **PIPES, **how)
-
         commands = list(commands)
         with ThreadPoolExecutor(len(os.sched_getaffinity(0))) as pool:
-            for (name, _), done in zip(commands, pool.map(ran, commands)):
-                print(f"== {name}\n{done.stdout}", end="", flush=True)
-                self.judge(name, done.stdout, done.returncode)
+            for (name, _), done in zip(commands, pool.map(lambda command: measured(command[1], **how), commands)):
+                print(f"== {name}\n{done.out}", end="", flush=True)
+                self.judge(name, done.out, done.status, f", {done.seconds:.0f} s of processor time")
 
-    def judge(self, name: str, printed: str, status: int) -> bool:
+    def judge(self, name: str, printed: str, status: int, cost: str = "") -> bool:
         """Adds what the closing line of a command says, and returns whether all is well. A command that ends without
         one, or with a status that does not fit it, counts as one that failed."""
         lines = printed.splitlines()
@@ -262,7 +278,7 @@ class Summary:
         passed, failed, skipped = (int(it or 0) for it in last.groups()) if last else (0, 0, 0)
         if not last or (status and not failed):
             failed += 1
-        self.add(f"{name}: {last[0] if last else 'no closing line'}, status {status}", passed, failed)
+        self.add(f"{name}: {last[0] if last else 'no closing line'}, status {status}{cost}", passed, failed)
         names = [*skipped_of(lines), *["skipped without a name"] * skipped]
         self.skipped += [f"{name}: {it}" for it in names[:skipped]]
         return not failed
