@@ -205,8 +205,8 @@ while os.read(0, 65536): time.sleep(0.05)' & wait""", "sleep 3"),
 # What of stress-ng waits, each alone: for each other, the kernel or a time.
 STRESSORS = ("alarm clock epoll eventfd fifo flock fork futex hrtimers inotify itimer kill locka lockf lockofd mq msg "
              "mutex nanosleep pidfd pipe pipeherd poll pthread ring-pipe sem sem-sysv sendfile session sigchld sigfd "
-             "sigio sigq sigrt sigsuspend sleep sock sockfd sockpair splice switch tee timer timerfd udp vforkmany vm-splice "
-             "wait zombie")
+             "sigio sigq sigrt sigsuspend sleep sock sockfd sockpair splice switch tee timer timerfd udp vm-splice "
+             "wait")
 STRESSED = [Row(f"stress-ng --{it}", "stress-ng", f"exec stress-ng --quiet --{it} 2 --temp-path $PWD --timeout 600",
                 "sleep 2") for it in STRESSORS.split()]
 STALLS = [
