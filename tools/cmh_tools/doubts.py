@@ -31,7 +31,7 @@ MORE = re.compile(", (?:and|or whom) ")  # before what a clause says besides
 SIGNS = {
     Sign.TICKS: "came back to its loop and freed nobody",
     Sign.SLEEPS: "sleeps",
-    Sign.POLLS: "polls",
+    Sign.POLLS: "came back to its call and freed nobody",
     Sign.GOES_ON: "goes on",
     Sign.UNKNOWN: "isn't understood",
     Sign.BLOCKED: "waits itself",

@@ -58,7 +58,14 @@ class Plain:
         if one.strength is not ABLE or one.who is None:
             return one.strength is not NAMED
         sign = self.signs[one.who]
-        return sign in (UNKNOWN, RESTS, TICKS) or beside_named and sign is BLOCKED
+        is_idle = sign in (RESTS, TICKS, POLLS) or self.waits_for_idle(one.who)
+        return is_idle or sign is UNKNOWN or beside_named and sign is BLOCKED
+
+    def waits_for_idle(self, name: str) -> bool:
+        """Whether one who is blocked waits, in a part, for named ones of whom each is idle."""
+        lists = [[self.signs[str(one.who)] for one in part if one.strength is NAMED] for part in self.parts[name]]
+        return self.signs[name] is BLOCKED and any(
+            signs and set(signs) <= {RESTS, TICKS, POLLS} for signs in lists)
 
     def greatest(self, inside: Set[str], parts: Dict[str, Parts], sure: Set[str]) -> Set[str]:
         while True:

@@ -25,6 +25,9 @@ KEPT = 65536  # lists of reasons whose assumptions are kept
 COUNT = range(1 << 63)  # the shape of a number that counts something
 Check = Callable[[Any], Optional[str]]
 CHECKS: Dict[int, Tuple[Any, Check]] = {}  # by the id of a shape
+# A function of the job's own that only sleeps.
+SLEEPS = re.compile(r"(?i)(?:.*[.:])?(?:\w*sleep\w*|\w*nap|pause\w*|delay\w*|snooze|doze|rest|idle|wait\w*|await\w*)"
+                    r"(?:/\d+)?")
 
 
 class Break(NamedTuple):
@@ -280,6 +283,12 @@ def check_of_object(rows: List[Tuple[str, str, Any, Check]], has_more: bool) -> 
                 return f".{name}{odd}"
         return None if has_more else next((f".{key}" for key in value if key not in names), None)
     return check
+
+
+def without_sleep(functions: List[str]) -> List[str]:
+    """Returns functions but for the innermost one, if it only sleeps for the next one, as its name says."""
+    is_sleep = functions[1:] and SLEEPS.fullmatch(functions[0].partition(" (")[0].partition("<")[0])
+    return functions[1:] if is_sleep else functions
 
 
 def one_line(text: str, width: int = 200) -> str:

@@ -72,7 +72,7 @@ class Nodes(Snapshot):
 
 def limited(block: Block, snapshot: Nodes, why: str, more: More) -> Process:
     """One that waits with a limit, of which its operation tells."""
-    sign = Sign.TICKS if block.is_in_own_loop() else Sign.SLEEPS
+    sign = Sign.TICKS if block.sleeps_in_own_loop() else Sign.SLEEPS
     return goes_on(snapshot.name(block), why, [premise(LIMIT)], sign, **more)
 
 

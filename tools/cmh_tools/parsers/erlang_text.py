@@ -8,6 +8,7 @@ from typing import Dict, Iterable, List, NamedTuple, Optional, Set, Tuple, Union
 
 from ..files import Refusal, shown
 from ..sketch import frame
+from .base import without_sleep
 from .erlang_stack import LOCKING, REGISTER, RETRYING, STOPPING, callback_of, lost_of_stack, terms_in
 
 A_PID = r"<\d{1,10}\.\d{1,10}\.\d{1,10}>"
@@ -206,6 +207,10 @@ class Block:
     def is_in_own_loop(self) -> bool:
         """Whether its wait is called by the function that it was started with, and by no callback of a server."""
         return len(self.own) <= 1 and not any(map(CALLBACKS.match, self.stack))
+
+    def sleeps_in_own_loop(self) -> bool:
+        """The same of one that sleeps, maybe by a function that does nothing else."""
+        return len(without_sleep(self.own)) <= 1 and not any(map(CALLBACKS.match, self.stack))
 
     def is_in_library(self) -> bool:
         return OF_SYSTEM.fullmatch(self.function[0]) is not None

@@ -21,9 +21,10 @@ from ..model import COMES, Part, Sign, Wakers, all_of, any_of, unseen, wakers
 from ..sketch import LIMIT, SYSTEM, Process, Sketch, blocked, garbled, goes_on, premise, rests, unknown
 from ..snapshots import APART, CUT, ONCE, Reading
 from . import State
-from .base import Parser, Reach, Snapshot
-from .go_frames import (CONNECTION, NEEDS_ALL, WATCHER, Place, entry_of, is_at_another, is_jobs, is_of_runtime, is_own,
-                        lacks_wait, receiver_locked, receivers_past_lock, takes_state)
+from .base import Parser, Reach, Snapshot, without_sleep
+from .go_frames import (CONNECTION, NEEDS_ALL, WATCHER, Call, Place, callers_in, entry_of, is_at_another, is_jobs,
+                        is_of_runtime, lacks_wait, own_calls, receiver_locked, receivers_past_lock, serves_request,
+                        takes_state)
 from .go_starters import MAIN, UNSEEN, Starters, unseen_starter
 from .go_text import ADDRESS, AGAIN, TAKER, WHERE, Dump, Goroutine, read_dumps
 
@@ -64,6 +65,7 @@ class Goroutines(Snapshot):
     everybody: Wakers
     is_stopped: bool
     has_signals: bool
+    callers: Set[Call]
 
 
 class GoParser(Parser):
@@ -130,6 +132,7 @@ class GoParser(Parser):
         rows: List[Goroutine] = snapshot.rows()
         snapshot.places = {goroutine.number: Place(goroutine) for goroutine in rows}
         snapshot.is_stopped = not any(goroutine.is_elsewhere for goroutine in rows)
+        snapshot.callers = callers_in(rows)
         snapshot.has_signals = any(frame.function == SIGNALS for goroutine in rows for frame in goroutine.frames)
         snapshot.everybody = wakers("same-process", [self.names[goroutine.number] for goroutine in rows
                                                      if snapshot.places[goroutine.number].idle not in LIBRARYS])
@@ -176,7 +179,7 @@ class GoParser(Parser):
         if state in RUNNING:
             return goes_on(name, place.idle or ("computes" if state.startswith("run") else state), [SYSTEM])
         if state == "sleep":
-            return self.sleeper(goroutine, place, name)
+            return self.sleeper(goroutine, place, name, snapshot)
         if state in NOBODY or goroutine.is_leaked:
             return wait_for_nobody(goroutine, name)
         if place.idle:
@@ -188,13 +191,14 @@ class GoParser(Parser):
                            parts=any_of(unseen("outside")))
         return self.waiter(goroutine, place, name, snapshot)
 
-    def sleeper(self, goroutine: Goroutine, place: Place, name: str) -> Process:
+    def sleeper(self, goroutine: Goroutine, place: Place, name: str, snapshot: Goroutines) -> Process:
         """One that sleeps. One that sleeps for a short time in the function that it was started with has come back to
         that sleep from the first state to the last."""
         found = next((frame.arguments for frame in goroutine.frames if frame.function == "time.Sleep"), "")
         nanoseconds = int(found, 16) if SLEEP.fullmatch(found) else 0
         is_short = 0 < nanoseconds <= max(SHORT, self.seconds / 2) * 10 ** 9
-        sign = Sign.TICKS if is_in_own_loop(goroutine) else Sign.SLEEPS
+        own = without_sleep([frame.function for frame in own_calls(goroutine, snapshot.callers)])
+        sign = Sign.TICKS if len(own) == 1 and not serves_request(goroutine) else Sign.SLEEPS
         count = self.look_of(goroutine) if is_short else None
         return goes_on(name, place.idle or "sleeps", [premise(LIMIT)], sign, operation="timed sleep", count=count)
 
@@ -213,7 +217,7 @@ class GoParser(Parser):
         if children:
             parts = all_of(children, COMES, beside=(snapshot.everybody, unseen("unshown")))
         awaits_signal = snapshot.has_signals and OF_SIGNALS.search(place.function) is not None
-        may_rest = awaits_signal or (is_in_own_loop(goroutine) if goroutine.number != MAIN else
+        may_rest = awaits_signal or (is_in_own_loop(goroutine, snapshot) if goroutine.number != MAIN else
                                      snapshot.has_signals and len(place.frames) == 1)
         if place.operation in RECEIVES and may_rest:
             return rests(name, why, parts, [SYSTEM])
@@ -256,9 +260,9 @@ class GoParser(Parser):
 DOESNT_SHOW = "the state doesn't show what ends this wait"
 
 
-def is_in_own_loop(goroutine: Goroutine) -> bool:
+def is_in_own_loop(goroutine: Goroutine, snapshot: Goroutines) -> bool:
     """Whether a goroutine stands in the function that it was started with, in none that it has called."""
-    return len([frame for frame in goroutine.frames if is_own(frame)]) == 1
+    return len(own_calls(goroutine, snapshot.callers)) == 1 and not serves_request(goroutine)
 
 
 def missing_of(dump: Dump, shown: List[Goroutine]) -> str:

@@ -4,7 +4,7 @@ from __future__ import annotations
 
 import re
 from functools import lru_cache
-from typing import List, Optional, Tuple
+from typing import Dict, Iterable, List, Optional, Set, Tuple
 
 from ..sketch import frame
 from .go_text import ADDRESS, TAKER, Frame, Goroutine
@@ -56,6 +56,10 @@ LOCK = re.compile(r"sync\.\(\*(?:Mutex|RWMutex|WaitGroup|Cond|Once)\)\.\w+|inter
 CONDITION, WAITS_AT_IT = "sync.(*Cond).Wait", "sync.runtime_notifyListWait"
 NEEDS_ALL = frozenset(("sync.WaitGroup.Wait", "sync.RWMutex.Lock", "golang.org/x/sync/errgroup.Group.Wait"))
 OUTERMOST = ("runtime.goexit", "runtime.main")
+# What calls a function of the job's own for each request.
+SERVERS = frozenset(("net/http.(*conn).serve", "google.golang.org/grpc.(*Server).handleStream",
+                     "net/rpc.(*service).call"))
+Call = Tuple[str, Optional[int]]  # a function, and the line in it
 KEPT = 65536  # functions whose meaning is kept
 
 
@@ -107,6 +111,32 @@ def package_of(function: str) -> str:
 def is_own(it: Frame) -> bool:
     """Whether a frame is the job's own: of no library that many jobs use."""
     return is_jobs(it) and not is_of_library(it.function)
+
+
+def own_calls(goroutine: Goroutine, callers: Set[Call]) -> List[Frame]:
+    """Returns the frames of the job's own, the innermost first, without those that only call what they were handed."""
+    own = list(filter(is_own, goroutine.frames))
+    while own[1:] and (call_of(own[-1]) in callers or WRAPPER.fullmatch(own[-1].function)):
+        own.pop()
+    return own
+
+
+def callers_in(goroutines: Iterable[Goroutine]) -> Set[Call]:
+    """Returns the places from which several functions are called, each by another goroutine."""
+    called: Dict[Call, Set[str]] = {}
+    for own in (list(filter(is_own, goroutine.frames)) for goroutine in goroutines):
+        for callee, caller in zip(own, own[1:]):
+            called.setdefault(call_of(caller), set()).add(callee.function)
+    return {call for call, functions in called.items() if len(functions) > 1}
+
+
+def call_of(it: Frame) -> Call:
+    return it.function, it.line
+
+
+def serves_request(goroutine: Goroutine) -> bool:
+    """Whether a library calls the job's own functions, for each request anew."""
+    return any(it.function in SERVERS for it in goroutine.frames)
 
 
 @lru_cache(maxsize=KEPT)

@@ -8,6 +8,7 @@ from functools import lru_cache
 from typing import Callable, Dict, List, Optional
 
 from ..sketch import WORK, frame
+from .base import without_sleep
 from .jvm_text import Stack, Thread, stack_of
 
 JDK = re.compile(r"(?:java|javax|jdk|sun|com\.sun)\.")
@@ -105,8 +106,6 @@ REENTRANT = re.compile(r"java\.util\.concurrent\.locks\.ReentrantLock\$(?:Nonfai
 OF_LOCKS = re.compile(r"java\.util\.concurrent\.locks\..*")
 # Calls that only let others go first: who waits by them looks again and again.
 YIELDS = re.compile(r"java\.lang\.Thread\.(?:yield0?|onSpinWait)")
-# A function of the job's own that only sleeps.
-SLEEPS = re.compile(r"(?i)(?:.*\.)?(?:\w*sleep\w*|\w*nap|pause\w*|delay\w*|snooze|doze|rest|idle|wait\w*|await\w*)")
 # Waits for what is outside of the JVM: a child, a pipe or file, a server; and those that read.
 OUTSIDE = re.compile(r"java\.lang\.Process(?:Impl)?\.waitFor|java\.io\.File(?:In|Out)putStream\.(?:read|write)Bytes"
                      r"|sun\.nio\.ch\.(?:NioSocketImpl|SocketChannelImpl)\.(?:read|implRead|write|implWrite|connect)"
@@ -139,7 +138,7 @@ INSIDE = re.compile(r"Signal Dispatcher|Service Thread|Monitor Deflation Thread|
 INBOX = re.compile(r"\w*(?:Queue|Deque)\.(?:take\w*|poll\w*)|Piped(?:InputStream|Reader)\.\w+")
 NAMELESS = re.compile(r"lambda|\$\d")
 # Where main waits until the program is to end.
-FOR_THE_END = re.compile(r"CountDownLatch\.await|Object\.wait|LockSupport\.park|Condition\.await")
+FOR_THE_END = re.compile(r"CountDownLatch\.await|Object\.wait|LockSupport\.park|Condition\.await|Thread\.join")
 KEPT = 65536  # methods whose meaning is kept
 
 
@@ -202,8 +201,7 @@ def has_limit(thread: Thread) -> bool:
 def is_own_loop(stack: Stack) -> bool:
     """Whether a thread waits in the function that it or its task was started with: no other one in its frames has a
     name, but for one above it that only sleeps."""
-    own = [method for method, _, _ in stack if is_jobs(method)]
-    own = own[1:] if own[1:] and SLEEPS.fullmatch(own[0]) else own
+    own = without_sleep([method for method, _, _ in stack if is_jobs(method)])
     return all(map(NAMELESS.search, own[1:]))
 
 

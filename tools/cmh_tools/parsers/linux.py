@@ -21,7 +21,7 @@ from .linux_children import (FOR_SIGNAL, FORKS, IPC, SHELL, SIGCHLD, SIGINT, is_
                              wait_to_connect)
 from .linux_connections import connections_of
 from .linux_files import self_connections, wait_at, wait_at_set
-from .linux_frames import has_names, is_in_own_loop, is_known, nameless_programs, own_frames, system_of
+from .linux_frames import has_names, is_known, nameless_programs, own_frames, sleeps_in_own_loop, system_of
 from .linux_limits import far_limit, is_far, limit_of, words_of
 from .linux_locks import SETLKW, locks_besides, wait_for_lock
 from .linux_notes import frames_of, whole_note
@@ -350,7 +350,7 @@ def may_tick(thread: Thread) -> bool:
     own = own_frames(thread)
     is_alone = len(thread.owner.living) == 1
     if own and (is_known(thread) or own[1:]) and (has_names(thread) or not is_alone):
-        return is_in_own_loop(thread) or thread.is_first and len(own) <= 1
+        return sleeps_in_own_loop(thread)
     return is_alone or thread.call in SLEEPS
 
 

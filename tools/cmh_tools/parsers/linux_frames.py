@@ -10,6 +10,7 @@ from functools import lru_cache
 from typing import Iterable, Iterator, List
 
 from ..sketch import frame
+from .base import without_sleep
 from .linux_text import Frame, Thread
 
 OF_THE_SYSTEM = re.compile(r".*/(libc|libpthread|libstdc\+\+|libm|libgcc_s|librt|libdl|ld-linux-x86-64)[.-][^/]*")
@@ -26,8 +27,9 @@ COMMON = re.compile(r"/(usr/)?(local/)?lib(32|64)?(/[^/]*-linux-gnu[^/]*)?/[^/]+
 ANSWERS = re.compile(r".*(atomic_futex|__future_base|basic_future|once|latch|barrier)")  # in which nobody rests
 POOLS = re.compile(r".*(pool|worker|dispatch)", re.I)  # functions of libraries that call a program's for each job
 LAMBDA = re.compile(r"\{lambda\([^{}]*\)#(\d+)\}(::operator\(\))?")
-# What the library of C++ calls by a function of its own, which is made part of that: of a thread, or of a call.
-RUN = re.compile(r"std::(thread::_State_impl<.*tuple<|_Function_handler<.*?\), )(?P<own>.*?)"
+# What the library of C++ calls by a function of its own, which is made part of that: of a thread, or of a call. It isn't
+# made part of that where a pointer to it is handed over.
+RUN = re.compile(r"std::(thread::_State_impl<.*tuple<|_Function_handler<.*?\), )(?P<own>(?![^{}]*\([\w:<>]*\*\)).*?)"
                  r"(> > >::_M_run|>::_M_invoke)")
 # Functions of a program that wait at a condition for the next thing to do.
 TAKES = re.compile(r"(\w+::)*(take|pop|get|dequeue|next|receive|recv|poll|fetch|(a?wait|wait_for)_?(work|job|task))"
@@ -161,8 +163,18 @@ def program_frames(thread: Thread) -> List[str]:
 def is_in_own_loop(thread: Thread) -> bool:
     """Whether the wait of a thread is called by the function that it was started with, or by a library that has started
     it."""
+    return is_in_start(thread, program_frames(thread))
+
+
+def sleeps_in_own_loop(thread: Thread) -> bool:
+    """The same of one that sleeps, maybe by a function that does nothing else."""
+    if thread.is_first:
+        return len(without_sleep(own_frames(thread))) <= 1
+    return is_in_start(thread, without_sleep(program_frames(thread)))
+
+
+def is_in_start(thread: Thread, frames: List[str]) -> bool:
     is_there = not thread.is_first and is_known(thread) and bool(own_frames(thread))
-    frames = program_frames(thread)
     has_job = frames and any(COMMON.fullmatch(step.module) and POOLS.match(step.function) for step in own_steps(thread))
     return is_there and len(frames) <= 1 and not has_job
 

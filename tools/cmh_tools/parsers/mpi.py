@@ -18,7 +18,7 @@ from ..model import Part, Sign, Wakers, all_of, any_of, unseen, wakers
 from ..sketch import LIMIT, SYSTEM, Process, Sketch, blocked, frame, garbled, goes_on, premise, unknown
 from ..snapshots import APART, PARTS, Reading
 from . import State
-from .base import Break, Parser, Snapshot
+from .base import Break, Parser, Snapshot, without_sleep
 from .mpi_records import COMPUTES, FINALIZED, ONE_THREAD, RecordsParser, doubt_reach, say_missing
 from .mpi_text import MARK
 
@@ -322,7 +322,7 @@ def without_call(rank: Rank, more: Dict[str, Any]) -> Process:
     inner = rank.inner_wait() if rank.peers else ""
     if SLEEPS.match(top) or LIMITED.search(inner):
         more["operation"] = "timed sleep" if SLEEPS.match(top) else "timed wait"
-        in_loop = rank.suffix and len(rank.own) == 1  # (of its own thread)
+        in_loop = rank.suffix and len(without_sleep([step["function"] for step in rank.own])) == 1  # (of its own thread)
         return goes_on(name, "it sleeps", [premise(LIMIT)], Sign.TICKS if in_loop else Sign.SLEEPS, **more)
     if inner:
         why = "the state doesn't show which thread of its process wakes it"

@@ -20,11 +20,11 @@ from ..model import Part, Sign, unseen
 from ..sketch import Process, Sketch
 from ..snapshots import APART, GROWN, ONCE, PARTS, WHOLE, Reading
 from . import State
-from .base import Parser, Snapshot
+from .base import Parser, Snapshot, without_sleep
 from .python_connections import connections_of
 from .python_frames import is_of_frames, looks_of_frames
 from .python_job import Job, machine_of
-from .python_names import NEED_ALL, Names, Standing, lasting_objects, operation_of, own_frames
+from .python_names import NEED_ALL, Names, Standing, lasting_objects, main_task, operation_of, own_frames
 from .python_tasks import Waits
 from .python_text import Frame, Look, Row, is_number, looks_of
 from .python_waits import Wait, is_job, unsure
@@ -36,6 +36,7 @@ STATES = "the states"  # a path for all, as they say themselves when they were t
 RECEIVES = re.compile(r"\w*Queue\.get|(\w*Connection|\w*[Ss]ocket|SSL\w*|StreamReader)\.(recv|read)\w*"
                       r"|connection\.wait")
 ACCEPTS = re.compile(r"(.*[.:])?_?(accept\w*|serve_forever)")
+FOR_THE_END = "Event.wait"  # where a program's main function waits until a signal ends it
 MODULE = ".<module>"
 
 
@@ -72,6 +73,12 @@ class Subject:
 
     def frames(self) -> List[Frame]:
         return self.waits.frames_of_task(self.row) if self.what == "task" else list(self.row.frames)
+
+    def is_main(self) -> bool:
+        """Whether its program ends once it does."""
+        if self.what == "task":
+            return any(main_task(row) == self.key for row in self.job.look.threads.values())
+        return self.what == "thread" and self.row.more.get("main") is True
 
     def kernel_thread(self) -> str:
         """Which thread of the kernel a thread is, as PID/TID, or nothing."""
@@ -242,31 +249,37 @@ def place_of(subject: Subject) -> Process:
 def process_at(subject: Subject, frames: List[Frame], wait: Wait, standing: Optional[Standing] = None) -> Process:
     """Returns the process of a wait, with what tells it from the next."""
     operation, objects = operation_of(standing) if standing else ("", [])
-    is_own = is_in_own_loop(subject, frames) and not (wait.sign is Sign.SLEEPS and is_job(frames))
-    sign = sign_at(wait, operation, is_own)
+    own = own_frames(frames)
+    sign = sign_of(subject, wait, operation, own, is_job(frames))
     if wait.sign is Sign.SLEEPS:
         operation, objects = f"timed {operation or 'wait'}", lasting_objects(standing) if standing else []
-    own = own_frames(frames)
     note = f"{operation} in {own[0]}" if operation and own else own[0] if own else operation
     return Process(subject.name, sign, wait.parts, wait.reason, list(wait.because), subject.job.site, note, own,
                    operation, objects, wait.count, subject.kernel_thread(), is_collective=operation in NEED_ALL)
 
 
-def sign_at(wait: Wait, operation: str, is_own: bool) -> Sign:
+def sign_of(subject: Subject, wait: Wait, operation: str, own: List[str], has_job: bool) -> Sign:
     """Returns the sign of one at its place: one that waits for what comes next in its own loop has nothing to do."""
+    accepts = ACCEPTS.fullmatch(operation)
     if wait.sign is Sign.SLEEPS:
-        return Sign.TICKS if is_own or ACCEPTS.fullmatch(operation) else Sign.SLEEPS
-    if wait.sign is Sign.BLOCKED and (is_own and RECEIVES.fullmatch(operation) or ACCEPTS.fullmatch(operation)):
-        return Sign.RESTS
-    return wait.sign
+        is_idle = accepts or is_in_own_loop(subject, without_sleep(own)) and not has_job
+        return Sign.TICKS if is_idle else Sign.SLEEPS
+    if wait.sign is not Sign.BLOCKED:
+        return wait.sign
+    awaits_next = RECEIVES.fullmatch(operation) and is_in_own_loop(subject, own)
+    awaits_end = operation == FOR_THE_END and subject.is_main() and is_in_start(own)
+    return Sign.RESTS if accepts or awaits_next or awaits_end else Sign.BLOCKED
 
 
-def is_in_own_loop(subject: Subject, frames: List[Frame]) -> bool:
-    """Whether one waits in the function that it was started with, and comes back to that wait. Of a main thread that is
-    the function that its program is run for. A function without a name only calls another one."""
-    if subject.what not in PLACES or subject.row.more.get("again") is False:
-        return False
-    named = [line for line in own_frames(frames) if "<lambda>" not in line.partition(" (")[0]]
+def is_in_own_loop(subject: Subject, own: List[str]) -> bool:
+    """Whether one waits in the function that it was started with, and comes back to that wait."""
+    return subject.what in PLACES and subject.row.more.get("again") is not False and is_in_start(own)
+
+
+def is_in_start(own: List[str]) -> bool:
+    """Whether one waits in the function that it was started with. Of a main thread that is the function that its
+    program is run for. A function without a name only calls another one."""
+    named = [line for line in own if "<lambda>" not in line.partition(" (")[0]]
     return len(named) <= 1 or len(named) == 2 and MODULE in named[-1]
 
 
