@@ -180,6 +180,9 @@ def join_process(one: Process, other: Process) -> Process:
     elif one.kind == other.kind == ANY and is_within(other, one):
         made.parts = [(*other.parts[0], *against_in(one))]
         made.because = list(dict.fromkeys([*one.because, *other.because]))
+    elif one.kind == other.kind == ANY and not {*one.whom}.isdisjoint(other.whom):  # (each may see one more)
+        made.parts = [(*one.parts[0], *other.parts[0])]
+        made.because = list(dict.fromkeys([*one.because, *other.because]))
     elif one.kind != other.kind or {*one.whom} != {*other.whom}:
         made.become_unknown(f"the two differ: by one it {words_for(one)}, by the other it {words_for(other)}")
         made.is_garbled = True
