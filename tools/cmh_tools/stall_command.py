@@ -327,8 +327,8 @@ def more_ways(parts: List[Dict[str, Any]], explanation: Explanation, folder: Fol
             yield f"Who sleeps may only tick, which a longer look shows: cmh-stall {system} {words} --seconds 60"
         if system == "jvm" and part["targets"] and "--heap" not in part["targets"] and is_open:
             yield f"{heap_words(explanation)}, and stops the JVM for longer: cmh-stall jvm {words} --heap --yes"
-        if system == "jvm" and part["targets"] and len(parts) == 1 and is_open and waits_outside(explanation):
-            yield f"Who is at the other ends of its sockets: cmh-stall jvm {words} --with linux {words}"
+        if system in ("jvm", "python") and len(parts) == 1 and is_open and waits_outside(explanation):
+            yield f"Who is at the other ends of its sockets: cmh-stall {system} {words} --with linux {words}"
         if system == "linux" and status and all(other["system"] != "python" for other in parts):
             yield from to_see_python(part, folder)
         if system == "linux" and part["targets"] and at_futex and lacks_stacks(part, folder):
