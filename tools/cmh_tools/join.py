@@ -71,9 +71,10 @@ def join_two(first: Sketch, second: Sketch) -> Sketch:
     idle, readers = {*first.idle, *second.idle}, {*first.readers, *second.readers}
     inner = {*first.inner, *second.inner}
     for process in processes:
-        is_calm = process.kind == UNKNOWN and process.thread in idle
-        if is_calm:
-            process.sign, process.reason = Sign.RESTS, "has nothing to do"
+        is_calm = process.kind in (UNKNOWN, RUNS) and process.thread in idle
+        if is_calm:  # (one that went on between came back to where it has nothing to do)
+            process.sign = Sign.RESTS if process.kind == UNKNOWN else Sign.TICKS
+            process.reason = "has nothing to do"
         if process.thread in readers or process.thread in inner and (process.kind == UNKNOWN or joins(process)):
             process.because = []
             why = SYSTEM if process.thread in readers else premise(INNER)
@@ -201,10 +202,12 @@ def join_unknown(made: Process, known: Process, less: Process) -> None:
     """Adds to a process what the system says of it that knows less: who is against, and where nothing more is known its
     wakers too."""
     if known.kind == UNKNOWN:
-        made.reason = "; ".join(dict.fromkeys([known.reason, less.reason]))
-        made.sign = less.sign if known.sign is Sign.UNKNOWN else known.sign
+        resting = [it.reason for it in (known, less) if it.sign is Sign.RESTS]
+        made.reason = "; ".join(dict.fromkeys(resting or [known.reason, less.reason]))
+        made.sign = Sign.RESTS if resting else less.sign if known.sign is Sign.UNKNOWN else known.sign
         made.parts = known.parts or less.parts
     elif known.sign in WAITING:
+        made.sign = Sign.RESTS if less.sign is Sign.RESTS else known.sign  # (it stands in a loop of its own)
         against = against_in(less)
         made.parts = [(*part, *against) for part in known.parts] if against else known.parts
 
