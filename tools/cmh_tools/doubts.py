@@ -16,7 +16,7 @@ from .sketch import UNREADABLE, Process, Sketch
 from .stuck import Waits
 
 # In which order doubts are told: those first that most often hold.
-ORDER = (Sign.TICKS, Sign.SLEEPS, Sign.POLLS, Sign.GOES_ON, Sign.RESTS, Sign.UNKNOWN, None, Sign.BLOCKED)
+ORDER = (Sign.POLLS, Sign.TICKS, Sign.SLEEPS, Sign.GOES_ON, Sign.RESTS, Sign.UNKNOWN, None, Sign.BLOCKED)
 UNSEEN = {
     "unread": "somebody who can't be read",
     "unshown": "somebody whom the state doesn't show",
@@ -31,7 +31,7 @@ MORE = re.compile(", (?:and|or whom) ")  # before what a clause says besides
 SIGNS = {
     Sign.TICKS: "came back to its loop and freed nobody",
     Sign.SLEEPS: "sleeps",
-    Sign.POLLS: "came back to its call and freed nobody",
+    Sign.POLLS: "came back to {} and freed nobody",
     Sign.GOES_ON: "goes on",
     Sign.UNKNOWN: "isn't understood",
     Sign.BLOCKED: "waits itself",
@@ -180,10 +180,13 @@ def sentence(one: Doubt, who: str, whom: str, reason: str = "") -> str:
 def subject(one: Doubt, who: str, reason: str = "") -> str:
     """Returns of whom a doubt says that it frees somebody: 'beat, which sleeps'."""
     if one.sign is None:
-        return who or UNSEEN.get(one.how, UNSEEN["unshown"])
-    is_against = HOWS[one.how][0] is Strength.AGAINST
-    rests = "has nothing to do" if not reason or ": " in reason else reason
-    return f"{who}, which {HOWS[one.how][1] if is_against else SIGNS.get(one.sign) or rests}"
+        is_told = who and one.how != "left-out"  # (the name of those who are left out tells nobody anything)
+        return who if is_told else UNSEEN.get(one.how, UNSEEN["unshown"])
+    if HOWS[one.how][0] is Strength.AGAINST:
+        return f"{who}, which {HOWS[one.how][1]}"
+    if one.sign in SIGNS:
+        return f"{who}, which {SIGNS[one.sign].format(reason or 'its call')}"
+    return f"{who}, which {'has nothing to do' if not reason or ': ' in reason else reason}"
 
 
 def short_subject(one: Doubt, who: str, reason: str = "") -> str:

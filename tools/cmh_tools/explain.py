@@ -10,6 +10,7 @@ from .dump import Dump
 from .files import MOST_OF_LINE, short_name, shown
 from .doubts import Doubt, sentence, short_subject
 from .findings import COME, LIKELY, MESSAGE, NOT_STUCK, STUCK, UNDECIDED, Findings, Waiters
+from .model import Sign
 from .proposals import legend
 from .reasons import more_lines, rests_lines
 from .sketch import ALL, ANY, DONE, ENDED, RUNS, UNKNOWN, Process
@@ -226,9 +227,11 @@ class Explanation(Findings):
         return short_subject(doubt, f"{names[0]} or {len(names) - 1:,} more", reason)
 
     def reason_of_doubt(self, doubt: Doubt) -> str:
-        """Returns why all of those rest of whom a doubt is, or nothing."""
+        """Returns why all of those rest of whom a doubt is, or in which function they poll, or nothing."""
         index = self.waits.index
-        reasons = {self.waits.processes[index[name]].reason for name in doubt.who if name in index}
+        there = [self.waits.processes[index[name]] for name in doubt.who if name in index]
+        reasons = {process.reason if doubt.sign is not Sign.POLLS else "".join(process.frames[:1]).partition(" (")[0]
+                   for process in there}
         return shown(reasons.pop()) if len(reasons) == 1 else ""
 
     def behind_several(self) -> List[str]:
