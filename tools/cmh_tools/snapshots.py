@@ -238,7 +238,8 @@ def parts_of_both(first: List[Part], second: List[Part], known: Known) -> List[P
     if len(first) == 1 and len(second) == 1:
         return [part_of_both(first[0], second[0], known)]
     later = {names_of_part(part): part for part in second}
-    return [part_of_both(part, later[key], known) for part, key in zip(first, map(names_of_part, first)) if key in later]
+    keys = map(names_of_part, first)
+    return [part_of_both(part, later[key], known) for part, key in zip(first, keys) if key in later]
 
 
 def names_of_part(part: Part) -> FrozenSet[str]:

@@ -27,8 +27,8 @@ COMMON = re.compile(r"/(usr/)?(local/)?lib(32|64)?(/[^/]*-linux-gnu[^/]*)?/[^/]+
 ANSWERS = re.compile(r".*(atomic_futex|__future_base|basic_future|once|latch|barrier)")  # in which nobody rests
 POOLS = re.compile(r".*(pool|worker|dispatch)", re.I)  # functions of libraries that call a program's for each job
 LAMBDA = re.compile(r"\{lambda\([^{}]*\)#(\d+)\}(::operator\(\))?")
-# What the library of C++ calls by a function of its own, which is made part of that: of a thread, or of a call. It isn't
-# made part of that where a pointer to it is handed over.
+# What the library of C++ calls by a function of its own, which is made part of that: of a thread, or of a call. Where a
+# pointer to it is handed over, it isn't.
 RUN = re.compile(r"std::(thread::_State_impl<.*tuple<|_Function_handler<.*?\), )(?P<own>(?![^{}]*\([\w:<>]*\*\)).*?)"
                  r"(> > >::_M_run|>::_M_invoke)")
 # Functions of a program that wait at a condition for the next thing to do.

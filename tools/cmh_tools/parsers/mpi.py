@@ -322,7 +322,8 @@ def without_call(rank: Rank, more: Dict[str, Any]) -> Process:
     inner = rank.inner_wait() if rank.peers else ""
     if SLEEPS.match(top) or LIMITED.search(inner):
         more["operation"] = "timed sleep" if SLEEPS.match(top) else "timed wait"
-        in_loop = rank.suffix and len(without_sleep([step["function"] for step in rank.own])) == 1  # (of its own thread)
+        functions = without_sleep([step["function"] for step in rank.own])
+        in_loop = rank.suffix and len(functions) == 1  # (of its own thread)
         return goes_on(name, "it sleeps", [premise(LIMIT)], Sign.TICKS if in_loop else Sign.SLEEPS, **more)
     if inner:
         why = "the state doesn't show which thread of its process wakes it"
