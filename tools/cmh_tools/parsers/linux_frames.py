@@ -183,7 +183,15 @@ def takes_next(thread: Thread) -> bool:
     """Whether a thread takes the next thing to do, in the function that it was started with."""
     frames = program_frames(thread)
     is_at_take = len(frames) == 2 and TAKES.fullmatch(frames[0].partition(" (")[0]) is not None
-    return not has_asked(thread) and (is_in_own_loop(thread) or is_known(thread) and is_at_take)
+    is_in_loop = is_in_own_loop(thread) and is_for_alike(thread)
+    return not has_asked(thread) and (is_in_loop or is_known(thread) and is_at_take)
+
+
+def is_for_alike(thread: Thread) -> bool:
+    """Whether all who wait at a futex were started with one function: where others wait too, it isn't a queue of work,
+    but something that they share, and what they do with it may be made part of these functions."""
+    beside = [it for it in thread.owner.threads if it.call == "futex" and it.arguments[:1] == thread.arguments[:1]]
+    return len({(program_frames(it) or [""])[-1] for it in beside}) <= 1
 
 
 def has_asked(thread: Thread) -> bool:

@@ -10,7 +10,7 @@ from typing import Dict, Iterable, List, Optional, Tuple
 
 from ..model import Sign, any_of, unseen, wakers
 from .linux_children import SIGCHLD
-from .linux_frames import is_known, library_names, program_frames, system_of, takes_next
+from .linux_frames import is_known, library_names, system_of, takes_next
 from .linux_text import ENDED, Machine, Owner, Row, Thread
 from .linux_waits import FILES, Wait, against, int32
 
@@ -98,17 +98,10 @@ def wait_at_futex(machine: Machine, thread: Thread) -> Wait:
     wait = owner_of_futex(machine, thread)
     if wait.sign is Sign.UNKNOWN and int32(thread.arguments[1]) & OPERATION in (*WAITS, *LOCKS):
         set_wakers(machine, thread, wait)
-        is_calm = not wait.operation and not system_of(thread) and takes_next(thread) and is_for_alike(thread)
+        is_calm = not wait.operation and not system_of(thread) and takes_next(thread)
         wait.sign = Sign.RESTS if is_calm else Sign.BLOCKED
         wait.why = "waits for work" if is_calm else wait.why
     return wait
-
-
-def is_for_alike(thread: Thread) -> bool:
-    """Whether all who wait at a futex were started with one function: where others wait too, it isn't a queue of work,
-    but something that they share, and what they do with it may be made part of these functions."""
-    beside = [it for it in thread.owner.threads if it.call == "futex" and it.arguments[:1] == thread.arguments[:1]]
-    return len({(program_frames(it) or [""])[-1] for it in beside}) <= 1
 
 
 def set_wakers(machine: Machine, thread: Thread, wait: Wait) -> None:
