@@ -92,7 +92,7 @@ class Decision:
 
     def is_for_idle(self, part: Part) -> bool:
         named = [(len(self.those(wakers, PRESENT)), len(self.those(wakers, IDLE)))
-                 for wakers in of_strength(part, Strength.NAMED)]
+                 for wakers in part if wakers.strength is Strength.NAMED]
         return any(there for there, _ in named) and all(there == idle for there, idle in named)
 
     def graph(self, select: Select) -> Graph:
