@@ -158,13 +158,9 @@ def spoil_everywhere(case, number, random):
 
 
 def double_changed(case, number, random):
-    """Has a row twice, of which one has another number or value."""
-    row, numbers = case.rows[number], list(DIGITS.finditer(case.rows[number]))
-    if not numbers or random.random() < 0.5:
-        return {number: [row, *spoil_value(case, number, random).get(number, [row])]}
-    old = numbers[int(random.random() * len(numbers))]
-    changed = row[:old.start()] + str(int(old[0]) + 1) + row[old.end():]
-    return {number: random.choice(([row, changed], [changed, row]))}
+    """Has a row twice, one of which is spoilt."""
+    rows = [[case.rows[number]], spoil_value(case, number, random).get(number, [])]
+    return {number: [row for twin_rows in random.sample(rows, 2) for row in twin_rows]}
 
 
 def text_at(case, number):
