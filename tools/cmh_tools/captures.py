@@ -165,7 +165,7 @@ def check_user(pid: str, owner: int) -> None:
 def captures_for(system: str, targets: List[str], may_kill: bool, may_dump: bool) -> List[Capture]:
     """Returns what is to be taken. Of Python processes that don't answer a signal, a tool that is there shows the
     places besides what Linux sees. Where some answer, and others don't, Linux shows these."""
-    targets = those_there(targets) if system == "python" else targets
+    targets = those_there(targets) if system in ("linux", "python") else targets
     loaded = [pid for pid in targets if answers(pid)] if system == "python" else []
     if loaded and loaded != targets:
         bare = [pid for pid in targets if pid not in loaded]
