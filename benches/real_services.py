@@ -207,14 +207,9 @@ STRESSORS = ("alarm clock epoll eventfd fifo flock fork futex hrtimers inotify i
              "mutex nanosleep pidfd pipe pipeherd poll pthread ring-pipe sem sem-sysv sendfile session sigchld sigfd "
              "sigio sigq sigrt sigsuspend sleep sock sockfd sockpair splice switch tee timer timerfd udp vm-splice "
              "wait")
-<<<<<<< HEAD
-STRESSED = [Row(f"stress-ng --{it}", "stress-ng", f"exec stress-ng --quiet --{it} 2 --temp-path $PWD --timeout 600",
-                "sleep 2") for it in STRESSORS.split()]
-=======
 STRESSED = [Row(f"stress-ng --{name}", "stress-ng",
                 f"exec nice -n 19 stress-ng --quiet --{name} 1 --temp-path $PWD --timeout 600", "sleep 2")
             for name in STRESSORS.split()]
->>>>>>> 393f828e (benches/real: Go on with a run that was ended, and start no stressor that begins what it can)
 STALLS = [
     Row("Popen(..).wait() on a full pipe", "python3 seq", """exec python3 -c 'import subprocess
 subprocess.Popen(["seq", "1000000"], stdout=subprocess.PIPE).wait()'""", "sleep 1", root="python3 seq",
