@@ -210,4 +210,4 @@ def words_of(this: Cures, cure: Cure) -> str:
         return f"restart {' and '.join(map(this.called, cure.units))}, as none of them alone is enough"
     names = [short_name(unit) if unit in this.remedies else this.called(unit) for unit in others[:SHOWN - 1]]
     more = [f"one of {len(others) - len(names):,} more"] if len(others) > len(names) else []
-    return unit_words(this, first) + (f"; or else {', or '.join([*names, *more])}" if names else "")
+    return unit_words(this, first) + (f"; if that doesn't help, {', or '.join([*names, *more])}" if names else "")

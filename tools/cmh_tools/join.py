@@ -14,7 +14,8 @@ from typing import Dict, List, Optional, Sequence
 from .connections import join_connections, merged, on_machine, renamed, servers_first, serves
 from .files import Refusal, shown
 from .model import ANYBODY, Anybody, Part, Sign, Strength, Wakers, Who
-from .sketch import (ALL, ANY, DONE, INNER, RUNS, SYSTEM, UNKNOWN, WAITING, Process, Sketch, premise, quote, reason_of)
+from .sketch import (ALL, ANY, DONE, ENDED, INNER, RUNS, SYSTEM, UNKNOWN, WAITING, Process, Sketch, premise, quote,
+                     reason_of)
 from .snapshots import UNCOUNTED, doubt_wait
 
 
@@ -71,9 +72,9 @@ def join_two(first: Sketch, second: Sketch) -> Sketch:
     idle, readers = {*first.idle, *second.idle}, {*first.readers, *second.readers}
     inner = {*first.inner, *second.inner}
     for process in processes:
-        is_calm = process.kind in (UNKNOWN, RUNS) and process.thread in idle
+        is_calm = process.thread in idle and process.kind != ENDED
         if is_calm:  # (one that went on between came back to where it has nothing to do)
-            process.sign = Sign.RESTS if process.kind == UNKNOWN else Sign.TICKS
+            process.sign = Sign.TICKS if process.kind == RUNS else Sign.RESTS
             process.reason = "has nothing to do"
         if process.thread in readers or process.thread in inner and (process.kind == UNKNOWN or joins(process)):
             process.because = []

@@ -1,6 +1,7 @@
 """Who may end a wait at descriptors, as the kernel keeps it: who has their other ends."""
 from __future__ import annotations
 
+import re
 from typing import List, Sequence
 
 from ..model import Part, Sign, Wakers, any_of, unseen, wakers
@@ -13,6 +14,7 @@ from .linux_waits import COMES, EPOLLS, FILES, MOVES, SETS, UNTIMED, Ease, Wait,
 
 TERMINALS = ("/dev/tty", TERMINAL, MASTER, "/dev/console")
 UNARMED, AT_LISTENER = "it_value: (0, 0)", "LISTEN"
+LOOPS = re.compile(r".*/lib(event|ev|uv|glib-2)\b[^/]*")  # libraries with a loop for events
 ONESHOT, EVENTS = 1 << 30, 0xFFFF  # of epoll: a file that is seen once, and what it is seen for
 
 
@@ -220,12 +222,24 @@ def wait_at_set(machine: Machine, thread: Thread) -> Wait:
     if thread.call in MOVES:  # (what it moves from or to a file on a disk doesn't wait)
         rows = [row for row in rows if not is_plain(thread.owner.files.get(str(row[0]), [""]))]
     wait = joined([wait_at(machine, thread, row[0], row[1]) for row in rows])
+    if wait.sign is Sign.BLOCKED and (may_come(wait) or is_in_loop(thread)):
+        wait.sign, wait.why = Sign.RESTS, COMES
     if thread.call in EPOLLS:
         wait.sign = wait.sign if rows else Sign.BLOCKED
         more = against(machine, thread, users_of(list(dict.fromkeys(owners))), "closes")
         wait.parts = [(*part, *more) for part in wait.parts]
         wait.premises = list(dict.fromkeys(with_sleeper(wait.premises, owners)))
     return wait
+
+
+def may_come(wait: Wait) -> bool:
+    """Whether one waits for what comes next, among other things."""
+    return any(group.how == "to-come" for part in wait.parts for group in part)
+
+
+def is_in_loop(thread: Thread) -> bool:
+    """Whether a thread is in the loop of a library of events."""
+    return any(LOOPS.fullmatch(step.module) for step in thread.frames)
 
 
 def is_plain(words: List[str]) -> bool:
