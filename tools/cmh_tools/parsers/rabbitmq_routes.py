@@ -57,13 +57,13 @@ class Routes:
         bare = next((name for name in queues if ("", name) not in self.bound.get(name, ())), None)
         if bare is not None:
             return f"queue {shown(bare)} has no binding of the default exchange"
-        idle = next((name for name, settings in self.dead.items()
-                     if not any(self.may_hand(name, settings, other) for other in queues)), None)
-        if idle is not None:
-            return f"dead messages of queue {shown(idle)} come to no queue that is listed"
         others = [name for name, rows in self.bound.items() if name not in queues and any(source for source, _ in rows)]
         others += [name for name in self.fed if self.kinds and name not in self.kinds]
-        return f"messages are taken to {shown(others[0])}, which isn't listed" if others else ""
+        if others:
+            return f"messages are taken to {shown(others[0])}, which isn't listed"
+        idle = next((name for name, settings in self.dead.items()
+                     if not any(self.may_hand(name, settings, other) for other in queues)), None)
+        return "" if idle is None else f"dead messages of queue {shown(idle)} come to no queue that is listed"
 
     def kind(self, exchange: str) -> str:
         return self.kinds.get(exchange, DIRECT if exchange == "" else "")
