@@ -15,11 +15,12 @@ EXPECTED = "lines of take-mariadb are expected"
 NONE = type(None)
 TEXT, WHOLE = (str, NONE), (int, NONE)
 NUMBER = (int, float, NONE)
+SECONDS = range((1 << 30) + 1)  # no limit of a server's may be longer
 KEY = (int, str)  # of a transaction: MySQL's are larger than some take as a number
 SHAPES: Dict[str, Row] = {
     "look": {"look": str, "version": str, "metadata_locks": int, "detects": int},
     "limits": {"limits": str, "idle_transaction_timeout?": NUMBER, "max_statement_time?": NUMBER,
-               "innodb_lock_wait_timeout": int, "lock_wait_timeout": int, "wait_timeout": int},
+               "innodb_lock_wait_timeout": SECONDS, "lock_wait_timeout": SECONDS, "wait_timeout": SECONDS},
     "thread": {"thread": int, "user": TEXT, "host": TEXT, "db": TEXT, "command": str, "time": WHOLE, "state": TEXT,
                "info": TEXT, "user_lock": WHOLE, "query_id": WHOLE, "tid": WHOLE},
     "transaction": {"transaction": KEY, "of": int, "state": str, "started": str, "wait_started": TEXT, "age": WHOLE,
