@@ -208,7 +208,6 @@ def join_unknown(made: Process, known: Process, less: Process) -> None:
         made.sign = Sign.RESTS if resting else less.sign if known.sign is Sign.UNKNOWN else known.sign
         made.parts = known.parts or less.parts
     elif known.sign in WAITING:
-        made.sign = Sign.RESTS if less.sign is Sign.RESTS else known.sign  # (it stands in a loop of its own)
         against = against_in(less)
         made.parts = [(*part, *against) for part in known.parts] if against else known.parts
 
