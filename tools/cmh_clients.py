@@ -4,8 +4,9 @@ sleeps, runs, or waits at the socket of its connection. `take-rabbitmq` calls it
 
     rabbitmqctl -q list_connections pid peer_host peer_port host port --formatter json | cmh_clients.py
 
-Or it reads an object with such a list, at "value" and "ends". It prints a line for each connection whose client is here and can be read, as a list of JSON. A socket that several
-processes have is left out. Nothing is stopped, no signal is sent, and nothing is written. It needs Python 3.8.
+Or it reads an object with such a list, at "value" and "ends". It prints a line for each connection whose client is
+here and can be read, as a list of JSON. A socket that several processes have is left out. Nothing is stopped, no signal
+is sent, and nothing is written. It needs Python 3.8.
 """
 from __future__ import annotations
 

@@ -203,7 +203,7 @@ def join_unknown(made: Process, known: Process, less: Process) -> None:
     """Adds to a process what the system says of it that knows less: who is against, and where nothing more is known its
     wakers too."""
     if known.kind == UNKNOWN:
-        resting = [it.reason for it in (known, less) if it.sign is Sign.RESTS]
+        resting = [one.reason for one in (known, less) if one.sign is Sign.RESTS]
         made.reason = "; ".join(dict.fromkeys(resting or [known.reason, less.reason]))
         made.sign = Sign.RESTS if resting else less.sign if known.sign is Sign.UNKNOWN else known.sign
         made.parts = known.parts or less.parts

@@ -26,6 +26,7 @@ NAME, LONGEST = 28, 44  # letters of the names in a line, and of what one waits 
 END_OF_WHAT = re.compile(r"; | at | in |: | \[|, which | \(descriptor")
 OTHERS = "of the others"
 ANY_OTHER = f"any {OTHERS}"
+FOR_WHICH = "the state doesn't show for which."
 NOT_SHOWN = ("listed", "reaches", "same-process", "inside", "subscribes", "guess")  # hows of those who may have it
 LINES = 10  # before what to do, if there is one group
 # Operations of those that wait for the end or the answer of others, and have nothing themselves that others want.
@@ -183,8 +184,12 @@ class Screen:
         unless = self.unless(members)
         wide = self.member_lines(members)
         self.names_unit = self.names_unit and self.has_room(lines, wide, unless)
-        has_room = self.has_room(lines, wide, unless)
-        return [*lines, *(wide if has_room else self.member_lines(members, False)), *unless]
+        if self.has_room(lines, wide, unless):
+            return [*lines, *wide, *unless]
+        narrow = self.member_lines(members, False)
+        if narrow[-1].endswith(FOR_WHICH) and not self.has_room(lines, narrow, unless):
+            narrow.pop()
+        return [*lines, *narrow, *unless]
 
     def has_room(self, *parts: List[str]) -> bool:
         """Returns whether the headline with some lines below it is as short as it should be."""
@@ -233,7 +238,7 @@ class Screen:
                  for name, (columns, _) in zip(names, shown_groups)]
         lines += [f"  and {sum(map(len, left)):,} more"] if left else []
         who = "Each waits" if all(whom == "" for _, whom, _ in groups) else "The others wait"
-        return lines + ([f"  {who} for any: the state doesn't show for which."] if is_of_any else [])
+        return lines + ([f"  {who} for any: {FOR_WHICH}"] if is_of_any else [])
 
     def is_of_any(self, waiting: List[int]) -> bool:
         """Whether the state doesn't show who has what some wait for."""

@@ -130,13 +130,13 @@ def callers_in(goroutines: Iterable[Goroutine]) -> Set[Call]:
     return {call for call, functions in called.items() if len(functions) > 1}
 
 
-def call_of(it: Frame) -> Call:
-    return it.function, it.line
+def call_of(caller: Frame) -> Call:
+    return caller.function, caller.line
 
 
 def serves_request(goroutine: Goroutine) -> bool:
     """Whether a library calls the job's own functions, for each request anew."""
-    return any(it.function in SERVERS for it in goroutine.frames)
+    return any(step.function in SERVERS for step in goroutine.frames)
 
 
 @lru_cache(maxsize=KEPT)

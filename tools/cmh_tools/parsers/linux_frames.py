@@ -190,8 +190,9 @@ def takes_next(thread: Thread) -> bool:
 def is_for_alike(thread: Thread) -> bool:
     """Whether all who wait at a futex were started with one function: where others wait too, it isn't a queue of work,
     but something that they share, and what they do with it may be made part of these functions."""
-    beside = [it for it in thread.owner.threads if it.call == "futex" and it.arguments[:1] == thread.arguments[:1]]
-    return len({(program_frames(it) or [""])[-1] for it in beside}) <= 1
+    beside = [other for other in thread.owner.threads
+              if other.call == "futex" and other.arguments[:1] == thread.arguments[:1]]
+    return len({(program_frames(other) or [""])[-1] for other in beside}) <= 1
 
 
 def has_asked(thread: Thread) -> bool:
