@@ -62,10 +62,10 @@ class Plain:
         return is_idle or sign is UNKNOWN or beside_named and sign is BLOCKED
 
     def waits_for_idle(self, name: str) -> bool:
-        """Whether one who is blocked waits, in a part, for a named one who is idle, and for none who moves."""
+        """Whether one who is blocked waits, in each part, for a named one who is idle, and for none who moves."""
         idle = {RESTS, TICKS, POLLS}
         lists = [{self.signs[str(one.who)] for one in part if one.strength is NAMED} for part in self.parts[name]]
-        return self.signs[name] is BLOCKED and any(signs & idle and signs <= {*idle, BLOCKED, ENDED} for signs in lists)
+        return self.signs[name] is BLOCKED and all(signs & idle and signs <= {*idle, BLOCKED, ENDED} for signs in lists)
 
     def greatest(self, inside: Set[str], parts: Dict[str, Parts], sure: Set[str]) -> Set[str]:
         while True:
