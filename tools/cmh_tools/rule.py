@@ -4,9 +4,9 @@ and signs alone.
 Certain is the greatest set of those that are blocked or rest, each with a part of its wait whose wakers are all in the
 set. For the likely one, wakers are set aside, once: those that are against or unseen, able ones that are unknown or
 idle, and where a named one is there, able ones that stand without a limit. Idle is who rests, ticks or polls, and who
-waits for a named one that does, and for none who moves. It is the greatest set of those that are certain or blocked,
-each of the latter with a part in which somebody is left, and all who are left are in the set. Who was set aside is a
-doubt: if none of them frees anybody, the likely ones are certain.
+waits in each part for a named one that does, and for none who moves. It is the greatest set of those that are certain
+or blocked, each of the latter with a part in which somebody is left, and all who are left are in the set. Who was set
+aside is a doubt: if none of them frees anybody, the likely ones are certain.
 
 Who has ended frees nobody. Who isn't in the state is unseen, whatever is said of it. All takes time linear in the
 lists, each once.
@@ -26,7 +26,7 @@ PRESENT = frozenset(Sign)  # whoever is in the state has one of these
 IDLE = frozenset((Sign.RESTS, Sign.TICKS, Sign.POLLS))  # signs of those who have nothing to do, or only come back
 NOT_ASIDE = PRESENT - IDLE - {Sign.UNKNOWN}  # signs of able ones that aren't set aside
 BESIDE_NAMED = NOT_ASIDE - {Sign.BLOCKED}  # the same where a named one is there
-MOVING = PRESENT - IDLE - {Sign.BLOCKED, Sign.ENDED}
+MOVING = PRESENT - IDLE - {Sign.BLOCKED, Sign.ENDED}  # signs of those who may act by themselves
 FREEING = PRESENT - {Sign.SLEEPS}  # the end of a sleep alone frees nobody, but for named ones
 ASKED = (PRESENT, NOT_ASIDE, BESIDE_NAMED, FREEING, IDLE, MOVING)
 Select = Callable[[str, Part], Optional[List[Sequence[str]]]]

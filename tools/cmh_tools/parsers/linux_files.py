@@ -7,6 +7,7 @@ from typing import List, Sequence
 from ..model import Part, Sign, Wakers, any_of, unseen, wakers
 from ..sketch import LIMIT
 from .linux_children import FOR_SIGNAL, wait_for_end, wait_for_signals
+from .linux_frames import is_of_system
 from .linux_limits import DAY, duration, far_limit, timer_comes_in
 from .linux_text import MASTER, READS, SIGMASK, TERMINAL, WRITES, Machine, Owner, Row, Thread
 from .linux_waits import COMES, EPOLLS, FILES, MOVES, SETS, UNTIMED, Ease, Wait, against, int32, names_of_epoll, \
@@ -238,8 +239,9 @@ def may_come(wait: Wait) -> bool:
 
 
 def is_in_loop(thread: Thread) -> bool:
-    """Whether a thread is in the loop of a library of events."""
-    return any(LOOPS.fullmatch(step.module) for step in thread.frames)
+    """Whether a thread waits in the loop of a library of events, and not in something that this has called."""
+    inner = next((step for step in thread.frames if not is_of_system(step)), None)
+    return inner is not None and LOOPS.fullmatch(inner.module) is not None
 
 
 def is_plain(words: List[str]) -> bool:
