@@ -87,8 +87,8 @@ class Decision:
 
     @cached_property
     def behind_idle(self) -> Set[str]:
-        """The names of those that wait, in each part, for a named one who is idle, as for the end of a thread that never
-        ends, and for none who moves."""
+        """The names of those that wait, in each part, for a named one who is idle, as for the end of a thread that
+        never ends, and for none who moves."""
         return {self.subjects[number].name for number in self.blocked
                 if all(map(self.is_for_idle, self.subjects[number].parts))}
 
