@@ -6,9 +6,11 @@ ghost use Rattle.cmh_command.specs.List.{IsListOf};
 ghost use Rattle.cmh.specs.Status.{AreBadPlanArgs, HasCuts, IsBadList};
 ghost use Rattle.cmh.specs.declared.status.TheConstants.{FAILED, MISUSED};
 ghost use Rattle.cmh_command.specs.declared.TheConstants.{MAX_NUMBERS};
+ghost use Rattle.cmh_plan.specs.declared.TheConstants.{MAX_CUTS};
 
 use crate::tell::{refuse_list, refuse_plan};
 use cmh_command::{ListFault, PlanArgs, read_list};
+use cmh_memory::{Need, copies};
 use cmh_plan::{MAX_CUTS, Plan};
 use cmh_stream::Sink;
 use std::alloc::Global;
@@ -33,6 +35,14 @@ pub(crate) fn read_numbers<E: Sink>(
     }
 }
 
+/// All cuts that a plan may have.
+#[derive(Clone, Copy)]
+struct EachCut;
+
+impl Need for EachCut {
+    ghost needed = { λ _. MAX_CUTS };
+}
+
 /// The cuts that are asked for. The default is a chunk for each initiator, up to the most cuts of a plan.
 fn read_cuts<E: Sink>(alloc: Global, list: Option<&str>, err: &mut E) -> Result<Vec<u64>, u8>
     ensures cuts { IfOk result (λ cuts. HasCuts list.entry cuts.items) }
@@ -43,9 +53,9 @@ fn read_cuts<E: Sink>(alloc: Global, list: Option<&str>, err: &mut E) -> Result<
     if let Some(list) = list {
         return read_numbers(alloc, "cuts", list, err);
     }
-    match vec![in alloc; 1; MAX_CUTS] {
+    match copies(alloc, 1, MAX_CUTS, EachCut) {
         Ok(cuts) => Ok(cuts),
-        Err(_) => Err(refuse_list("cuts", &ListFault::Memory, err)),
+        Err(refusal) => Err(refuse_list("cuts", &ListFault::from(refusal), err)),
     }
 }
 

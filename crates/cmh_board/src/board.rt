@@ -5,11 +5,11 @@ ghost use Rattle.cmh_graph.specs.declared.TheConstants.{MAX_PROCESSES};
 ghost use Rattle.cmh_graph.specs.Graph.{process_count, IsWithinGraph};
 ghost use Rattle.cmh_rw.specs.Seats.{words_graph};
 
-use crate::fault::opening_fault;
 use crate::post::add_posting;
 use crate::reading::read_closed;
 use crate::{BoardFault, Posting, Snap};
 use cmh_graph::{Verdict, WaitGraph};
+use cmh_memory::{Need, refusal_of, room};
 use cmh_rw::{Entry, FIRST_ROW, FIRST_VERDICT, ROW_COUNT, Row, RwSeat, RwWords, verdict_from_code};
 use std::alloc::Global;
 use std::sync::Wait;
@@ -24,6 +24,14 @@ pub struct Board {
     pub ghost counted: { processes ≡ process_count (words_graph words) },
     pub ghost small: { processes ≤ MAX_PROCESSES },
     pub ghost within: { IsWithinGraph (words_graph words) },
+}
+
+/// What has a value for each process.
+impl<'b> Need for &'b Board {
+    ghost use Rattle.cmh_graph.specs.Graph.{process_count};
+    ghost use Rattle.cmh_board.specs.Board.{board_graph};
+
+    ghost needed = { λ b. process_count (board_graph b.now) };
 }
 
 /// A seat at a board, with which one worker looks and posts.
@@ -73,7 +81,7 @@ impl Board {
         ensures memory { IfErr result (λ e. e ≡ BoardFault.Memory) }
     {
         let processes = graph.len();
-        let (words, seat) = RwWords::open(alloc, graph).map_err(opening_fault)?;
+        let (words, seat) = RwWords::open(alloc, graph).map_err(|fault| refusal_of(fault))?;
         Ok((Board { words, processes }, BoardSeat { seat }))
     }
 
@@ -245,7 +253,7 @@ impl Board {
         ensures fault { IfErr result
             (ExplainsReadFault (board_view seat.old) (board_view seat.new)) }
     {
-        let mut verdicts = Vec::with_capacity(alloc, self.processes as usize)?;
+        let mut verdicts = room(alloc, self.processes as usize, self)?;
         if let Entry::Busy(found) = self.hold(seat) {
             return Err(BoardFault::Busy(found));
         }
@@ -268,7 +276,7 @@ impl Board {
         ensures fault { IfErr result
             (ExplainsReadFault (board_view seat.old) (board_view seat.new)) }
     {
-        let mut rows = Vec::with_capacity(alloc, self.processes as usize)?;
+        let mut rows = room(alloc, self.processes as usize, self)?;
         if let Entry::Busy(found) = self.hold(seat) {
             return Err(BoardFault::Busy(found));
         }
@@ -288,7 +296,7 @@ impl Board {
             → IsMadeOf (board_view seat).mine rows.items) }
         ensures memory { IfErr result (λ e. e ≡ BoardFault.Memory) }
     {
-        let mut rows = Vec::with_capacity(alloc, self.processes as usize)?;
+        let mut rows = room(alloc, self.processes as usize, &self)?;
         let Board {
             words,
             processes: _processes,

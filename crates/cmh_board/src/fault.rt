@@ -2,10 +2,8 @@
 
 ghost use Rattle.std.specs.Prelude.{◌≡◌};
 ghost use Rattle.cmh_board.specs.declared.fault.BoardFault.TheVariants.{Memory};
-ghost use Rattle.cmh_rw.specs.declared.fault.RwFault.TheVariants as words;
 
-use cmh_rw::RwFault;
-use std::alloc::AllocError;
+use cmh_memory::{Fault, Refusal};
 use std::error::Error;
 use std::fmt;
 
@@ -34,18 +32,14 @@ impl fmt::Display for BoardFault {
 
 impl Error for BoardFault {}
 
-impl From<AllocError> for BoardFault {
-    ghost from_gives = { λ _ e. e ≡ Memory };
-
-    fn from(_e: AllocError) -> BoardFault {
-        BoardFault::Memory
-    }
+impl Fault for BoardFault {
+    ghost is_refusal = { λ e. e ≡ Memory };
 }
 
-/// The fault of words that weren't opened: memory was refused.
-pub(crate) fn opening_fault(_fault: RwFault) -> BoardFault
-    requires { _fault ≡ words.Memory }
-    ensures { result ≡ Memory }
-{
-    BoardFault::Memory
+impl From<Refusal> for BoardFault {
+    ghost from_gives = { λ _ e. e ≡ Memory };
+
+    fn from(_e: Refusal) -> BoardFault {
+        BoardFault::Memory
+    }
 }

@@ -7,8 +7,9 @@ ghost use Rattle.clap.specs.declared.builder.value_parser.ValueParser.TheVariant
 ghost use Rattle.cmh_command.specs.CommandLine.{analyse_app, option_rule, program, top_app, trace_app};
 
 use clap::{Arg, Command, value_parser};
+use cmh_memory::Allocated;
 use cmh_plan::MAX_WORKERS;
-use std::alloc::{AllocError, Global};
+use std::alloc::Global;
 
 const AFTER_HELP: &str = "\
 Examples:
@@ -61,7 +62,7 @@ In the documents of cmh, BY-HAND.md says how to write a dump, and FORMATS.md how
 the trace.";
 
 /// The whole command line.
-pub(crate) fn command<'a>(alloc: Global) -> Result<Command<'a>, AllocError>
+pub(crate) fn command<'a>(alloc: Global) -> Allocated<Command<'a>>
     ensures app { IfOk result (λ c. app_of c ≡ program) }
     ensures required { IfOk result (λ c. (out-Command c).subcommand_required ≡ true) }
     ensures local { IfOk result (λ c. (out-Command c).has_globals ≡ false) }
@@ -72,7 +73,7 @@ pub(crate) fn command<'a>(alloc: Global) -> Result<Command<'a>, AllocError>
 }
 
 /// The command line, as yet without the command `trace`.
-fn with_analyse<'a>(alloc: Global) -> Result<Command<'a>, AllocError>
+fn with_analyse<'a>(alloc: Global) -> Allocated<Command<'a>>
     ensures app { IfOk result (λ c. app_of c ≡ with_subcommand top_app analyse_app.top) }
     ensures local { IfOk result (λ c. (out-Command c).has_globals ≡ false) }
 {
@@ -86,7 +87,7 @@ fn top_command<'a>(alloc: Global) -> Command<'a>
     ensures local { (out-Command result).has_globals ≡ false }
 {
     Command::new(alloc, "cmh")
-        .version("1.1.0")
+        .version("1.2.0")
         .subcommand_required(true)
         .disable_help_subcommand(true)
 }
@@ -109,7 +110,7 @@ fn subcommand<'a>(alloc: Global, name: &'a str, usage: &'a str) -> Command<'a>
     Command::new(alloc, name).override_usage(usage)
 }
 
-fn analyse_command<'a>(alloc: Global) -> Result<Command<'a>, AllocError>
+fn analyse_command<'a>(alloc: Global) -> Allocated<Command<'a>>
     ensures app { IfOk result (λ c. app_of c ≡ analyse_app) }
     ensures local { IfOk result (λ c. (out-Command c).has_globals ≡ false) }
 {
@@ -121,7 +122,7 @@ fn analyse_command<'a>(alloc: Global) -> Result<Command<'a>, AllocError>
         .arg(choices_option(alloc))
 }
 
-fn trace_command<'a>(alloc: Global) -> Result<Command<'a>, AllocError>
+fn trace_command<'a>(alloc: Global) -> Allocated<Command<'a>>
     ensures app { IfOk result (λ c. app_of c ≡ trace_app) }
     ensures local { IfOk result (λ c. (out-Command c).has_globals ≡ false) }
 {

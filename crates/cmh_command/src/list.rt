@@ -6,7 +6,8 @@ ghost use Rattle.cmh_command.specs.declared.TheConstants.{MAX_NUMBERS};
 ghost use Rattle.cmh_command.specs.declared.list.ListFault.TheVariants.{Memory};
 
 use crate::MAX_NUMBERS;
-use std::alloc::{AllocError, AllocFailed, Global};
+use cmh_memory::{Allocated, Refusal};
+use std::alloc::{AllocFailed, Global};
 use std::error::Error;
 use std::fmt;
 
@@ -38,10 +39,10 @@ impl fmt::Display for ListFault {
 
 impl Error for ListFault {}
 
-impl From<AllocError> for ListFault {
+impl From<Refusal> for ListFault {
     ghost from_gives = { λ _ e. e ≡ Memory };
 
-    fn from(_e: AllocError) -> ListFault {
+    fn from(_e: Refusal) -> ListFault {
         ListFault::Memory
     }
 }
@@ -80,7 +81,7 @@ pub fn read_list(alloc: Global, text: &str) -> Result<Vec<u64>, ListFault>
 }
 
 /// The items of a list.
-fn items_of<'a>(alloc: Global, text: &'a str) -> Result<Vec<&'a str>, AllocError>
+fn items_of<'a>(alloc: Global, text: &'a str) -> Allocated<Vec<&'a str>>
     ensures { IfOk result (λ list. map (λ item. item.now) list.items ≡ items_of text.now) }
 {
     if text.is_empty() {

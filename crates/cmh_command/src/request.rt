@@ -1,14 +1,16 @@
 //! What a command line asks for.
 
-ghost use Rattle.std.specs.Prelude.{◌≢◌, map, IfOk, MatchOption};
+ghost use Rattle.std.specs.Prelude.{◌≡◌, ◌≢◌, map, IfOk, MatchOption};
 ghost use Rattle.clap.specs.Words.{found_of, kind_of, rows_of, subcommand_rows_of};
 ghost use Rattle.cmh_command.specs.CommandLine.{HasBadWorkers, HasWorkers, IsAnalysis, IsCommand, HasCommand, IsOfKind, IsRequest, IsTracing};
+ghost use Rattle.clap.specs.declared.error.kind.ErrorKind.TheVariants.{OutOfMemory};
 
 use crate::command::command;
 use crate::list::read_number;
 use clap::error::ErrorKind;
 use clap::{ArgMatches, Error};
-use std::alloc::{AllocError, Global};
+use cmh_memory::{Allocated, Fault, refusal_of};
+use std::alloc::Global;
 use std::convert::AsStr;
 
 /// The default number of workers.
@@ -42,7 +44,7 @@ pub enum Request<'a> {
 }
 
 /// What the arguments ask for, of which the first is the program's name.
-pub fn read_args<'a, T: AsStr>(alloc: Global, args: &'a [T]) -> Result<Request<'a>, AllocError>
+pub fn read_args<'a, T: AsStr>(alloc: Global, args: &'a [T]) -> Allocated<Request<'a>>
     ensures { IfOk result (IsRequest (map T.text args.entry.now)) }
 {
     match command(alloc)?.try_get_matches_from(args) {
@@ -52,7 +54,7 @@ pub fn read_args<'a, T: AsStr>(alloc: Global, args: &'a [T]) -> Result<Request<'
 }
 
 /// What the matches of the whole command line ask for.
-fn request_in<'a>(alloc: Global, matches: &ArgMatches<'a>) -> Result<Request<'a>, AllocError>
+fn request_in<'a>(alloc: Global, matches: &ArgMatches<'a>) -> Allocated<Request<'a>>
     requires command { HasCommand (subcommand_rows_of matches.now) }
     ensures { IfOk result (IsCommand (subcommand_rows_of matches.now)) }
 {
@@ -66,7 +68,7 @@ fn request_in<'a>(alloc: Global, matches: &ArgMatches<'a>) -> Result<Request<'a>
 }
 
 /// What the matches of the command `analyse` ask for.
-fn analysis_in<'a>(alloc: Global, options: &ArgMatches<'a>) -> Result<Request<'a>, AllocError>
+fn analysis_in<'a>(alloc: Global, options: &ArgMatches<'a>) -> Allocated<Request<'a>>
     ensures { IfOk result (IsAnalysis (rows_of (found_of options.now))) }
 {
     let Some(workers) = read_workers(options) else {
@@ -104,13 +106,23 @@ fn trace_in<'a>(options: &ArgMatches<'a>) -> Request<'a>
     }
 }
 
+/// Of which kind the error of `clap` is.
+#[derive(Clone, Copy)]
+struct Unread {
+    kind: ErrorKind,
+}
+
+impl Fault for Unread {
+    ghost is_refusal = { λ unread. unread.kind ≡ OutOfMemory };
+}
+
 /// What an error of `clap` asks to be printed.
-fn request_of<'a>(alloc: Global, error: &Error) -> Result<Request<'a>, AllocError>
+fn request_of<'a>(alloc: Global, error: &Error) -> Allocated<Request<'a>>
     ensures { IfOk result (λ request. (kind_of error.now ≢ ErrorKind.OutOfMemory)
         × IsOfKind (kind_of error.now) request) }
 {
     if error.kind() == ErrorKind::OutOfMemory {
-        return Err(AllocError);
+        return Err(refusal_of(Unread { kind: error.kind() }));
     }
     let text = error.to_string(alloc)?;
     if error.use_stderr() {
@@ -122,7 +134,7 @@ fn request_of<'a>(alloc: Global, error: &Error) -> Result<Request<'a>, AllocErro
 
 /// The text with its control characters written out, but for line feeds: an argument may stand in it, and a terminal
 /// would obey it.
-fn escape_controls(alloc: Global, text: &str) -> Result<String, AllocError> {
+fn escape_controls(alloc: Global, text: &str) -> Allocated<String> {
     let mut escaped = String::new(alloc);
     for c in text.chars() {
         if c.is_control() && c != '\n' {

@@ -16,7 +16,8 @@ use crate::parts::move_names;
 use crate::transit::read_in_transit;
 use crate::tree::{take_elements, take_member, tree_of};
 use crate::{DumpFault, MAX_BYTES};
-use cmh_graph::{GraphFault, Part, WaitGraph};
+use cmh_graph::{Part, WaitGraph};
+use cmh_memory::refusal_of;
 use indexmap::IndexSet;
 use serde_json::Value;
 use std::alloc::Global;
@@ -107,11 +108,8 @@ fn read_tree(alloc: Global, tree: Value) -> Result<WaitGraph, DumpFault>
     let parts = move_names(alloc, processes, parts);
     match WaitGraph::build_with(alloc, parts, &in_transit) {
         Ok(graph) => Ok(graph),
-        Err(fault) => {
-            // What was judged is well formed, so only memory can be refused.
-            prove!(matches!(fault, GraphFault::Memory));
-            Err(DumpFault::Memory)
-        }
+        // What was judged is well formed, so only memory can be refused.
+        Err(fault) => Err(DumpFault::from(refusal_of(fault))),
     }
 }
 

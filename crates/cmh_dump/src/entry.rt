@@ -14,8 +14,9 @@ ghost use Rattle.cmh_dump.specs.Tree.{elements_of, at_key};
 use crate::names::{are_names_in, is_name};
 use crate::tree::{array_in, has_allowed, text_at};
 use cmh_graph::State;
+use cmh_memory::{Allocated, room};
 use serde_json::{Map, Value};
-use std::alloc::{AllocError, Global};
+use std::alloc::Global;
 
 /// A process as it is written.
 #[derive(Drop)]
@@ -120,10 +121,10 @@ pub(crate) fn first_ill_named(entries: &[Entry<'_>]) -> Option<usize>
 }
 
 /// The names of the processes.
-pub(crate) fn names_of<'v>(alloc: Global, entries: &[Entry<'v>]) -> Result<Vec<&'v str>, AllocError>
+pub(crate) fn names_of<'v>(alloc: Global, entries: &[Entry<'v>]) -> Allocated<Vec<&'v str>>
     ensures { IfOk result (λ v. texts v.items ≡ map (λ e. (entry_view e).name) entries.now) }
 {
-    let mut names = Vec::with_capacity(alloc, entries.len())?;
+    let mut names = room(alloc, entries.len(), entries)?;
     for entry in entries {
         names.push(entry.name)?;
     }

@@ -3,7 +3,8 @@
 ghost use Rattle.std.specs.Prelude.{◌≡◌};
 ghost use Rattle.cmh_dump.specs.declared.fault.DumpFault.TheVariants.{Memory};
 
-use std::alloc::{AllocError, AllocFailed};
+use cmh_memory::Refusal;
+use std::alloc::AllocFailed;
 use thiserror::Error;
 
 /// The first condition that refuses a dump, in this order. Places count from 0.
@@ -72,10 +73,10 @@ pub enum DumpFault {
     UnknownInTransit(usize),
 }
 
-impl From<AllocError> for DumpFault {
+impl From<Refusal> for DumpFault {
     ghost from_gives = { λ _ e. e ≡ Memory };
 
-    fn from(_e: AllocError) -> DumpFault {
+    fn from(_e: Refusal) -> DumpFault {
         DumpFault::Memory
     }
 }

@@ -11,9 +11,10 @@ ghost use Rattle.cmh_dump.specs.declared.index.IndexFault.TheVariants.{Memory};
 ghost use Rattle.cmh_dump.specs.declared.index.PlaceFault.TheVariants.{Memory as NoMemory};
 
 use crate::tree::text_in;
+use cmh_memory::{Fault, Refusal, room};
 use indexmap::IndexSet;
 use serde_json::Value;
-use std::alloc::{AllocError, AllocFailed, Global};
+use std::alloc::{AllocFailed, Global};
 
 /// Why names have no index.
 #[derive(Debug, Drop)]
@@ -21,6 +22,10 @@ pub(crate) enum IndexFault {
     Memory,
     /// The name at this place equals an earlier one.
     Repeated(usize),
+}
+
+impl Fault for IndexFault {
+    ghost is_refusal = { λ e. e ≡ Memory };
 }
 
 impl<T: Drop> From<AllocFailed<T>> for IndexFault {
@@ -39,10 +44,14 @@ pub(crate) enum PlaceFault {
     Unknown(usize),
 }
 
-impl From<AllocError> for PlaceFault {
+impl Fault for PlaceFault {
+    ghost is_refusal = { λ e. e ≡ NoMemory };
+}
+
+impl From<Refusal> for PlaceFault {
     ghost from_gives = { λ _ e. e ≡ NoMemory };
 
-    fn from(_e: AllocError) -> PlaceFault {
+    fn from(_e: Refusal) -> PlaceFault {
         PlaceFault::Memory
     }
 }
@@ -115,7 +124,7 @@ pub(crate) fn places_of(
     ensures unknown { IfErr result (λ e. (j : ℕ) → e ≡ PlaceFault.Unknown j
         → first_unknown (texts index.now.keys) values.now ≡ Some j) }
 {
-    let mut places = Vec::with_capacity(alloc, values.len())?;
+    let mut places = room(alloc, values.len(), values)?;
     for (j, value) in values.iter().enumerate() {
         let Some(place) = place_in(index, text_in(value)) else {
             return Err(PlaceFault::Unknown(j));

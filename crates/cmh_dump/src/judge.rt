@@ -25,6 +25,7 @@ use cmh_graph::{
     MAX_PROCESSES, Part, first_active_with_dependents, first_repeated_dependent,
     has_too_many_dependents,
 };
+use cmh_memory::{refusal_of, room};
 use indexmap::IndexSet;
 use serde_json::Value;
 use std::alloc::Global;
@@ -80,8 +81,8 @@ pub(crate) fn read_sites<'v>(alloc: Global, tree: &'v Value) -> Result<IndexSet<
     }
     let index = match index_of(alloc, &sites) {
         Ok(index) => index,
-        Err(IndexFault::Memory) => return Err(DumpFault::Memory),
         Err(IndexFault::Repeated(i)) => return Err(DumpFault::RepeatedSite(i)),
+        Err(fault) => return Err(DumpFault::from(refusal_of(fault))),
     };
     if sites.len() > MAX_SITES {
         return Err(DumpFault::TooManySites);
@@ -108,7 +109,7 @@ pub(crate) fn read_processes<'v>(
     if processes.len() > MAX_PROCESSES {
         return Err(DumpFault::TooManyProcesses);
     }
-    let mut entries = Vec::with_capacity(alloc, processes.len())?;
+    let mut entries = room(alloc, processes.len(), processes)?;
     for (i, process) in processes.iter().enumerate() {
         let Some(entry) = entry_of(process) else {
             return Err(DumpFault::BadProcess(first_ill_named(&entries).unwrap_or(i)));
@@ -141,8 +142,8 @@ pub(crate) fn read_names<'v>(
     let names = names_of(alloc, entries)?;
     match index_of(alloc, &names) {
         Ok(index) => Ok(index),
-        Err(IndexFault::Memory) => Err(DumpFault::Memory),
         Err(IndexFault::Repeated(i)) => Err(DumpFault::RepeatedProcess(i)),
+        Err(fault) => Err(DumpFault::from(refusal_of(fault))),
     }
 }
 

@@ -15,6 +15,7 @@ use crate::entry::Entry;
 use crate::index::{PlaceFault, place_of, places_of};
 use crate::tree::{take_member, take_text};
 use cmh_graph::Part;
+use cmh_memory::{refusal_of, room};
 use indexmap::IndexSet;
 use serde_json::Value;
 use std::alloc::Global;
@@ -62,12 +63,12 @@ pub(crate) fn parts_of(
         → (i j : ℕ) × (e ≡ DumpFault.UnknownDependent i j)
         × (unknown_dependent (texts names.now.keys) entries.now ≡ Some (i, j))) }
 {
-    let mut parts = Vec::with_capacity(alloc, entries.len())?;
+    let mut parts = room(alloc, entries.len(), entries)?;
     for (i, entry) in entries.iter().enumerate() {
         match part_of(alloc, entry, sites, names) {
             Ok(part) => parts.push(part)?,
-            Err(PlaceFault::Memory) => return Err(DumpFault::Memory),
             Err(PlaceFault::Unknown(j)) => return Err(DumpFault::UnknownDependent(i, j)),
+            Err(fault) => return Err(DumpFault::from(refusal_of(fault))),
         }
     }
     Ok(parts)

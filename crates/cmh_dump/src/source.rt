@@ -46,9 +46,7 @@ pub fn read_all<S: Source>(alloc: Global, source: &mut S) -> Result<Vec<u8>, Dum
         if count == 0 {
             return Ok(bytes);
         }
-        if bytes.extend_from_slice(&chunk[..count]).is_err() {
-            return Err(DumpFault::Memory);
-        }
+        bytes.extend_from_slice(&chunk[..count])?;
     }
     Err(DumpFault::TooLong)
 }

@@ -15,6 +15,7 @@ use crate::DumpFault;
 use crate::index::place_in;
 use crate::tree::{elements_at, elements_in, text_in};
 use cmh_graph::MAX_IN_TRANSIT;
+use cmh_memory::room;
 use indexmap::IndexSet;
 use serde_json::Value;
 use std::alloc::Global;
@@ -73,7 +74,7 @@ pub(crate) fn read_in_transit(
     if let Some(i) = first_bad_pair(messages) {
         return Err(DumpFault::BadInTransit(i));
     }
-    let mut places = Vec::with_capacity(alloc, messages.len())?;
+    let mut places = room(alloc, messages.len(), messages)?;
     for (i, message) in messages.iter().enumerate() {
         let Some(pair) = places_of(names, message) else {
             return Err(DumpFault::UnknownInTransit(i));

@@ -4,6 +4,7 @@ ghost use Rattle.std.specs.Prelude.{◌≡◌, ◌≢◌, ◌||◌, Some, None, 
 ghost use Rattle.std.specs.List.{list_all, list_any};
 ghost use Rattle.std.specs.Option.{option_map_or};
 ghost use Rattle.std.specs.BTreeMap.{keys};
+ghost use Rattle.serde_json.specs.Errors.{IsMemory};
 ghost use Rattle.serde_json.specs.Find.{get, as_array, as_number, as_u64};
 ghost use Rattle.serde_json.specs.View.{view, items_of};
 ghost use Rattle.cmh_dump.specs.Dump.{tree_of};
@@ -12,8 +13,19 @@ ghost use Rattle.cmh_dump.specs.Tree.{text_of, texts_of, elements_of, at_key, ha
 ghost use Rattle.cmh_dump.specs.Texts.{texts};
 
 use crate::DumpFault;
-use serde_json::{Map, Value};
-use std::alloc::{AllocError, Global};
+use cmh_memory::{Allocated, Fault, refusal_of};
+use serde_json::{Error, Map, Value};
+use std::alloc::Global;
+
+/// What `serde_json` says of bytes that it hasn't read.
+#[derive(Drop)]
+struct Unread {
+    error: Error,
+}
+
+impl Fault for Unread {
+    ghost is_refusal = { λ unread. IsMemory unread.error };
+}
 
 /// The tree of the bytes.
 #[tactic(auto, using(crate::proofs::Trees::tree_is, crate::proofs::Trees::no_tree))]
@@ -24,7 +36,7 @@ pub(crate) fn tree_of(alloc: Global, bytes: &[u8]) -> Result<Value, DumpFault>
 {
     match Value::from_slice(alloc, bytes) {
         Ok(value) => Ok(value),
-        Err(e) if e.is_memory() => Err(DumpFault::Memory),
+        Err(error) if error.is_memory() => Err(DumpFault::from(refusal_of(Unread { error }))),
         Err(_) => Err(DumpFault::NotJson),
     }
 }
@@ -78,7 +90,7 @@ pub(crate) fn elements_at<'v>(value: &'v Value, key: &str) -> &'v [Value]
 }
 
 /// The values as texts.
-fn texts_in<'v>(alloc: Global, values: &'v [Value]) -> Result<Vec<&'v str>, AllocError>
+fn texts_in<'v>(alloc: Global, values: &'v [Value]) -> Allocated<Vec<&'v str>>
     ensures { IfOk result (λ v. texts v.items ≡ map (λ value. text_of (view value)) values.now) }
 {
     let mut texts = Vec::new(alloc);
@@ -89,11 +101,7 @@ fn texts_in<'v>(alloc: Global, values: &'v [Value]) -> Result<Vec<&'v str>, Allo
 }
 
 /// The elements of the array at a key as texts.
-pub(crate) fn texts_at<'v>(
-    alloc: Global,
-    value: &'v Value,
-    key: &str,
-) -> Result<Vec<&'v str>, AllocError>
+pub(crate) fn texts_at<'v>(alloc: Global, value: &'v Value, key: &str) -> Allocated<Vec<&'v str>>
     ensures { IfOk result (λ v. texts v.items ≡ texts_of (at_key key.now (view value.now))) }
 {
     texts_in(alloc, elements_at(value, key))

@@ -22,7 +22,7 @@ use Rattle.std.specs.FinMap.{slice_cmp-IsAntisymmetric, nat_cmp-IsAntisymmetric}
 use Rattle.std.specs.declared.cmp.Ordering.{Ordering}
 use Rattle.std.specs.declared.cmp.Ordering.TheVariants.{Less, Equal, Greater}
 use Rattle.std.specs.Ordering.{ordering_reverse}
-use Rattle.cmh_graph.proofs.LevelSearch.{first, has_steps, near, near_then, passes_itself, steps_back, steps_on}
+use Rattle.cmh_graph.proofs.LevelSearch.{first, has_steps, near, near_then, passes_itself, steps_back, steps_on, steps_within}
 use Rattle.cmh_graph.proofs.PathLemmas.{listed, cons_contains, contains_cons, depends, depends_within, dependency}
 use Rattle.cmh_graph.proofs.Verdicts.{asleep_is_idle}
 
@@ -399,6 +399,13 @@ pub record LeadsOn (g : Graph) (p n : ℕ) (path : List ℕ) (last : ℕ) : Type
 distance_read : (g : Graph) (distances : List (Option ℕ)) (q : ℕ) → distances ≡ map (distance_of g) (indices g)
     → q < process_count g → number_at distances q ≡ distance_of g q
 distance_read g distances q e l = by_index g (distance_of g) distances q None e l
+
+-- a distance in a list of all distances is below the number of processes
+pub distance_within : (g : Graph) (p n : ℕ) (distances : List (Option ℕ)) (o : Option ℕ) → p < process_count g
+    → distances ≡ map (distance_of g) (indices g) → o ≡ get_or distances p o → o ≡ Some n → n < process_count g
+unfolding distance_of
+distance_within g p n distances o i e f s =
+    steps_within g (is_awake g) p n (sym (by_index g (distance_of g) distances p o e i) ∙ sym f ∙ s)
 
 -- at first the path so far is p alone, and each chosen path from p completes it
 pub leads_start : (g : Graph) (p n : ℕ) (path : List ℕ) (distances : List (Option ℕ)) (o : Option ℕ)

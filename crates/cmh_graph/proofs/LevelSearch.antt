@@ -53,7 +53,7 @@ found_within t a (suc k) n e = found_within_by t a k n (t a) (λ s. found_within
 -- ---- the least number of dependencies
 
 -- the least number of dependencies to a process that passes is below the number of processes
-steps_within : (g : Graph) (test : ℕ → Bool) (p n : ℕ) → steps_to g test p ≡ Some n → n < process_count g
+pub steps_within : (g : Graph) (test : ℕ → Bool) (p n : ℕ) → steps_to g test p ≡ Some n → n < process_count g
 steps_within g test p n e = omega (arith, found_within (λ m. is_nonempty (paths_to g test m p)) 0 (process_count g) n e)
 
 -- where a path leads to a process that passes, there is a least number of dependencies to one

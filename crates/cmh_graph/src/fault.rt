@@ -3,7 +3,8 @@
 ghost use Rattle.std.specs.Prelude.{◌≡◌};
 ghost use Rattle.cmh_graph.specs.declared.fault.GraphFault.TheVariants.{Memory};
 
-use std::alloc::{AllocError, AllocFailed};
+use cmh_memory::{Fault, Refusal};
+use std::alloc::AllocFailed;
 use std::error::Error;
 use std::fmt;
 
@@ -50,10 +51,14 @@ impl fmt::Display for GraphFault {
 
 impl Error for GraphFault {}
 
-impl From<AllocError> for GraphFault {
+impl Fault for GraphFault {
+    ghost is_refusal = { λ e. e ≡ Memory };
+}
+
+impl From<Refusal> for GraphFault {
     ghost from_gives = { λ _ e. e ≡ Memory };
 
-    fn from(_e: AllocError) -> GraphFault {
+    fn from(_e: Refusal) -> GraphFault {
         GraphFault::Memory
     }
 }
@@ -64,11 +69,4 @@ impl<T: Drop> From<AllocFailed<T>> for GraphFault {
     fn from(_e: AllocFailed<T>) -> GraphFault {
         GraphFault::Memory
     }
-}
-
-/// The fault of a call that fails for lack of memory alone, as an allocator reports it.
-pub fn out_of_memory(_fault: GraphFault) -> AllocError
-    requires { _fault ≡ Memory }
-{
-    AllocError
 }

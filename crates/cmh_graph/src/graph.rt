@@ -18,7 +18,8 @@ use crate::search::{
     marked_indices, next_level,
 };
 use crate::{GraphFault, MAX_PROCESSES, Part, Predecessors, State, Verdict};
-use std::alloc::{AllocError, Global};
+use cmh_memory::{Allocated, Need, copies, room};
+use std::alloc::Global;
 use std::marker::Model;
 
 /// A wait graph: the processes that each one waits for, and the messages in transit. Processes are named by their
@@ -41,6 +42,13 @@ impl Model for WaitGraph {
 
     ghost invariant = { λ w. let g = parts_graph w.parts.items w.in_transit.items in
         IsWellFormed g × (w.awake.items ≡ map (is_awake g) (indices g)) };
+}
+
+/// What has a value for each process.
+impl<'g> Need for &'g WaitGraph {
+    ghost use Rattle.cmh_graph.specs.Graph.{process_count};
+
+    ghost needed = { λ g. process_count g.now };
 }
 
 impl WaitGraph {
@@ -185,12 +193,12 @@ impl WaitGraph {
     }
 
     /// For each process whether `p` reaches it. It takes the time and memory of `reach_of`.
-    pub fn reach_marks(&self, alloc: Global, p: u32) -> Result<Vec<bool>, AllocError>
+    pub fn reach_marks(&self, alloc: Global, p: u32) -> Allocated<Vec<bool>>
         requires { p < process_count self.now }
         ensures { IfOk result (λ marks.
             marks.items ≡ map (reaches self.now p) (indices self.now)) }
     {
-        let marks = mark_alone(alloc, self.len(), p)?;
+        let marks = mark_alone(alloc, self, p)?;
         self.spread(alloc, p, marks)
     }
 
@@ -202,7 +210,7 @@ impl WaitGraph {
         p: u32,
         q: u32,
         known: &[bool],
-    ) -> Result<Vec<bool>, AllocError>
+    ) -> Allocated<Vec<bool>>
         requires within { p < process_count self.now }
         requires beyond { Reaches self.now p q }
         requires known { known.now ≡ map (reaches self.now q) (indices self.now) }
@@ -229,18 +237,14 @@ impl WaitGraph {
     /// The core of `p`, as `core_of` gives it, by the predecessors of all processes. It takes time linear in the
     /// processes, the dependencies of those that `p` reaches and the predecessors of those in the core, beside sorting
     /// the core, and memory linear in the processes.
-    pub fn core_by(
-        &self,
-        alloc: Global,
-        predecessors: &Predecessors,
-        p: u32,
-    ) -> Result<Vec<u32>, AllocError>
+    pub fn core_by(&self, alloc: Global, predecessors: &Predecessors, p: u32) -> Allocated<Vec<u32>>
         requires within { p < process_count self.now }
         requires known { ArePredecessors self.now predecessors.now }
         ensures { IfOk result (λ core. core.items ≡ core_of self.now p) }
     {
+        self.has_no_fault();
         let reached = self.reach_marks(alloc, p)?;
-        let mut marks = mark_alone(alloc, self.len(), p)?;
+        let mut marks = mark_alone(alloc, self, p)?;
         let mut pending = Vec::new(alloc);
         pending.push(p)?;
         let mut core = Vec::new(alloc);
@@ -261,13 +265,13 @@ impl WaitGraph {
         &self,
         alloc: Global,
         predecessors: &Predecessors,
-    ) -> Result<Vec<bool>, AllocError>
+    ) -> Allocated<Vec<bool>>
         requires known { ArePredecessors self.now predecessors.now }
         ensures { IfOk result (λ marks. AreAlone self.now marks.items) }
     {
         self.has_no_fault();
         let mut marks = self.marks_without_predecessors(alloc, predecessors)?;
-        let mut passed = vec![in alloc; 0; self.len() as usize]?;
+        let mut passed = copies(alloc, 0, self.len() as usize, self)?;
         let mut pending = self.trim_all(alloc, &mut marks, &mut passed)?;
         // Each process is pending once at most.
         for _ in 0..self.len() {
@@ -296,7 +300,7 @@ impl WaitGraph {
         &self,
         alloc: Global,
         predecessors: &Predecessors,
-    ) -> Result<Vec<Option<u32>>, AllocError>
+    ) -> Allocated<Vec<Option<u32>>>
         requires { ArePredecessors self.now predecessors.now }
         ensures { IfOk result (λ list.
             list.items ≡ map (distance_of self.now) (indices self.now)) }
@@ -324,7 +328,7 @@ impl WaitGraph {
         alloc: Global,
         distances: &[Option<u32>],
         p: u32,
-    ) -> Result<Option<Vec<u32>>, AllocError>
+    ) -> Allocated<Option<Vec<u32>>>
         requires within { p < process_count self.now }
         requires known { distances.now ≡ map (distance_of self.now) (indices self.now) }
         ensures { IfOk result (λ path.
@@ -334,7 +338,7 @@ impl WaitGraph {
         let Some(distance) = distances[p as usize] else {
             return Ok(None);
         };
-        let mut path = Vec::with_capacity(alloc, distance as usize + 1)?;
+        let mut path = room(alloc, distance as usize + 1, self)?;
         path.push_reserved(p);
         let mut last = p;
         for nearer in (0..distance).rev() {
@@ -373,11 +377,7 @@ impl WaitGraph {
 
     /// The verdict of each process, as `verdicts_plain` gives it, by the distances of all processes. It takes time and
     /// memory linear in the processes.
-    pub fn verdicts_by(
-        &self,
-        alloc: Global,
-        distances: &[Option<u32>],
-    ) -> Result<Vec<Verdict>, AllocError>
+    pub fn verdicts_by(&self, alloc: Global, distances: &[Option<u32>]) -> Allocated<Vec<Verdict>>
         requires { distances.now ≡ map (distance_of self.now) (indices self.now) }
         ensures { IfOk result (λ list. list.items ≡ verdicts self.now) }
     {
@@ -394,12 +394,12 @@ impl WaitGraph {
 impl WaitGraph {
     /// The processes that `p` reaches, by rising index. A short list is sorted: to read it off the marks of all
     /// processes would take most of the time.
-    pub(crate) fn reach_from(&self, alloc: Global, p: u32) -> Result<Vec<u32>, AllocError>
+    pub(crate) fn reach_from(&self, alloc: Global, p: u32) -> Allocated<Vec<u32>>
         requires { p < process_count self.now }
         ensures { IfOk result (λ list. list.items ≡ reach_of self.now p) }
     {
         self.has_no_fault();
-        let mut marks = mark_alone(alloc, self.len(), p)?;
+        let mut marks = mark_alone(alloc, self, p)?;
         let mut pending = Vec::new(alloc);
         pending.push(p)?;
         let mut list = Vec::new(alloc);
@@ -415,12 +415,7 @@ impl WaitGraph {
     }
 
     /// Marks all that `p` reaches. Where another process is marked already, so are its dependencies.
-    pub(crate) fn spread(
-        &self,
-        alloc: Global,
-        p: u32,
-        marks: Vec<bool>,
-    ) -> Result<Vec<bool>, AllocError>
+    pub(crate) fn spread(&self, alloc: Global, p: u32, marks: Vec<bool>) -> Allocated<Vec<bool>>
         requires within { p < process_count self.now }
         requires spreads { SpreadsFrom self.now p marks.items (p ∷ []) }
         ensures marks { IfOk result (λ all.
@@ -442,7 +437,7 @@ impl WaitGraph {
         &self,
         alloc: Global,
         predecessors: &Predecessors,
-    ) -> Result<Vec<bool>, AllocError>
+    ) -> Allocated<Vec<bool>>
         requires known { ArePredecessors self.now predecessors.now }
         ensures { IfOk result (λ marks. marks.items
             ≡ map (λ p. length (predecessors_at predecessors.now p) == 0) (indices self.now)) }
@@ -460,7 +455,7 @@ impl WaitGraph {
         alloc: Global,
         marks: &mut [bool],
         passed: &mut [usize],
-    ) -> Result<Vec<u32>, AllocError>
+    ) -> Allocated<Vec<u32>>
         requires trimming { IsTrimming self.now marks.old passed.old }
         ensures trimming { OnOk result (IsTrimming self.now marks.new passed.new) }
         ensures within { IfOk result (λ list. All (λ p. p < process_count self.now) list.items) }
@@ -481,7 +476,7 @@ impl WaitGraph {
         marks: &mut [bool],
         passed: &mut [usize],
         pending: &mut Vec<u32>,
-    ) -> Result<(), AllocError>
+    ) -> Allocated<()>
         requires listed { All (λ p. p < process_count self.now) list.now }
         requires pending { All (λ p. p < process_count self.now) pending.old.items }
         requires trimming { IsTrimming self.now marks.old passed.old }
@@ -521,7 +516,7 @@ impl WaitGraph {
         alloc: Global,
         predecessors: &Predecessors,
         marks: &[bool],
-    ) -> Result<Vec<Option<u32>>, AllocError>
+    ) -> Allocated<Vec<Option<u32>>>
         requires known { ArePredecessors self.now predecessors.now }
         requires size { length marks.now ≡ process_count self.now }
         ensures { IfOk result (λ distances.
@@ -554,11 +549,7 @@ impl WaitGraph {
 }
 
 /// Marks each part of an awake process.
-fn mark_awake(
-    alloc: Global,
-    parts: &[Part],
-    in_transit: &[(u32, u32)],
-) -> Result<Vec<bool>, AllocError>
+fn mark_awake(alloc: Global, parts: &[Part], in_transit: &[(u32, u32)]) -> Allocated<Vec<bool>>
     requires { IsWellFormed (parts_graph parts.now in_transit.now) }
     ensures { IfOk result (λ marks. let g = parts_graph parts.now in_transit.now in
         marks.items ≡ map (is_awake g) (indices g)) }
@@ -573,7 +564,7 @@ fn mark_awake(
 }
 
 /// Marks each part that is active.
-fn mark_active(alloc: Global, parts: &[Part]) -> Result<Vec<bool>, AllocError>
+fn mark_active(alloc: Global, parts: &[Part]) -> Allocated<Vec<bool>>
     ensures { IfOk result (λ marks.
         marks.items ≡ map (λ part. not (is_idle_state part.state)) parts.now) }
 {

@@ -7,7 +7,8 @@ ghost use Rattle.cmh_graph.specs.Build.{dependent_count, parts_graph, HasGraphFa
 ghost use Rattle.cmh_graph.specs.Judge.{IsFirst, IsFirstDependent, IsRepeat};
 
 use crate::{GraphFault, MAX_DEPENDENCIES, MAX_IN_TRANSIT, MAX_PROCESSES, Part, State};
-use std::alloc::{AllocError, Global};
+use cmh_memory::{Allocated, copies};
+use std::alloc::Global;
 
 /// Finds the first fault, kind by kind.
 pub(crate) fn judge(
@@ -88,17 +89,14 @@ fn first_at_least(bound: usize, list: &[u32]) -> Option<usize>
 
 /// The first dependent that equals an earlier one of its part, by the places of the part and of the dependent. Each
 /// process keeps the number of the last part that named it, counted from 1.
-pub fn first_repeated_dependent(
-    alloc: Global,
-    parts: &[Part],
-) -> Result<Option<(usize, usize)>, AllocError>
+pub fn first_repeated_dependent(alloc: Global, parts: &[Part]) -> Allocated<Option<(usize, usize)>>
     requires { IsWithinGraph (parts_graph parts.now []) }
     ensures some { IfOk result (λ found. IfSome found (λ at. IsFirstDependent
         (λ i j. HasGraphFault (parts_graph parts.now []) (RepeatedDependent i j)) at.0 at.1)) }
     ensures none { IfOk result (λ found. IfNone found
         ((i j : ℕ) → HasGraphFault (parts_graph parts.now []) (RepeatedDependent i j) → ⊥)) }
 {
-    let mut last_named_by = vec![in alloc; 0; parts.len()]?;
+    let mut last_named_by = copies(alloc, 0, parts.len(), parts)?;
     for (i, part) in parts.iter().enumerate() {
         if let Some(j) = first_repeat(i + 1, &part.dependents, &mut last_named_by) {
             return Ok(Some((i, j)));

@@ -13,7 +13,7 @@ mod predecessors;
 mod search;
 mod verdict;
 
-pub use fault::{GraphFault, out_of_memory};
+pub use fault::GraphFault;
 pub use graph::WaitGraph;
 pub use judge::{first_active_with_dependents, first_repeated_dependent, has_too_many_dependents};
 pub use part::{Part, State};

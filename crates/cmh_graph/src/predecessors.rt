@@ -7,7 +7,8 @@ ghost use Rattle.cmh_graph.specs.Graph.{process_count};
 ghost use Rattle.cmh_graph.specs.Search.{list_at, predecessors_at, ArePredecessors, JoinsEach};
 
 use crate::WaitGraph;
-use std::alloc::{AllocError, Global};
+use cmh_memory::{Allocated, copies, room};
+use std::alloc::Global;
 use std::marker::Model;
 
 /// For each process of a graph those that depend on it. A search against the dependencies uses them, and many such
@@ -27,7 +28,7 @@ impl Model for Predecessors {
 
 impl Predecessors {
     /// The predecessors of each process of the graph. It takes time and memory linear in processes and dependencies.
-    pub fn of_graph(alloc: Global, graph: &WaitGraph) -> Result<Predecessors, AllocError>
+    pub fn of_graph(alloc: Global, graph: &WaitGraph) -> Allocated<Predecessors>
         ensures { IfOk result (λ predecessors. ArePredecessors graph.now predecessors) }
     {
         let counts = predecessor_counts(alloc, graph)?;
@@ -48,10 +49,10 @@ impl Predecessors {
 }
 
 /// How many predecessors each process of the graph has.
-fn predecessor_counts(alloc: Global, graph: &WaitGraph) -> Result<Vec<usize>, AllocError>
+fn predecessor_counts(alloc: Global, graph: &WaitGraph) -> Allocated<Vec<usize>>
     ensures { IfOk result (λ counts. length counts.items ≡ process_count graph.now) }
 {
-    let mut counts = vec![in alloc; 0; graph.len() as usize]?;
+    let mut counts = copies(alloc, 0, graph.len() as usize, graph)?;
     for p in 0..graph.len() {
         count_each(graph.dependents(p), &mut counts);
     }
@@ -70,19 +71,19 @@ fn count_each(places: &[u32], counts: &mut [usize])
 
 /// An empty list for each count, with room for as many. So a list isn't moved as it grows, and one that needs more room
 /// gets it.
-fn empty_lists(alloc: Global, counts: &[usize]) -> Result<Vec<Vec<u32>>, AllocError>
+fn empty_lists(alloc: Global, counts: &[usize]) -> Allocated<Vec<Vec<u32>>>
     ensures size { IfOk result (λ lists. length lists.items ≡ length counts.now) }
     ensures empty { IfOk result (λ lists. (r : ℕ) → list_at lists.items r ≡ []) }
 {
-    let mut lists = Vec::with_capacity(alloc, counts.len())?;
+    let mut lists = room(alloc, counts.len(), counts)?;
     for count in counts {
-        lists.push(Vec::with_capacity(alloc, *count)?)?;
+        lists.push(room(alloc, (*count).min(counts.len()), counts)?)?;
     }
     Ok(lists)
 }
 
 /// Adds `p` to the list of each of these processes.
-fn join_each(p: u32, places: &[u32], lists: &mut [Vec<u32>]) -> Result<(), AllocError>
+fn join_each(p: u32, places: &[u32], lists: &mut [Vec<u32>]) -> Allocated<()>
     requires { All (λ r. r < length lists.old) places.now }
     ensures { OnOk result (JoinsEach p places.now lists.old lists.new) }
 {

@@ -2,14 +2,16 @@
 
 ghost use Rattle.std.specs.Prelude.{◌≡◌, ◌==◌, ◌<◌, ◌^◌, ℕ, [], map, length, filter, if◌then◌else◌, All, Contains, IfOk, OnOk, Some, None, ◌≤◌, slice_index, IsTrue, MatchOption, ◌↔◌};
 ghost use Rattle.std.specs.List.{range_with_len};
+ghost use Rattle.cmh_graph.specs.Graph.{process_count};
 ghost use Rattle.cmh_graph.specs.Search.{is_marked, predecessors_at, IsNamedBy, MarksEach, Numbers, IsLeastAt};
 
-use crate::Predecessors;
-use std::alloc::{AllocError, Global};
+use crate::{Predecessors, WaitGraph};
+use cmh_memory::{Allocated, copies};
+use std::alloc::Global;
 
 /// The marked processes, by rising index.
 #[tactic(auto, using(crate::proofs::IndexLists::filter_indices_kept, crate::proofs::IndexLists::filter_indices_passed))]
-pub fn marked_indices(alloc: Global, marks: &[bool]) -> Result<Vec<u32>, AllocError>
+pub fn marked_indices(alloc: Global, marks: &[bool]) -> Allocated<Vec<u32>>
     requires { length marks.now < 2 ^ 32 }
     ensures { IfOk result (λ list.
         list.items ≡ filter (is_marked marks.now) (range_with_len 0 (length marks.now))) }
@@ -23,23 +25,19 @@ pub fn marked_indices(alloc: Global, marks: &[bool]) -> Result<Vec<u32>, AllocEr
     Ok(list)
 }
 
-/// Marks one process of `count`.
-pub(crate) fn mark_alone(alloc: Global, count: u32, p: u32) -> Result<Vec<bool>, AllocError>
-    requires { p < count }
-    ensures size { IfOk result (λ marks. length marks.items ≡ count) }
+/// Marks one process of the graph.
+pub(crate) fn mark_alone(alloc: Global, graph: &WaitGraph, p: u32) -> Allocated<Vec<bool>>
+    requires { p < process_count graph.now }
+    ensures size { IfOk result (λ marks. length marks.items ≡ process_count graph.now) }
     ensures alone { IfOk result (λ marks. (q : ℕ) → is_marked marks.items q ≡ (q == p)) }
 {
-    let mut marks = vec![in alloc; false; count as usize]?;
+    let mut marks = copies(alloc, false, graph.len() as usize, graph)?;
     marks[p as usize] = true;
     Ok(marks)
 }
 
 /// Marks each process of the list. Those that were not marked become pending.
-pub(crate) fn mark_each(
-    list: &[u32],
-    marks: &mut [bool],
-    pending: &mut Vec<u32>,
-) -> Result<(), AllocError>
+pub(crate) fn mark_each(list: &[u32], marks: &mut [bool], pending: &mut Vec<u32>) -> Allocated<()>
     requires { All (λ p. p < length marks.old) list.now }
     ensures { OnOk result (MarksEach list.now
         marks.old marks.new pending.old.items pending.new.items) }
@@ -59,7 +57,7 @@ pub(crate) fn mark_each_within(
     inside: &[bool],
     marks: &mut [bool],
     pending: &mut Vec<u32>,
-) -> Result<(), AllocError>
+) -> Allocated<()>
     requires listed { All (λ p. p < length marks.old) list.now }
     requires alike { length inside.now ≡ length marks.old }
     ensures { OnOk result (MarksEach (filter (is_marked inside.now) list.now)
@@ -75,7 +73,7 @@ pub(crate) fn mark_each_within(
 }
 
 /// The distance 0 for each marked process, and none yet for another.
-pub(crate) fn first_distances(alloc: Global, marks: &[bool]) -> Result<Vec<Option<u32>>, AllocError>
+pub(crate) fn first_distances(alloc: Global, marks: &[bool]) -> Allocated<Vec<Option<u32>>>
     ensures { IfOk result (λ distances.
         distances.items ≡ map (λ mark. if mark then Some 0 else None) marks.now) }
 {
@@ -88,7 +86,7 @@ fn number_each(
     distance: u32,
     distances: &mut [Option<u32>],
     next: &mut Vec<u32>,
-) -> Result<(), AllocError>
+) -> Allocated<()>
     requires { All (λ p. p < length distances.old) list.now }
     ensures { OnOk result (Numbers (Contains list.now) distance
         distances.old distances.new next.old.items next.new.items) }
@@ -109,7 +107,7 @@ pub(crate) fn next_level(
     level: &[u32],
     distance: u32,
     distances: &mut [Option<u32>],
-) -> Result<Vec<u32>, AllocError>
+) -> Allocated<Vec<u32>>
     requires listed { All (λ q. q < length predecessors.now) level.now }
     requires within { (q : ℕ) →
         All (λ p. p < length distances.old) (predecessors_at predecessors.now q) }

@@ -3,7 +3,7 @@
 ghost use Rattle.std.specs.Prelude.{◌≡◌};
 ghost use Rattle.cmh_plan.specs.declared.fault.PlanFault.TheVariants.{Memory};
 
-use std::alloc::AllocError;
+use cmh_memory::{Fault, Refusal};
 use std::error::Error;
 use std::fmt;
 
@@ -38,10 +38,14 @@ impl fmt::Display for PlanFault {
 
 impl Error for PlanFault {}
 
-impl From<AllocError> for PlanFault {
+impl Fault for PlanFault {
+    ghost is_refusal = { λ e. e ≡ Memory };
+}
+
+impl From<Refusal> for PlanFault {
     ghost from_gives = { λ _ e. e ≡ Memory };
 
-    fn from(_e: AllocError) -> PlanFault {
+    fn from(_e: Refusal) -> PlanFault {
         PlanFault::Memory
     }
 }

@@ -11,11 +11,12 @@ use crate::fault::{AppFault, ReportFault};
 use crate::input::read_graph;
 use crate::records::outline_of;
 use cmh_graph::WaitGraph;
+use cmh_memory::Allocated;
 use cmh_run::{BriefList, NoLog, ProcessList, RunLog};
 use cmh_stream::{Pieces, Sink, Source, put_pieces};
 use cmh_text::{Outline, text_of};
 use cmh_work::{Analysis, Gate, Plan, WorkFault, analyse_with};
-use std::alloc::{AllocError, Global};
+use std::alloc::Global;
 use std::sync::Wait;
 use std::thread::Threads;
 
@@ -46,7 +47,7 @@ fn make_outline(
     alloc: Global,
     graph: &WaitGraph,
     analysis: Analysis<RunLog<NoLog, BriefList>, BriefList>,
-) -> Result<Outline, AllocError>
+) -> Allocated<Outline>
     requires { IsSomeAnalysisOf ⟦<BriefList as ProcessList>⟧.processes graph.now analysis }
     ensures { IfOk result (IsOutlineOf graph.now) }
 {
@@ -59,7 +60,7 @@ fn text_and_count<R: Threads + Sync>(
     alloc: Global,
     graph: &WaitGraph,
     analysis: Analysis<RunLog<NoLog, BriefList>, BriefList>,
-) -> Result<CountedText, AllocError>
+) -> Allocated<CountedText>
     requires { IsSomeAnalysisOf ⟦<BriefList as ProcessList>⟧.processes graph.now analysis }
     ensures text { IfOk result (λ r. r.text ≡ report_text graph.now) }
     ensures deadlocked { IfOk result (λ r. r.deadlocked ≡ deadlocked_count graph.now) }
@@ -84,7 +85,10 @@ fn render_report<R: Threads + Sync>(
     ensures deadlocked { IfOk result (λ r. r.deadlocked ≡ deadlocked_count graph.now) }
     ensures memory { IfErr result (λ e. e ≡ AppFault.Report ReportFault.Memory) }
 {
-    text_and_count(rt, alloc, graph, analysis).map_err(|_| AppFault::Report(ReportFault::Memory))
+    match text_and_count(rt, alloc, graph, analysis) {
+        Ok(text) => Ok(text),
+        Err(refusal) => Err(AppFault::Report(ReportFault::from(refusal))),
+    }
 }
 
 /// Reads a dump from the source up to its end, analyses it by the plan, writes its report to the sink, and answers the

@@ -1,9 +1,11 @@
 //! Why an analysis or a trace gives no answer.
 
 ghost use Rattle.std.specs.Prelude.{◌≡◌};
+ghost use Rattle.cmh_report.specs.declared.fault.ReportFault.TheVariants.{Memory};
 ghost use Rattle.cmh_report.specs.declared.fault.AppFault.TheVariants.{Dump, Work, Run, Report, WriteFault};
 
 use cmh_dump::DumpFault;
+use cmh_memory::Refusal;
 use cmh_run::RunFault;
 use cmh_work::WorkFault;
 use thiserror::Error;
@@ -14,6 +16,14 @@ pub enum ReportFault {
     /// Memory was refused.
     #[error("out of memory")]
     Memory,
+}
+
+impl From<Refusal> for ReportFault {
+    ghost from_gives = { λ _ e. e ≡ Memory };
+
+    fn from(_e: Refusal) -> ReportFault {
+        ReportFault::Memory
+    }
 }
 
 /// Why an analysis or a trace gives no answer.

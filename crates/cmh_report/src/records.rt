@@ -3,16 +3,18 @@
 //! It is a summary of each process, and the numbers of idle and of deadlocked processes.
 
 ghost use Rattle.std.specs.Prelude.{◌≡◌, ◌<◌, ◌^◌, length, replicate, IfOk, count_by};
+ghost use Rattle.cmh_graph.specs.Graph.{process_count};
 ghost use Rattle.cmh_text.specs.Outline.{IsOutlineOf};
 ghost use Rattle.cmh_text.specs.Summary.{AreSummariesOf};
 ghost use Rattle.cmh_report.specs.Records.{AreRecordsOf, summary_in, tells_deadlocked};
 
 use cmh_graph::laws::law_built_graph;
 use cmh_graph::{Verdict, WaitGraph};
+use cmh_memory::{Allocated, copies};
 use cmh_run::{Log, ProcessList, RunLog};
 use cmh_text::{Outline, Summary};
 use cmh_work::{Record, Shape};
-use std::alloc::{AllocError, Global};
+use std::alloc::Global;
 
 /// What the text takes from the records, which can be given back then. Each record is read twice, and the graph isn't
 /// searched.
@@ -20,7 +22,7 @@ pub(crate) fn outline_of<L: Log, E: ProcessList, P: ProcessList>(
     alloc: Global,
     graph: &WaitGraph,
     records: &[Record<RunLog<L, E>, P>],
-) -> Result<Outline, AllocError>
+) -> Allocated<Outline>
     requires { AreRecordsOf P.processes graph.now records.now }
     ensures { IfOk result (IsOutlineOf graph.now) }
 {
@@ -35,11 +37,12 @@ fn summaries_of<L: Log, E: ProcessList, P: ProcessList>(
     alloc: Global,
     graph: &WaitGraph,
     records: &[Record<RunLog<L, E>, P>],
-) -> Result<Vec<Summary>, AllocError>
+) -> Allocated<Vec<Summary>>
     requires { AreRecordsOf P.processes graph.now records.now }
     ensures { IfOk result (λ list. AreSummariesOf graph.now list.items) }
 {
-    let mut summaries = active_summaries(alloc, graph.len())?;
+    law_built_graph(graph);
+    let mut summaries = active_summaries(alloc, graph)?;
     for record in records {
         summaries[record.initiator as usize] = summary_in(&record.shape);
     }
@@ -47,10 +50,11 @@ fn summaries_of<L: Log, E: ProcessList, P: ProcessList>(
 }
 
 /// A table in which each process is active.
-fn active_summaries(alloc: Global, count: u32) -> Result<Vec<Summary>, AllocError>
-    ensures { IfOk result (λ list. list.items ≡ replicate count Summary.Active) }
+fn active_summaries(alloc: Global, graph: &WaitGraph) -> Allocated<Vec<Summary>>
+    ensures { IfOk result (λ list. list.items
+        ≡ replicate (process_count graph.now) Summary.Active) }
 {
-    Ok(vec![in alloc; Summary::Active; count as usize]?)
+    Ok(copies(alloc, Summary::Active, graph.len() as usize, graph)?)
 }
 
 /// What the text takes from a process with this shape.

@@ -7,10 +7,11 @@ ghost use Rattle.cmh_report.specs.Records.{AreRecordsOf, IsSomeAnalysisOf};
 use crate::ReportFault;
 use crate::records::outline_of;
 use cmh_graph::WaitGraph;
+use cmh_memory::Allocated;
 use cmh_run::{Log, ProcessList, RunLog};
 use cmh_text::text_of;
 use cmh_work::{Analysis, Record};
-use std::alloc::{AllocError, Global};
+use std::alloc::Global;
 use std::thread::Threads;
 
 /// The report on a graph that was analysed: a line of counts, a line for each idle process, and a line for each group
@@ -28,7 +29,7 @@ pub fn report<L: Log, E: ProcessList, P: ProcessList, R: Threads + Sync>(
     requires { IsSomeAnalysisOf P.processes graph.now analysis.now }
     ensures { IfOk result (λ text. string_bytes text ≡ report_text graph.now) }
 {
-    text_of_records(rt, alloc, graph, analysis.records()).map_err(|_| ReportFault::Memory)
+    Ok(text_of_records(rt, alloc, graph, analysis.records())?)
 }
 
 /// The report, by the records.
@@ -37,7 +38,7 @@ fn text_of_records<L: Log, E: ProcessList, P: ProcessList, R: Threads + Sync>(
     alloc: Global,
     graph: &WaitGraph,
     records: &[Record<RunLog<L, E>, P>],
-) -> Result<String, AllocError>
+) -> Allocated<String>
     requires { AreRecordsOf P.processes graph.now records.now }
     ensures { IfOk result (λ text. string_bytes text ≡ report_text graph.now) }
 {

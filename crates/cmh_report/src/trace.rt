@@ -17,10 +17,11 @@ use crate::fault::{AppFault, ReportFault};
 use crate::input::read_graph;
 use cmh_graph::WaitGraph;
 use cmh_graph::laws::law_built_graph;
+use cmh_memory::Allocated;
 use cmh_process::{Kind, Message};
 use cmh_run::{Ending, NoHints, RunLog, run};
 use cmh_stream::{Sink, Source, put_all};
-use std::alloc::{AllocError, Global};
+use std::alloc::Global;
 
 /// The trace of a run, and how the run has ended.
 #[derive(Drop)]
@@ -138,11 +139,14 @@ fn render_trace(alloc: Global, graph: &WaitGraph, run: &RunLog) -> Result<String
     ensures text { IfOk result (λ text. string_bytes text ≡ trace_text graph.now run.now) }
     ensures memory { IfErr result (λ e. e ≡ AppFault.Report ReportFault.Memory) }
 {
-    trace(alloc, graph, run).map_err(|_| AppFault::Report(ReportFault::Memory))
+    match trace(alloc, graph, run) {
+        Ok(text) => Ok(text),
+        Err(refusal) => Err(AppFault::Report(ReportFault::from(refusal))),
+    }
 }
 
 /// The trace of a run.
-fn trace(alloc: Global, graph: &WaitGraph, run: &RunLog) -> Result<String, AllocError>
+fn trace(alloc: Global, graph: &WaitGraph, run: &RunLog) -> Allocated<String>
     requires { HasLines graph.now run.now }
     ensures { IfOk result (λ text. string_bytes text ≡ trace_text graph.now run.now) }
 {
@@ -156,7 +160,7 @@ fn trace(alloc: Global, graph: &WaitGraph, run: &RunLog) -> Result<String, Alloc
 
 /// Appends the line of a message that is delivered.
 #[tactic(auto, unfolding(crate::specs::Trace::message_line))]
-fn push_message(text: &mut String, graph: &WaitGraph, message: &Message) -> Result<(), AllocError>
+fn push_message(text: &mut String, graph: &WaitGraph, message: &Message) -> Allocated<()>
     requires { IsBetween graph.now message.now }
     ensures { OnOk result (string_bytes text.new
         ≡ string_bytes text.old ++ line (message_line graph.now message.now)) }
@@ -170,7 +174,7 @@ fn push_message(text: &mut String, graph: &WaitGraph, message: &Message) -> Resu
 }
 
 /// Appends the last line.
-fn push_ending(text: &mut String, name: &str, ending: Ending) -> Result<(), AllocError>
+fn push_ending(text: &mut String, name: &str, ending: Ending) -> Allocated<()>
     requires { (k : ℕ) → ending ≢ Ending.CutFree k }
     ensures { OnOk result (string_bytes text.new
         ≡ string_bytes text.old ++ flat_map line (ending_lines name.now ending)) }

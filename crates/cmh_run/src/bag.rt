@@ -7,8 +7,9 @@ ghost use Rattle.cmh_run.specs.Prelude.{Message, query};
 use crate::RunFault;
 use crate::send::Sender;
 use cmh_graph::MAX_DEPENDENCIES;
+use cmh_memory::{Allocated, prepare_queue};
 use cmh_process::{Kind, Message};
-use std::alloc::{AllocError, Global};
+use std::alloc::Global;
 use std::collections::VecDeque;
 use std::marker::Model;
 
@@ -72,7 +73,7 @@ impl Bag {
 
     /// `push`, with the error of the allocator.
     #[inline(always)]
-    pub(crate) fn add(&mut self, message: Message) -> Result<(), AllocError>
+    pub(crate) fn add(&mut self, message: Message) -> Allocated<()>
         ensures ok { OnOk result (self.new ≡ self.old ++ message ∷ []) }
         ensures err { OnErr result (self.new ≡ self.old) }
     {
@@ -101,7 +102,7 @@ impl Bag {
         number: u32,
         from: u32,
         to: u32,
-    ) -> Result<(), AllocError>
+    ) -> Allocated<()>
         ensures ok { OnOk result (self.new ≡ self.old
             ++ record {
               kind = kind;
@@ -126,11 +127,7 @@ impl Bag {
     /// Adds the sender's query to each of these, in their order. A lone one, as most processes send, goes in by itself: to
     /// begin an extension takes longer than that.
     #[inline(always)]
-    pub(crate) fn add_queries(
-        &mut self,
-        sender: Sender,
-        receivers: &[u32],
-    ) -> Result<(), AllocError>
+    pub(crate) fn add_queries(&mut self, sender: Sender, receivers: &[u32]) -> Allocated<()>
         ensures ok { OnOk result (self.new ≡ self.old
             ++ map (λ (r : ℕ). query sender.initiator sender.number sender.process r)
             receivers.now) }
@@ -150,7 +147,7 @@ impl Bag {
         number: u32,
         process: u32,
         receivers: &[u32],
-    ) -> Result<(), AllocError>
+    ) -> Allocated<()>
         ensures ok { OnOk result (self.new ≡ self.old
             ++ map (λ (r : ℕ). query initiator number process r) receivers.now) }
     {
@@ -160,7 +157,7 @@ impl Bag {
             process,
         };
         if self.messages.len() >= FEW && self.messages.capacity() < MAX_DEPENDENCIES {
-            self.messages.reserve(MAX_DEPENDENCIES)?;
+            prepare_queue(&mut self.messages, MAX_DEPENDENCIES);
         }
         let queries = receivers.iter().map(|to| sender.message(Kind::Query, *to));
         self.messages.extend(queries)?;

@@ -8,8 +8,9 @@ use crate::undelivered::Undelivered;
 use crate::{CheckFault, Delivery, Ending};
 use cmh_graph::laws::law_built_graph;
 use cmh_graph::{Verdict, WaitGraph};
+use cmh_memory::Allocated;
 use cmh_process::Message;
-use std::alloc::{AllocError, Global};
+use std::alloc::Global;
 use std::marker::Model;
 
 /// The run that the deliveries of a log make. Its bag is kept as a set, so that a message is found among many; the
@@ -32,7 +33,7 @@ impl<'g> Checker<'g> {
         alloc: Global,
         graph: &'g WaitGraph,
         initiator: u32,
-    ) -> Result<Checker<'g>, AllocError>
+    ) -> Allocated<Checker<'g>>
         requires within { initiator < process_count graph.now }
         requires idle { IsTrue (is_idle graph.now initiator) }
         ensures ok { IfOk result (IsChecked graph.now initiator []) }
@@ -123,7 +124,7 @@ impl<'g> Checker<'g> {
     }
 
     /// Adds what was just sent to the other undelivered messages.
-    fn settle(&mut self) -> Result<(), AllocError>
+    fn settle(&mut self) -> Allocated<()>
         ensures settled { OnOk result (IsSettled self.new) }
         ensures ok { OnOk result ((g : Graph) (i : ℕ) (log : List Delivery) (s : Going)
             → Agrees g i log s self.old → Agrees g i log s self.new) }

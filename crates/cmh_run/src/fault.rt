@@ -3,7 +3,8 @@
 ghost use Rattle.std.specs.Prelude.{◌≡◌, Some};
 ghost use Rattle.cmh_run.specs.Fault.{RunFault, ScriptFault, CheckFault, run_fault_text, script_fault_text, check_fault_text};
 
-use std::alloc::{AllocError, AllocFailed};
+use cmh_memory::{Fault, Refusal};
+use std::alloc::AllocFailed;
 use std::error::Error;
 use std::fmt;
 
@@ -35,10 +36,14 @@ impl fmt::Display for RunFault {
 
 impl Error for RunFault {}
 
-impl From<AllocError> for RunFault {
+impl Fault for RunFault {
+    ghost is_refusal = { λ e. e ≡ RunFault.Memory };
+}
+
+impl From<Refusal> for RunFault {
     ghost from_gives = { λ _ e. e ≡ RunFault.Memory };
 
-    fn from(_e: AllocError) -> RunFault {
+    fn from(_e: Refusal) -> RunFault {
         RunFault::Memory
     }
 }
@@ -76,10 +81,10 @@ impl fmt::Display for ScriptFault {
 
 impl Error for ScriptFault {}
 
-impl From<AllocError> for ScriptFault {
+impl From<Refusal> for ScriptFault {
     ghost from_gives = { λ _ e. e ≡ ScriptFault.Memory };
 
-    fn from(_e: AllocError) -> ScriptFault {
+    fn from(_e: Refusal) -> ScriptFault {
         ScriptFault::Memory
     }
 }
@@ -118,10 +123,10 @@ impl fmt::Display for CheckFault {
 
 impl Error for CheckFault {}
 
-impl From<AllocError> for CheckFault {
+impl From<Refusal> for CheckFault {
     ghost from_gives = { λ _ e. e ≡ CheckFault.Memory };
 
-    fn from(_e: AllocError) -> CheckFault {
+    fn from(_e: Refusal) -> CheckFault {
         CheckFault::Memory
     }
 }

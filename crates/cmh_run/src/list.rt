@@ -8,7 +8,8 @@ ghost use Rattle.cmh_run.specs.Prelude.{process_count};
 use crate::tape::Tape;
 use cmh_graph::WaitGraph;
 use cmh_graph::laws::law_built_graph;
-use std::alloc::{AllocError, Global};
+use cmh_memory::Allocated;
+use std::alloc::Global;
 
 /// A list of processes that says which is the second and how many there are. A `Vec` keeps it whole, a `BriefList` no
 /// more than that. The chosen path of a process is the process, and then the chosen path of the second one on it. So
@@ -27,7 +28,7 @@ pub trait ProcessList: Drop + Sized {
         graph: &WaitGraph,
         distances: &[Option<u32>],
         p: u32,
-    ) -> Result<Self, AllocError>
+    ) -> Allocated<Self>
         requires within { p < process_count graph.now }
         requires known { distances.now ≡ map (distance_of graph.now) (indices graph.now) }
         requires some { IsSome (chosen_path graph.now p) }
@@ -54,7 +55,7 @@ impl ProcessList for Vec<u32> {
         graph: &WaitGraph,
         distances: &[Option<u32>],
         p: u32,
-    ) -> Result<Vec<u32>, AllocError> {
+    ) -> Allocated<Vec<u32>> {
         Ok(graph.path_by(alloc, distances, p)?.unwrap())
     }
 
@@ -94,7 +95,7 @@ impl ProcessList for BriefList {
         graph: &WaitGraph,
         distances: &[Option<u32>],
         p: u32,
-    ) -> Result<BriefList, AllocError> {
+    ) -> Allocated<BriefList> {
         let distance = distances[p as usize].unwrap();
         Ok(BriefList {
             next: next_by(graph, distances, p, distance),

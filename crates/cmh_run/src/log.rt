@@ -5,7 +5,8 @@ ghost use Rattle.cmh_run.specs.Prelude.{Delivery};
 
 use crate::Delivery;
 use crate::tape::Tape;
-use std::alloc::{AllocError, Global};
+use cmh_memory::Allocated;
+use std::alloc::Global;
 
 /// Where the deliveries of a run are kept: all of them in a `Vec`, or none in `NoLog`.
 ///
@@ -20,7 +21,7 @@ pub trait Log: Drop + Sized {
         ensures { deliveries result ≡ [] };
 
     /// Adds a delivery as the last.
-    fn add(&mut self, delivery: Delivery) -> Result<(), AllocError>
+    fn add(&mut self, delivery: Delivery) -> Allocated<()>
         ensures { OnOk result (deliveries self.new ≡ deliveries self.old ++ delivery ∷ []) };
 }
 
@@ -31,7 +32,7 @@ impl Log for Vec<Delivery> {
         Vec::new(alloc)
     }
 
-    fn add(&mut self, delivery: Delivery) -> Result<(), AllocError> {
+    fn add(&mut self, delivery: Delivery) -> Allocated<()> {
         self.push(delivery)?;
         Ok(())
     }
@@ -50,7 +51,7 @@ impl Log for NoLog {
         NoLog { tape: Tape::new() }
     }
 
-    fn add(&mut self, delivery: Delivery) -> Result<(), AllocError> {
+    fn add(&mut self, delivery: Delivery) -> Allocated<()> {
         self.tape = self.tape.append(&delivery);
         Ok(())
     }

@@ -10,8 +10,9 @@ use crate::send::Sender;
 use crate::{Ending, Hints};
 use cmh_graph::laws::law_built_graph;
 use cmh_graph::{Verdict, WaitGraph};
+use cmh_memory::Allocated;
 use cmh_process::{Action, Kind, Message};
-use std::alloc::{AllocError, Global};
+use std::alloc::Global;
 use std::marker::Model;
 
 /// The undelivered messages and the processes of one initiator's computations.
@@ -37,19 +38,19 @@ impl<'g> Model for Network<'g> {
 
 impl<'g> Network<'g> {
     /// The network in which no process has heard of anything.
-    pub(crate) fn nothing_yet(alloc: Global, graph: &WaitGraph) -> Result<Network<'g>, AllocError>
+    pub(crate) fn nothing_yet(alloc: Global, graph: &WaitGraph) -> Allocated<Network<'g>>
         ensures ok { IfOk result (λ n. n ≡ nothing_yet graph.now) }
     {
         Ok(Network {
             bag: Pending::new(alloc),
-            procs: Procs::new(alloc, graph.len() as usize)?,
+            procs: Procs::new(alloc, graph)?,
             number: 0,
             ended: None,
         })
     }
 
     /// The start of a run. An awake initiator sends nothing.
-    pub(crate) fn begin(&mut self, graph: &'g WaitGraph, initiator: u32) -> Result<(), AllocError>
+    pub(crate) fn begin(&mut self, graph: &'g WaitGraph, initiator: u32) -> Allocated<()>
         requires blank { self.old ≡ nothing_yet graph.now }
         requires within { initiator < process_count graph.now }
         ensures ok { OnOk result ((restarts : List ℕ)
@@ -62,7 +63,7 @@ impl<'g> Network<'g> {
     }
 
     /// The initiator starts with its next number.
-    pub(crate) fn start(&mut self, graph: &'g WaitGraph, initiator: u32) -> Result<(), AllocError>
+    pub(crate) fn start(&mut self, graph: &'g WaitGraph, initiator: u32) -> Allocated<()>
         requires { MayStart graph.now self.old initiator }
         ensures ok { OnOk result (self.new ≡ start graph.now initiator self.old) }
     {
@@ -94,7 +95,7 @@ impl<'g> Network<'g> {
 
     /// Takes the message that the choice names out of the bag.
     #[inline(always)]
-    pub(crate) fn take(&mut self, choice: u64) -> Result<Option<Message>, AllocError>
+    pub(crate) fn take(&mut self, choice: u64) -> Allocated<Option<Message>>
         ensures none { IfOk result (λ t. IsNone t ↔ (self.old.bag ≡ [])) }
         ensures unchanged { IfOk result (λ t. IfNone t (self.new ≡ self.old)) }
         ensures taken { IfOk result (λ t. IfSome t (λ m.
@@ -134,7 +135,7 @@ impl<'g> Network<'g> {
         initiator: u32,
         message: Message,
         hint: Option<Verdict>,
-    ) -> Result<(), AllocError>
+    ) -> Allocated<()>
         requires { MayAct graph.now self.old message.to }
         ensures ok { OnOk result (self.new ≡ (if is_awake graph.now message.to
             then self.old
@@ -159,7 +160,7 @@ impl<'g> Network<'g> {
         initiator: u32,
         message: Message,
         hints: &mut H,
-    ) -> Result<Option<Verdict>, AllocError>
+    ) -> Allocated<Option<Verdict>>
         requires may { MayReceive graph.now self.old message }
         requires speaks { H.speaks_of hints.old graph.now }
         ensures fit { IfOk result (HintIsFit graph.now self.old message) }
@@ -187,12 +188,7 @@ impl<'g> Network<'g> {
     /// no message has come before, so it does nothing, and needn't be told from the others.
     #[inline(always)]
     #[tactic(auto, using(crate::proofs::QueryLemmas::answered, crate::proofs::QueryLemmas::replied))]
-    fn receive(
-        &mut self,
-        graph: &'g WaitGraph,
-        initiator: u32,
-        message: Message,
-    ) -> Result<(), AllocError>
+    fn receive(&mut self, graph: &'g WaitGraph, initiator: u32, message: Message) -> Allocated<()>
         requires may { MayReceive graph.now self.old message }
         requires unasked { IsFalse (asks_hint graph.now self.old message) }
         ensures ok { OnOk result ((hint : Option Verdict)
@@ -222,7 +218,7 @@ impl<'g> Network<'g> {
         process: u32,
         engager: u32,
         hint: Option<Verdict>,
-    ) -> Result<(), AllocError>
+    ) -> Allocated<()>
         requires { MayAct graph.now self.old process }
         ensures ok { OnOk result (self.new ≡
             after_hint graph.now initiator self.old (query initiator number engager process) hint) }
@@ -249,7 +245,7 @@ impl<'g> Network<'g> {
         number: u32,
         process: u32,
         engager: u32,
-    ) -> Result<(), AllocError>
+    ) -> Allocated<()>
         requires { MayAct graph.now self.old process }
         ensures ok { OnOk result (self.new ≡ after_engagement initiator self.old
             (query initiator number engager process) (dependents_of graph.now process)) }
@@ -273,7 +269,7 @@ impl<'g> Network<'g> {
         number: u32,
         process: u32,
         engager: u32,
-    ) -> Result<(), AllocError>
+    ) -> Allocated<()>
         requires { MayAct graph.now self.old process }
         ensures ok { OnOk result (self.new ≡ after_engagement initiator self.old
             (query initiator number engager process) (dependents_of graph.now process)) }
@@ -291,7 +287,7 @@ impl<'g> Network<'g> {
         number: u32,
         process: u32,
         engager: u32,
-    ) -> Result<(), AllocError>
+    ) -> Allocated<()>
         requires within { process < length self.old.procs }
         requires going { self.old.ended ≡ None }
         ensures ok { OnOk result (self.new ≡ after_engagement initiator self.old
@@ -309,7 +305,7 @@ impl<'g> Network<'g> {
         process: u32,
         engager: u32,
         asked: &'g [u32],
-    ) -> Result<(), AllocError>
+    ) -> Allocated<()>
         requires within { process < length self.old.procs }
         requires going { self.old.ended ≡ None }
         requires few { length asked.now < 2 ^ 32 }
@@ -329,12 +325,7 @@ impl<'g> Network<'g> {
 
     /// A process sends, ends the run, or does nothing.
     #[inline(always)]
-    fn act(
-        &mut self,
-        sender: Sender,
-        dependents: &'g [u32],
-        action: Action,
-    ) -> Result<(), AllocError>
+    fn act(&mut self, sender: Sender, dependents: &'g [u32], action: Action) -> Allocated<()>
         requires { self.old.ended ≡ None }
         ensures ok { OnOk result (self.new ≡
             after_action sender.initiator self.old sender.number sender.process dependents.now

@@ -10,8 +10,9 @@ use crate::Bag;
 use crate::bag::FEW;
 use crate::send::Sender;
 use cmh_graph::MAX_DEPENDENCIES;
+use cmh_memory::{Allocated, make_place, prepare_queue};
 use cmh_process::{Kind, Message};
-use std::alloc::{AllocError, Global};
+use std::alloc::Global;
 use std::collections::VecDeque;
 use std::marker::Model;
 
@@ -61,7 +62,7 @@ impl<'g> Pending<'g> {
 
     /// Adds the sender's reply to that process as the last message.
     #[inline(always)]
-    pub(crate) fn add_reply(&mut self, sender: Sender, to: u32) -> Result<(), AllocError>
+    pub(crate) fn add_reply(&mut self, sender: Sender, to: u32) -> Allocated<()>
         ensures ok { OnOk result (self.new ≡ self.old
             ++ reply sender.initiator sender.number sender.process to ∷ []) }
     {
@@ -70,11 +71,7 @@ impl<'g> Pending<'g> {
 
     /// Adds the sender's query to each of these, in their order. Where nothing else is undelivered they needn't be queued.
     #[inline(always)]
-    pub(crate) fn add_queries(
-        &mut self,
-        sender: Sender,
-        receivers: &'g [u32],
-    ) -> Result<(), AllocError>
+    pub(crate) fn add_queries(&mut self, sender: Sender, receivers: &'g [u32]) -> Allocated<()>
         ensures ok { OnOk result (self.new ≡ self.old ++ queries_of sender receivers.now) }
     {
         if self.receivers.is_empty() && self.sent.is_empty() && self.bag.is_empty() {
@@ -99,7 +96,7 @@ impl<'g> Pending<'g> {
 
     /// Takes the message at place `choice` modulo the number of messages; the others keep their order.
     #[inline(always)]
-    pub(crate) fn take(&mut self, choice: u64) -> Result<Option<Message>, AllocError>
+    pub(crate) fn take(&mut self, choice: u64) -> Allocated<Option<Message>>
         ensures none { IfOk result (λ t. IsNone t ↔ (self.old ≡ [])) }
         ensures taken { IfOk result (λ t. IfSome t (λ m.
             slice_get self.old (choice % length self.old) ≡ Some m)) }
@@ -116,7 +113,7 @@ impl<'g> Pending<'g> {
     /// Puts the message that the choice names before the others, each of which stands by itself then.
     #[cold]
     #[inline(never)]
-    fn bring_to_front(&mut self, choice: u64) -> Result<(), AllocError>
+    fn bring_to_front(&mut self, choice: u64) -> Allocated<()>
         ensures none { OnOk result (self.old ≡ [] → self.new ≡ []) }
         ensures first { OnOk result ((m : Message)
             → slice_get self.old (choice % length self.old) ≡ Some m
@@ -181,7 +178,7 @@ fn take_alone(bag: &mut Bag) -> Option<Message>
 
 /// Adds what was sent as the last.
 #[inline(always)]
-fn add_sent<'g>(queue: &mut VecDeque<Sent<'g>>, sent: Sent<'g>) -> Result<(), AllocError>
+fn add_sent<'g>(queue: &mut VecDeque<Sent<'g>>, sent: Sent<'g>) -> Allocated<()>
     ensures ok { OnOk result (queue.new.items ≡ queue.old.items ++ sent.entry ∷ []) }
     ensures each { 0 < length (messages_sent sent.entry) → EachSends queue.old.items
         → EachSends queue.new.items }
@@ -196,17 +193,18 @@ fn add_sent<'g>(queue: &mut VecDeque<Sent<'g>>, sent: Sent<'g>) -> Result<(), Al
 /// Makes room in a full queue. It stands apart, so that the loop of a run is short.
 #[cold]
 #[inline(never)]
-fn grow(queue: &mut VecDeque<Sent>) -> Result<(), AllocError>
+fn grow(queue: &mut VecDeque<Sent>) -> Allocated<()>
     ensures items { queue.new.items ≡ queue.old.items }
     ensures room { OnOk result (deque_len queue.new < deque_capacity queue.new) }
 {
-    let few = queue.len() < FEW || queue.capacity() >= MAX_DEPENDENCIES;
-    queue.reserve(if few { 1 } else { MAX_DEPENDENCIES })?;
-    Ok(())
+    if queue.len() >= FEW && queue.capacity() < MAX_DEPENDENCIES {
+        prepare_queue(queue, MAX_DEPENDENCIES);
+    }
+    make_place(queue)
 }
 
 /// Moves what was sent into the bag, where each message stands by itself.
-fn unpack(bag: &mut Bag, queue: &mut VecDeque<Sent>) -> Result<(), AllocError>
+fn unpack(bag: &mut Bag, queue: &mut VecDeque<Sent>) -> Allocated<()>
     ensures all { OnOk result (bag.new ≡ bag.old ++ flat_map messages_sent queue.old.items) }
     ensures none { OnOk result (queue.new.items ≡ []) }
     ensures each { EachSends queue.old.items → EachSends queue.new.items }

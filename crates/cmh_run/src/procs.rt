@@ -3,12 +3,15 @@
 //! Marks that are numbered by run wouldn't have to be cleared, but each look would compare numbers, and these run out.
 
 ghost use Rattle.std.specs.Prelude.{◌≡◌, [], ◌∷◌, ◌++◌, ◌+◌, ◌<◌, ◌^◌, All, length, replicate, slice_set, IfOk, OnOk, if◌then◌else◌};
+ghost use Rattle.cmh_graph.specs.Graph.{process_count};
 ghost use Rattle.cmh_process.specs.Process.{new_proc, proc_started, start_action, engages, proc_queried, query_action, repeat_action, proc_replied, reply_action};
 ghost use Rattle.cmh_run.specs.Prelude.{proc_at};
 ghost use Rattle.cmh_run.specs.Procs.{AreFresh, AreTouched, ProcsView};
 
+use cmh_graph::WaitGraph;
+use cmh_memory::{Allocated, copies};
 use cmh_process::{Action, Proc};
-use std::alloc::{AllocError, Global};
+use std::alloc::Global;
 use std::marker::Model;
 
 /// All processes, and which of them have taken part since they were last cleared: those that are engaged in the last
@@ -29,13 +32,16 @@ impl Model for Procs {
 }
 
 impl Procs {
-    /// `count` processes that have heard of nothing.
+    /// The processes of a graph, which have heard of nothing.
     #[tactic(auto, using(crate::proofs::TouchedProcesses::none_touched))]
-    pub(crate) fn new(alloc: Global, count: usize) -> Result<Procs, AllocError>
-        ensures { IfOk result (λ p. p ≡ record { procs = replicate count new_proc; engaged = [] }) }
+    pub(crate) fn new(alloc: Global, graph: &WaitGraph) -> Allocated<Procs>
+        ensures { IfOk result (λ p. p ≡ record {
+          procs = replicate (process_count graph.now) new_proc;
+          engaged = [];
+        }) }
     {
         Ok(Procs {
-            all: vec![in alloc; Proc::new(); count]?,
+            all: copies(alloc, Proc::new(), graph.len() as usize, graph)?,
             engaged: Vec::new(alloc),
             others: Vec::new(alloc),
         })
@@ -63,7 +69,7 @@ impl Procs {
     }
 
     /// The initiator, which has `size` dependents, starts. It alone is engaged then.
-    pub(crate) fn start(&mut self, initiator: u32, size: u32) -> Result<Action, AllocError>
+    pub(crate) fn start(&mut self, initiator: u32, size: u32) -> Allocated<Action>
         requires within { initiator < length self.old.procs }
         requires next { (proc_at self.old.procs initiator).latest + 1 < 2 ^ 32 }
         ensures procs { OnOk result (self.new.procs
@@ -87,7 +93,7 @@ impl Procs {
         from: u32,
         size: u32,
         is_last: bool,
-    ) -> Result<Action, AllocError>
+    ) -> Allocated<Action>
         requires { k < length self.old.procs }
         ensures procs { OnOk result (self.new.procs
             ≡ slice_set self.old.procs k

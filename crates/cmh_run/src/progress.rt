@@ -7,7 +7,8 @@ use crate::network::Network;
 use crate::{Delivery, Ending, Hints, Log, RunLog};
 use cmh_graph::WaitGraph;
 use cmh_graph::laws::law_built_graph;
-use std::alloc::{AllocError, Global};
+use cmh_memory::Allocated;
+use std::alloc::Global;
 use std::marker::Model;
 
 /// A run on its way, with what was fixed at its start, the deliveries that were made and the restarts that are still to
@@ -55,7 +56,7 @@ impl<'g, 'a, L: Log> Progress<'g, 'a, L> {
         initiator: u32,
         choices: &'a [u64],
         restarts: &'a [u32],
-    ) -> Result<Progress<'g, 'a, L>, AllocError>
+    ) -> Allocated<Progress<'g, 'a, L>>
         requires blank { network ≡ nothing_yet graph.now }
         requires accepted { IsAccepted graph.now initiator choices.now restarts.now }
         ensures same { IfOk result (IsRunState graph.now initiator choices.now) }
@@ -81,7 +82,7 @@ impl<'g, 'a, L: Log> Progress<'g, 'a, L> {
     /// The choice of the next delivery, which is 0 past the last one. The initiator starts again before it, if that is
     /// due.
     #[inline(always)]
-    fn next_choice(&mut self) -> Result<u64, AllocError>
+    fn next_choice(&mut self) -> Allocated<u64>
         requires { (restarts : List ℕ) × IsUnderWay restarts self.old }
         ensures { IfOk result (IsNextChoice self.old self.new) }
     {
@@ -93,7 +94,7 @@ impl<'g, 'a, L: Log> Progress<'g, 'a, L> {
 
     /// `next_choice` while choices or restarts are still to come. It stands apart, so that the loop after them is short.
     #[cold]
-    fn given_choice(&mut self) -> Result<u64, AllocError>
+    fn given_choice(&mut self) -> Allocated<u64>
         requires { (restarts : List ℕ) × IsUnderWay restarts self.old }
         ensures { IfOk result (IsNextChoice self.old self.new) }
     {
@@ -115,7 +116,7 @@ impl<'g, 'a, L: Log> Progress<'g, 'a, L> {
     /// engage. Before that the initiator starts again, if that is due. It answers false where the run has ended or
     /// nothing is undelivered.
     #[inline(always)]
-    pub(crate) fn deliver_next<H: Hints>(&mut self, hints: &mut H) -> Result<bool, AllocError>
+    pub(crate) fn deliver_next<H: Hints>(&mut self, hints: &mut H) -> Allocated<bool>
         requires under_way { (restarts : List ℕ) × IsUnderWay restarts self.old }
         requires speaks { H.speaks_of hints.old self.old.graph }
         ensures same { OnOk result

@@ -7,7 +7,8 @@ use crate::network::Network;
 use crate::progress::Progress;
 use crate::{Hints, Log, MAX_CHOICES, MAX_RESTARTS, RunFault, RunLog};
 use cmh_graph::WaitGraph;
-use std::alloc::{AllocError, Global};
+use cmh_memory::Allocated;
+use std::alloc::Global;
 use std::marker::Model;
 
 /// Makes one run after another over a graph. Its network is made at the first run, and used again: each later run takes
@@ -91,7 +92,7 @@ impl<'a> Runner<'a> {
     }
 
     /// The network of the run before, or a new one.
-    fn take_network(&mut self, alloc: Global) -> Result<Network<'a>, AllocError>
+    fn take_network(&mut self, alloc: Global) -> Allocated<Network<'a>>
         ensures same { self.new ≡ self.old }
         ensures blank { IfOk result (λ n. n ≡ nothing_yet self.old) }
     {
@@ -146,7 +147,7 @@ fn follow<'g, L: Log, H: Hints>(
     choices: &[u64],
     hints: &mut H,
     restarts: &[u32],
-) -> Result<(RunLog<L>, Network<'g>), AllocError>
+) -> Allocated<(RunLog<L>, Network<'g>)>
     requires blank { network ≡ nothing_yet graph.now }
     requires speaks { H.speaks_of hints.old graph.now }
     requires accepted { IsAccepted graph.now initiator choices.now restarts.now }
@@ -168,10 +169,7 @@ fn follow<'g, L: Log, H: Hints>(
 /// Makes one delivery after another, until the run is over. It stands apart, since there its loop is shorter and
 /// faster than in its caller.
 #[inline(never)]
-fn deliver_all<L: Log, H: Hints>(
-    progress: &mut Progress<L>,
-    hints: &mut H,
-) -> Result<(), AllocError>
+fn deliver_all<L: Log, H: Hints>(progress: &mut Progress<L>, hints: &mut H) -> Allocated<()>
     requires under_way { (restarts : List ℕ) × IsUnderWay restarts progress.old }
     requires speaks { H.speaks_of hints.old progress.old.graph }
     ensures same { OnOk result

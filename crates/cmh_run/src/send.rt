@@ -4,8 +4,8 @@ ghost use Rattle.std.specs.Prelude.{◌≡◌, ◌++◌, OnOk};
 ghost use Rattle.cmh_run.specs.Config.{messages_of};
 
 use crate::pending::Pending;
+use cmh_memory::Allocated;
 use cmh_process::{Action, Kind, Message};
-use std::alloc::AllocError;
 
 /// The process that acts, and the computation in which it does.
 #[derive(Clone, Copy)]
@@ -23,7 +23,7 @@ impl Sender {
         bag: &mut Pending<'g>,
         dependents: &'g [u32],
         action: Action,
-    ) -> Result<(), AllocError>
+    ) -> Allocated<()>
         ensures ok { OnOk result (bag.new ≡ bag.old
             ++ messages_of self.initiator self.number self.process dependents.now action) }
     {

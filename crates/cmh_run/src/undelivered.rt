@@ -6,8 +6,9 @@ ghost use Rattle.std.specs.Prelude.{◌≡◌, ◌↔◌, false, not, ◌&&◌, 
 ghost use Rattle.cmh_run.specs.CheckState.{UndeliveredState};
 ghost use Rattle.cmh_run.specs.Prelude.{Message, goes_like, is_waiting};
 
+use cmh_memory::Allocated;
 use cmh_process::{Kind, Message};
-use std::alloc::{AllocError, Global};
+use std::alloc::Global;
 use std::collections::BTreeSet;
 use std::marker::Model;
 
@@ -43,7 +44,7 @@ impl Undelivered {
     }
 
     /// Adds a message, in time logarithmic in their number. Where it is there already, nothing changes.
-    pub(crate) fn add(&mut self, message: Message) -> Result<(), AllocError>
+    pub(crate) fn add(&mut self, message: Message) -> Allocated<()>
         ensures ok { OnOk result ((m : Message) →
             is_waiting self.new m ≡ (goes_like message m || is_waiting self.old m)) }
     {

@@ -3,7 +3,8 @@
 ghost use Rattle.std.specs.Prelude.{◌≡◌};
 ghost use Rattle.cmh_rw.specs.declared.fault.RwFault.TheVariants.{Memory};
 
-use std::alloc::{AllocError, AllocFailed};
+use cmh_memory::{Fault, Refusal};
+use std::alloc::AllocFailed;
 use std::error::Error;
 use std::fmt;
 
@@ -32,10 +33,14 @@ impl fmt::Display for RwFault {
 
 impl Error for RwFault {}
 
-impl From<AllocError> for RwFault {
+impl Fault for RwFault {
+    ghost is_refusal = { λ e. e ≡ Memory };
+}
+
+impl From<Refusal> for RwFault {
     ghost from_gives = { λ _ e. e ≡ Memory };
 
-    fn from(_e: AllocError) -> RwFault {
+    fn from(_e: Refusal) -> RwFault {
         RwFault::Memory
     }
 }

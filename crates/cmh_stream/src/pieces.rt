@@ -2,7 +2,8 @@
 
 ghost use Rattle.std.specs.Prelude.{◌≡◌, ◌<◌, ◌++◌, ◌^◌, [], length, flat_map, IfOk, OnErr, OnOk, string_bytes};
 
-use std::alloc::{AllocError, Global};
+use cmh_memory::{Allocated, joined_len, prepare_text};
+use std::alloc::Global;
 use std::marker::Model;
 
 /// A text in pieces, which stands for the bytes of them all. Nothing is copied to put one piece behind the others, nor
@@ -47,11 +48,11 @@ impl Pieces {
     /// # Errors
     ///
     /// Where memory is refused. No piece was added.
-    pub fn push(&mut self, piece: String) -> Result<(), AllocError>
+    pub fn push(&mut self, piece: String) -> Allocated<()>
         ensures added { OnOk result (self.new ≡ self.old ++ string_bytes piece) }
         ensures same { OnErr result (self.new ≡ self.old) }
     {
-        let len = self.len.checked_add(piece.len()).ok_or(AllocError)?;
+        let len = joined_len(self.len, piece.len())?;
         self.list.push(piece)?;
         self.len = len;
         Ok(())
@@ -62,11 +63,11 @@ impl Pieces {
     /// # Errors
     ///
     /// Where memory is refused. No piece was added.
-    pub fn append(&mut self, other: Pieces) -> Result<(), AllocError>
+    pub fn append(&mut self, other: Pieces) -> Allocated<()>
         ensures added { OnOk result (self.new ≡ self.old ++ other) }
         ensures same { OnErr result (self.new ≡ self.old) }
     {
-        let len = self.len.checked_add(other.len).ok_or(AllocError)?;
+        let len = joined_len(self.len, other.len)?;
         let mut list = other.list;
         self.list.append(&mut list)?;
         self.len = len;
@@ -82,14 +83,15 @@ impl Pieces {
     }
 
     /// The text in one piece. A lone piece is the text; of several, each is given back once it stands in the text.
-    pub fn into_string(self, alloc: Global) -> Result<String, AllocError>
+    pub fn into_string(self, alloc: Global) -> Allocated<String>
         ensures { IfOk result (λ text. string_bytes text ≡ self) }
     {
         let mut list = self.list;
         if list.len() <= 1 {
             return Ok(list.pop().unwrap_or(String::new(alloc)));
         }
-        let mut text = String::with_capacity(alloc, self.len)?;
+        let mut text = String::new(alloc);
+        prepare_text(&mut text, self.len);
         for piece in list {
             text.push_str(&piece)?;
         }

@@ -5,8 +5,9 @@
 
 ghost use Rattle.std.specs.Prelude.{◌≡◌, ◌++◌, [], IfOk, OnOk, flat_map, reverse, string_bytes};
 
+use cmh_memory::Allocated;
 use cmh_stream::Pieces;
-use std::alloc::{AllocError, Global};
+use std::alloc::Global;
 use std::marker::Model;
 use std::mem;
 
@@ -48,7 +49,7 @@ impl BackwardText {
     }
 
     /// Puts a line before the others.
-    pub(crate) fn push(&mut self, alloc: Global, line: String) -> Result<(), AllocError>
+    pub(crate) fn push(&mut self, alloc: Global, line: String) -> Allocated<()>
         ensures { OnOk result (self.new ≡ string_bytes line ++ self.old) }
     {
         self.room = self.room.saturating_add(line.len());
@@ -60,7 +61,7 @@ impl BackwardText {
     }
 
     /// Joins the lines to a piece.
-    fn join(&mut self, alloc: Global) -> Result<(), AllocError>
+    fn join(&mut self, alloc: Global) -> Allocated<()>
         ensures { OnOk result (self.new ≡ self.old) }
     {
         let lines = mem::replace(&mut self.lines, Vec::new(alloc));
@@ -71,7 +72,7 @@ impl BackwardText {
     }
 
     /// The text from its beginning.
-    pub(crate) fn into_pieces(self, alloc: Global) -> Result<Pieces, AllocError>
+    pub(crate) fn into_pieces(self, alloc: Global) -> Allocated<Pieces>
         ensures { IfOk result (λ text. text ≡ self) }
     {
         let mut pieces = Pieces::new(alloc);
@@ -82,7 +83,7 @@ impl BackwardText {
 }
 
 /// The texts one after the other, the last first.
-fn pieces_from_last(alloc: Global, mut texts: Vec<String>) -> Result<Pieces, AllocError>
+fn pieces_from_last(alloc: Global, mut texts: Vec<String>) -> Allocated<Pieces>
     ensures { IfOk result (λ text. text ≡ flat_map (λ s. string_bytes s) (reverse texts.items)) }
 {
     let mut pieces = Pieces::new(alloc);

@@ -15,8 +15,9 @@ use crate::lines::{push_alone, push_group};
 use crate::names::LastNames;
 use crate::sites::Sites;
 use cmh_graph::WaitGraph;
+use cmh_memory::Allocated;
 use cmh_stream::Pieces;
-use std::alloc::{AllocError, Global};
+use std::alloc::Global;
 use std::marker::Model;
 
 /// What the lines of groups are made of.
@@ -67,7 +68,7 @@ impl<'a> GroupLines<'a> {
     }
 
     /// The lines of the groups of these leaders.
-    pub(crate) fn text_of(&mut self, alloc: Global, chunk: &[u32]) -> Result<Pieces, AllocError>
+    pub(crate) fn text_of(&mut self, alloc: Global, chunk: &[u32]) -> Allocated<Pieces>
         requires { All (Contains (leaders self.old)) chunk.now }
         ensures { IfOk result (λ text.
             text ≡ flat_map (λ p. line (group_line self.old p)) chunk.now) }
@@ -81,7 +82,7 @@ impl<'a> GroupLines<'a> {
     }
 
     /// The line of the group of a leader.
-    fn line_of(&mut self, alloc: Global, leader: u32) -> Result<String, AllocError>
+    fn line_of(&mut self, alloc: Global, leader: u32) -> Allocated<String>
         requires { Contains (leaders self.old) leader }
         ensures same { self.new ≡ self.old }
         ensures text { IfOk result (λ text. string_bytes text ≡ line (group_line self.old leader)) }
@@ -99,7 +100,7 @@ impl<'a> GroupLines<'a> {
     }
 
     /// The group of a leader, and what the leader reaches.
-    fn group_of(&self, alloc: Global, leader: u32) -> Result<(Group, LeaderReach), AllocError>
+    fn group_of(&self, alloc: Global, leader: u32) -> Allocated<(Group, LeaderReach)>
         requires { Contains (leaders self.now) leader }
         ensures core { IfOk result (λ made. made.0.core.items ≡ core_of self.now leader) }
         ensures rest { IfOk result (λ made. made.0.rest.items ≡ rest_of self.now leader) }
@@ -122,7 +123,7 @@ impl<'a> GroupLines<'a> {
     }
 
     /// The parts of a leader. The graph is searched once, but for what the base reaches.
-    fn parts_of(&self, alloc: Global, leader: u32) -> Result<GroupParts, AllocError>
+    fn parts_of(&self, alloc: Global, leader: u32) -> Allocated<GroupParts>
         requires { Contains (leaders self.now) leader }
         ensures { IfOk result (AreGroupPartsOf self.now leader) }
     {
@@ -136,12 +137,7 @@ impl<'a> GroupLines<'a> {
     }
 
     /// The parts of a leader that reaches another one. The search continues from what that one reaches.
-    fn parts_from(
-        &self,
-        alloc: Global,
-        leader: u32,
-        base: &LeaderReach,
-    ) -> Result<GroupParts, AllocError>
+    fn parts_from(&self, alloc: Global, leader: u32, base: &LeaderReach) -> Allocated<GroupParts>
         requires leads { Contains (leaders self.now) leader }
         requires base { IsBaseFor self.now leader base.now }
         ensures { IfOk result (AreGroupPartsOf self.now leader) }
@@ -156,12 +152,7 @@ impl<'a> GroupLines<'a> {
     }
 
     /// The parts of a leader with these marks.
-    fn parts_by(
-        &self,
-        alloc: Global,
-        leader: u32,
-        marks: Vec<bool>,
-    ) -> Result<GroupParts, AllocError>
+    fn parts_by(&self, alloc: Global, leader: u32, marks: Vec<bool>) -> Allocated<GroupParts>
         requires leads { Contains (leaders self.now) leader }
         requires marks { marks.items ≡ map (reaches self.now leader) (indices self.now) }
         ensures { IfOk result (AreGroupPartsOf self.now leader) }

@@ -9,7 +9,8 @@ ghost use Rattle.cmh_text.specs.Summary.{AreSummariesOf, leaders_in};
 use crate::summary::Summary;
 use cmh_graph::WaitGraph;
 use cmh_graph::laws::law_built_graph;
-use std::alloc::{AllocError, Global};
+use cmh_memory::Allocated;
+use std::alloc::Global;
 
 /// The leader of each process, and the numbers of the groups.
 #[derive(Drop)]
@@ -28,7 +29,7 @@ impl Groups {
         alloc: Global,
         graph: &WaitGraph,
         summaries: Vec<Summary>,
-    ) -> Result<Groups, AllocError>
+    ) -> Allocated<Groups>
         requires { AreSummariesOf graph.now summaries.items }
         ensures { IfOk result (AreGroupsOf graph.now) }
     {
@@ -47,7 +48,7 @@ fn numbers_and_leaders(
     alloc: Global,
     graph: &WaitGraph,
     summaries: &[Summary],
-) -> Result<(Vec<u32>, Vec<u32>), AllocError>
+) -> Allocated<(Vec<u32>, Vec<u32>)>
     requires { leaders_in summaries.now ≡ map (group_leader graph.now) (indices graph.now) }
     ensures numbers { IfOk result (λ made.
         made.0.items ≡ map (leaders_up_to graph.now) (indices graph.now)) }
@@ -86,7 +87,7 @@ pub(crate) fn core_and_rest(
     summaries: &[Summary],
     leader: u32,
     reach: &[u32],
-) -> Result<(Vec<u32>, Vec<u32>), AllocError>
+) -> Allocated<(Vec<u32>, Vec<u32>)>
     requires { All (λ p. p < length summaries.now) reach.now }
     ensures core { IfOk result (λ parts.
         parts.0.items ≡ filter (is_led_by (leaders_in summaries.now) leader) reach.now) }

@@ -10,8 +10,9 @@ ghost use Rattle.cmh_graph.specs.Path.{reach_of, reaches};
 ghost use Rattle.cmh_text.specs.LeaderReach.{AreGroupPartsOf, HasOneMore, IsLeaderReachOf, IsOneBeyond};
 
 use cmh_graph::laws::law_built_graph;
-use cmh_graph::{WaitGraph, marked_indices, out_of_memory};
-use std::alloc::{AllocError, Global};
+use cmh_graph::{WaitGraph, marked_indices};
+use cmh_memory::{Allocated, refusal_of, room};
+use std::alloc::Global;
 
 /// What a leader reaches.
 #[derive(Drop)]
@@ -36,7 +37,7 @@ pub(crate) fn leader_reach_of(
     alloc: Global,
     graph: &WaitGraph,
     leader: u32,
-) -> Result<LeaderReach, AllocError>
+) -> Allocated<LeaderReach>
     requires { leader < process_count graph.now }
     ensures { IfOk result (IsLeaderReachOf graph.now) }
 {
@@ -57,7 +58,7 @@ pub(crate) fn parts_beyond(
     leader: u32,
     base: &LeaderReach,
     marks: Vec<bool>,
-) -> Result<GroupParts, AllocError>
+) -> Allocated<GroupParts>
     requires { IsOneBeyond graph.now leader base.now marks.items }
     ensures { IfOk result (AreGroupPartsOf graph.now leader) }
 {
@@ -84,13 +85,17 @@ fn reach_beyond(
     leader: u32,
     base: &LeaderReach,
     marks: &[bool],
-) -> Result<Vec<u32>, AllocError>
+) -> Allocated<Vec<u32>>
     requires { IsOneBeyond graph.now leader base.now marks.now }
     ensures { IfOk result (λ reach. reach.items ≡ reach_of graph.now leader) }
 {
     law_built_graph(graph);
     if is_before(leader, &base.reach) {
-        let mut reach = Vec::with_capacity(alloc, base.reach.len().saturating_add(1))?;
+        let mut reach = room(
+            alloc,
+            base.reach.len().saturating_add(1),
+            base.reach.as_slice(),
+        )?;
         reach.push(leader)?;
         reach.extend_from_slice(&base.reach)?;
         return Ok(reach);
@@ -136,7 +141,7 @@ pub(crate) fn reach_of(
     graph: &WaitGraph,
     leader: u32,
     marks: &[bool],
-) -> Result<Vec<u32>, AllocError>
+) -> Allocated<Vec<u32>>
     requires within { leader < process_count graph.now }
     requires marks { marks.now ≡ map (reaches graph.now leader) (indices graph.now) }
     ensures { IfOk result (λ reach. reach.items ≡ reach_of graph.now leader) }
@@ -144,7 +149,7 @@ pub(crate) fn reach_of(
     if graph.dependents(leader).is_empty() {
         return graph
             .reach_of(alloc, leader)
-            .map_err(|fault| out_of_memory(fault));
+            .map_err(|fault| refusal_of(fault));
     }
     law_built_graph(graph);
     marked_indices(alloc, marks)

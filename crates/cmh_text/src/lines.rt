@@ -1,4 +1,4 @@
-//! The lines of the report, each appended to the text before it. The room for a line is reserved at once.
+//! The lines of the report, each appended to the text before it. The room for a line is asked for at once.
 
 ghost use Rattle.std.specs.Prelude.{◌≡◌, ℕ, List, ◌++◌, ◌∷◌, [], ◌<◌, All, OnOk, codes, decimal, string_bytes};
 ghost use Rattle.cmh_graph.specs.Graph.{process_count};
@@ -6,7 +6,8 @@ ghost use Rattle.cmh_text.specs.Report.{line, names_of, names_or_dash, spaced_wo
 
 use crate::groups::Group;
 use crate::names::{LastNames, names_room, push_names};
-use std::alloc::{AllocError, Global};
+use cmh_memory::{Allocated, prepare_text};
+use std::alloc::Global;
 
 /// The room for the words and the numbers of a line, names apart.
 const WORDS_ROOM: usize = 32;
@@ -20,7 +21,7 @@ fn push_names_or_dash(
     text: &mut String,
     list: &[u32],
     last: &mut LastNames,
-) -> Result<(), AllocError>
+) -> Allocated<()>
     requires { All (λ p. p < process_count last.old.graph) list.now }
     ensures graph { last.new.graph ≡ last.old.graph }
     ensures text { OnOk result (string_bytes text.new
@@ -34,28 +35,28 @@ fn push_names_or_dash(
     }
     last.renew(alloc, list)?;
     let names = last.text();
-    text.reserve(names.len().saturating_add(WORDS_ROOM))?;
+    prepare_text(text, names.len().saturating_add(WORDS_ROOM));
     text.push_str(names)
 }
 
 /// Appends the line of a deadlocked process.
-pub(crate) fn push_deadlocked(text: &mut String, name: &str, number: u32) -> Result<(), AllocError>
+pub(crate) fn push_deadlocked(text: &mut String, name: &str, number: u32) -> Allocated<()>
     ensures { OnOk result (string_bytes text.new ≡ string_bytes text.old
         ++ line (codes "deadlocked" ∷ name.now ∷ codes "group" ∷ decimal number ∷ [])) }
 {
-    text.reserve(name.len().saturating_add(WORDS_ROOM))?;
+    prepare_text(text, name.len().saturating_add(WORDS_ROOM));
     write!(text, "deadlocked {name} group {number}\n")
 }
 
 /// Appends the line of a free process with these names on its path, each after a space.
 #[tactic(auto, using(crate::proofs::LineLemmas::free_pieces))]
-pub(crate) fn push_free(text: &mut String, name: &str, names: &str) -> Result<(), AllocError>
+pub(crate) fn push_free(text: &mut String, name: &str, names: &str) -> Allocated<()>
     ensures { OnOk result ((path : List (List ℕ)) → names.now ≡ spaced_words path
         → string_bytes text.new ≡ string_bytes text.old
         ++ line (codes "free" ∷ name.now ∷ codes "path" ∷ path)) }
 {
     let room = names.len().saturating_add(name.len());
-    text.reserve(room.saturating_add(WORDS_ROOM))?;
+    prepare_text(text, room.saturating_add(WORDS_ROOM));
     write!(text, "free {name} path")?;
     text.push_str(names)?;
     text.push_str("\n")?;
@@ -63,12 +64,12 @@ pub(crate) fn push_free(text: &mut String, name: &str, names: &str) -> Result<()
 }
 
 /// Appends the line of a group of one process that waits for nobody.
-pub(crate) fn push_alone(text: &mut String, name: &str, number: u32) -> Result<(), AllocError>
+pub(crate) fn push_alone(text: &mut String, name: &str, number: u32) -> Allocated<()>
     ensures { OnOk result (string_bytes text.new ≡ string_bytes text.old
         ++ line (codes "group" ∷ decimal number ∷ codes "|" ∷ name.now
         ∷ codes "|" ∷ codes "-" ∷ codes "|" ∷ codes "sites" ∷ codes "1" ∷ [])) }
 {
-    text.reserve(name.len().saturating_add(WORDS_ROOM))?;
+    prepare_text(text, name.len().saturating_add(WORDS_ROOM));
     write!(text, "group {number} | {name} | - | sites 1\n")?;
     Ok(())
 }
@@ -80,7 +81,7 @@ pub(crate) fn push_group(
     number: u32,
     group: &Group,
     last: &mut LastNames,
-) -> Result<(), AllocError>
+) -> Allocated<()>
     requires { All (λ p. p < process_count last.old.graph) group.now.core.items
         × All (λ p. p < process_count last.old.graph) group.now.rest.items }
     ensures graph { last.new.graph ≡ last.old.graph }
@@ -91,7 +92,10 @@ pub(crate) fn push_group(
         ++ codes "|" ∷ codes "sites" ∷ decimal group.now.site_count ∷ [])) }
 {
     let graph = last.graph;
-    text.reserve(names_room(graph, &group.core).saturating_add(WORDS_ROOM))?;
+    prepare_text(
+        text,
+        names_room(graph, &group.core).saturating_add(WORDS_ROOM),
+    );
     write!(text, "group {number} |")?;
     push_names(text, graph, &group.core)?;
     text.push_str(" |")?;

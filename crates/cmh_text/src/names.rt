@@ -9,7 +9,8 @@ ghost use Rattle.cmh_graph.specs.Graph.{process_count};
 ghost use Rattle.cmh_text.specs.Report.{names_of, spaced_words};
 
 use cmh_graph::WaitGraph;
-use std::alloc::{AllocError, Global};
+use cmh_memory::{Allocated, prepare_text};
+use std::alloc::Global;
 use std::marker::Model;
 use std::mem;
 
@@ -48,7 +49,7 @@ impl<'a> LastNames<'a> {
 
     /// Goes over to another list. Names that both lists end with stay in the text. Where memory is refused, no names are
     /// left.
-    pub(crate) fn renew(&mut self, alloc: Global, list: &[u32]) -> Result<(), AllocError>
+    pub(crate) fn renew(&mut self, alloc: Global, list: &[u32]) -> Allocated<()>
         requires { All (λ p. p < process_count self.old.graph) list.now }
         ensures graph { self.new.graph ≡ self.old.graph }
         ensures list { OnOk result (self.new.list ≡ list.now) }
@@ -62,7 +63,8 @@ impl<'a> LastNames<'a> {
         } = mem::replace(self, none);
         let kept = kept_count(&old, list);
         let added = &list[..list.len() - kept];
-        let mut front = String::with_capacity(alloc, names_room(graph, added))?;
+        let mut front = String::new(alloc);
+        prepare_text(&mut front, names_room(graph, added));
         push_names(&mut front, graph, added)?;
         let cut = names_room(graph, &old[..old.len() - kept]);
         text.replace_range(..cut, &front)?;
@@ -84,7 +86,7 @@ impl<'a> LastNames<'a> {
     }
 
     /// Puts a process before the list. Where memory is refused, no names are left.
-    pub(crate) fn put_before(&mut self, alloc: Global, p: u32) -> Result<(), AllocError>
+    pub(crate) fn put_before(&mut self, alloc: Global, p: u32) -> Allocated<()>
         requires { p < process_count self.old.graph }
         ensures graph { self.new.graph ≡ self.old.graph }
         ensures list { OnOk result (self.new.list ≡ p ∷ self.old.list) }
@@ -129,11 +131,7 @@ fn kept_count(old: &[u32], new: &[u32]) -> usize
 }
 
 /// Appends the name of each process after a space.
-pub(crate) fn push_names(
-    text: &mut String,
-    graph: &WaitGraph,
-    list: &[u32],
-) -> Result<(), AllocError>
+pub(crate) fn push_names(text: &mut String, graph: &WaitGraph, list: &[u32]) -> Allocated<()>
     requires { All (λ p. p < process_count graph.now) list.now }
     ensures { OnOk result (string_bytes text.new
         ≡ string_bytes text.old ++ spaced_words (names_of graph.now list.now)) }

@@ -8,7 +8,8 @@ ghost use Rattle.cmh_text.specs.Summary.{AreSummariesOf};
 use crate::groups::Groups;
 use crate::summary::Summary;
 use cmh_graph::WaitGraph;
-use std::alloc::{AllocError, Global};
+use cmh_memory::Allocated;
+use std::alloc::Global;
 
 /// What the text takes from an analysis: the groups of deadlocked processes, and the counts of the first line. The
 /// analysis isn't needed once this is made.
@@ -36,7 +37,7 @@ impl Outline {
         summaries: Vec<Summary>,
         idle: u32,
         deadlocked: u32,
-    ) -> Result<Outline, AllocError>
+    ) -> Allocated<Outline>
         requires summaries { AreSummariesOf graph.now summaries.items }
         requires idle { idle ≡ length (idle_list graph.now) }
         requires deadlocked { deadlocked ≡ deadlocked_count graph.now }
@@ -61,13 +62,7 @@ impl Outline {
 }
 
 /// A line of counts.
-fn counts(
-    alloc: Global,
-    all: u32,
-    active: u32,
-    idle: u32,
-    deadlocked: u32,
-) -> Result<String, AllocError>
+fn counts(alloc: Global, all: u32, active: u32, idle: u32, deadlocked: u32) -> Allocated<String>
     ensures { IfOk result (λ text.
         string_bytes text ≡ line (counts_line all active idle deadlocked)) }
 {

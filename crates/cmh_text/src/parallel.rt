@@ -13,10 +13,11 @@ use crate::group_lines::GroupLines;
 use crate::groups::Groups;
 use crate::process_lines::ProcessLines;
 use crate::shared_reach::greatest_reach;
-use cmh_graph::{WaitGraph, out_of_memory};
+use cmh_graph::WaitGraph;
+use cmh_memory::{Allocated, refusal_of};
 use cmh_stream::Pieces;
 use rayon::prelude::*;
-use std::alloc::{AllocError, Global};
+use std::alloc::Global;
 use std::thread::Threads;
 
 /// The lines of the idle processes, in chunks.
@@ -25,26 +26,24 @@ pub(crate) fn process_lines<R: Threads + Sync>(
     alloc: Global,
     graph: &WaitGraph,
     groups: &Groups,
-) -> Result<Vec<Pieces>, AllocError>
+) -> Allocated<Vec<Pieces>>
     requires { AreGroupsOf graph.now groups.now }
     ensures { IfOk result (λ texts. flat_map (λ t. t) texts.items
         ≡ flat_map line (map (process_line graph.now) (idle_list graph.now))) }
 {
-    let idle = graph
-        .idle_list(alloc)
-        .map_err(|fault| out_of_memory(fault))?;
+    let idle = graph.idle_list(alloc).map_err(|fault| refusal_of(fault))?;
     idle.as_slice()
         .par_chunks(process_chunk(idle.len(), &groups.summaries))
         .with_min_len(1)
         .map(
-            |chunk: &[u32]| -> Result<Pieces, AllocError>
+            |chunk: &[u32]| -> Allocated<Pieces>
                 requires { AreGroupsOf graph.now groups.now
                     × All (λ p. IsTrue (is_idle graph.now p)) chunk.now }
                 ensures { IfOk result (λ text. text
                     ≡ flat_map (λ p. line (process_line graph.entry.now p)) chunk.now) }
             { ProcessLines::new(alloc, graph, groups).text_of(alloc, chunk) },
         )
-        .collect::<Result<Vec<Pieces>, AllocError>>(rt, alloc)?
+        .collect::<Allocated<Vec<Pieces>>>(rt, alloc)?
 }
 
 /// The lines of the groups, in chunks.
@@ -53,7 +52,7 @@ pub(crate) fn group_lines<R: Threads + Sync>(
     alloc: Global,
     graph: &WaitGraph,
     groups: &Groups,
-) -> Result<Vec<Pieces>, AllocError>
+) -> Allocated<Vec<Pieces>>
     requires { AreGroupsOf graph.now groups.now }
     ensures { IfOk result (λ texts. flat_map (λ t. t) texts.items
         ≡ flat_map line (map (group_line graph.now) (leaders graph.now))) }
@@ -66,7 +65,7 @@ pub(crate) fn group_lines<R: Threads + Sync>(
         .par_chunks(group_chunk(graph, groups.list.len()))
         .with_min_len(1)
         .map(
-            |chunk: &[u32]| -> Result<Pieces, AllocError>
+            |chunk: &[u32]| -> Allocated<Pieces>
                 requires { AreGroupsOf graph.now groups.now
                     × IfSome shared.now (IsLeaderReachOf graph.now)
                     × All (Contains (leaders graph.now)) chunk.now }
@@ -74,5 +73,5 @@ pub(crate) fn group_lines<R: Threads + Sync>(
                     ≡ flat_map (λ p. line (group_line graph.entry.now p)) chunk.now) }
             { GroupLines::new(alloc, graph, groups, shared).text_of(alloc, chunk) },
         )
-        .collect::<Result<Vec<Pieces>, AllocError>>(rt, alloc)?
+        .collect::<Allocated<Vec<Pieces>>>(rt, alloc)?
 }

@@ -9,7 +9,8 @@ use crate::names::LastNames;
 use crate::summary::Summary;
 use cmh_graph::WaitGraph;
 use cmh_graph::laws::law_built_graph;
-use std::alloc::{AllocError, Global};
+use cmh_memory::{Allocated, room};
+use std::alloc::Global;
 use std::marker::Model;
 
 /// The path of the last free process, and the names on it.
@@ -53,7 +54,7 @@ impl<'a> LastPath<'a> {
         p: u32,
         next: Option<u32>,
         count: usize,
-    ) -> Result<(), AllocError>
+    ) -> Allocated<()>
         requires { summary_of self.old.graph p ≡ Summary.Free next count }
         ensures graph { self.new.graph ≡ self.old.graph }
         ensures path { OnOk result (chosen_path self.old.graph p ≡ Some self.new.list) }
@@ -71,18 +72,12 @@ impl<'a> LastPath<'a> {
     }
 
     /// The chosen path of a free process: the process, and then the path of the one after it.
-    fn path_of(
-        &self,
-        alloc: Global,
-        p: u32,
-        next: Option<u32>,
-        count: usize,
-    ) -> Result<Vec<u32>, AllocError>
+    fn path_of(&self, alloc: Global, p: u32, next: Option<u32>, count: usize) -> Allocated<Vec<u32>>
         requires { summary_of self.now.graph p ≡ Summary.Free next count }
         ensures { IfOk result (λ path. chosen_path self.now.graph p ≡ Some path.items) }
     {
         law_built_graph(self.graph);
-        let mut path = Vec::with_capacity(alloc, count)?;
+        let mut path = room(alloc, count.min(self.summaries.len()), self.summaries)?;
         path.push(p)?;
         let mut next = next;
         while path.len() < count {

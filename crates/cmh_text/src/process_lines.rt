@@ -11,8 +11,9 @@ use crate::lines::{push_deadlocked, push_free};
 use crate::paths::LastPath;
 use crate::summary::Summary;
 use cmh_graph::WaitGraph;
+use cmh_memory::Allocated;
 use cmh_stream::Pieces;
-use std::alloc::{AllocError, Global};
+use std::alloc::Global;
 use std::marker::Model;
 
 /// What the lines of idle processes are made of.
@@ -49,7 +50,7 @@ impl<'a> ProcessLines<'a> {
     }
 
     /// The lines of these idle processes.
-    pub(crate) fn text_of(&mut self, alloc: Global, chunk: &[u32]) -> Result<Pieces, AllocError>
+    pub(crate) fn text_of(&mut self, alloc: Global, chunk: &[u32]) -> Allocated<Pieces>
         requires { All (λ p. IsTrue (is_idle self.old p)) chunk.now }
         ensures { IfOk result (λ text.
             text ≡ flat_map (λ p. line (process_line self.old p)) chunk.now) }
@@ -63,7 +64,7 @@ impl<'a> ProcessLines<'a> {
     }
 
     /// The line of an idle process.
-    fn line_of(&mut self, alloc: Global, p: u32) -> Result<String, AllocError>
+    fn line_of(&mut self, alloc: Global, p: u32) -> Allocated<String>
         requires { IsTrue (is_idle self.old p) }
         ensures same { self.new ≡ self.old }
         ensures text { IfOk result (λ text. string_bytes text ≡ line (process_line self.old p)) }

@@ -11,14 +11,15 @@ use crate::groups::Groups;
 use crate::leader_reach::{LeaderReach, leader_reach_of};
 use crate::summary::Summary;
 use cmh_graph::WaitGraph;
-use std::alloc::{AllocError, Global};
+use cmh_memory::{Allocated, copies};
+use std::alloc::Global;
 
 /// What the leader of the greatest group reaches, if there is one. The graph is searched once.
 pub(crate) fn greatest_reach(
     alloc: Global,
     graph: &WaitGraph,
     groups: &Groups,
-) -> Result<Option<LeaderReach>, AllocError>
+) -> Allocated<Option<LeaderReach>>
     requires { AreGroupsOf graph.now groups.now }
     ensures { IfOk result (λ known. IfSome known (IsLeaderReachOf graph.now)) }
 {
@@ -29,7 +30,7 @@ pub(crate) fn greatest_reach(
 }
 
 /// The leader of the most processes, if there is one.
-fn leader_of_most(alloc: Global, groups: &Groups) -> Result<Option<u32>, AllocError>
+fn leader_of_most(alloc: Global, groups: &Groups) -> Allocated<Option<u32>>
     ensures { IfOk result (λ leader. IfSome leader (λ l. Contains groups.now.list.items l)) }
 {
     let counts = led_counts(alloc, &groups.summaries)?;
@@ -46,8 +47,8 @@ fn leader_of_most(alloc: Global, groups: &Groups) -> Result<Option<u32>, AllocEr
 }
 
 /// For each process how many it leads.
-fn led_counts(alloc: Global, summaries: &[Summary]) -> Result<Vec<u32>, AllocError> {
-    let mut counts = vec![in alloc; 0u32; summaries.len()]?;
+fn led_counts(alloc: Global, summaries: &[Summary]) -> Allocated<Vec<u32>> {
+    let mut counts = copies(alloc, 0u32, summaries.len(), summaries)?;
     for summary in summaries {
         if let Some(leader) = summary.leader() {
             if let Some(count) = counts.get_mut(leader as usize) {

@@ -6,7 +6,8 @@ ghost use Rattle.cmh_text.specs.Report.{site_count};
 ghost use Rattle.cmh_text.specs.Sites.{AreSitesBelow};
 
 use cmh_graph::{MAX_PROCESSES, WaitGraph};
-use std::alloc::{AllocError, Global};
+use cmh_memory::{Allocated, Need, copies};
+use std::alloc::Global;
 use std::collections::HashSet;
 use std::marker::Model;
 
@@ -29,6 +30,13 @@ impl<'a> Model for Sites<'a> {
     ghost invariant = { λ s. AreSitesBelow s.graph.now s.bound };
 }
 
+/// What has a mark for each site, of which there are few.
+impl<'s, 'a> Need for &'s Sites<'a> {
+    ghost use Rattle.cmh_graph.specs.declared.TheConstants.{MAX_PROCESSES};
+
+    ghost needed = { λ _. MAX_PROCESSES };
+}
+
 impl<'a> Sites<'a> {
     /// Looks at the site of each process.
     pub(crate) fn new(graph: &'a WaitGraph) -> Sites<'a>
@@ -40,24 +48,16 @@ impl<'a> Sites<'a> {
         }
     }
 
-    /// How many different sites the processes are on.
-    pub(crate) fn count(&self, alloc: Global, list: &[u32]) -> Result<usize, AllocError>
+    /// How many different sites the processes are on, by a mark for each site below the bound, which costs least. Where
+    /// all of them are marked it stops.
+    pub(crate) fn count(&self, alloc: Global, list: &[u32]) -> Allocated<usize>
         requires { All (λ p. p < process_count self.now) list.now }
         ensures { IfOk result (λ count. count ≡ site_count self.now list.now) }
     {
-        if self.bound <= MAX_PROCESSES {
-            self.count_marked(alloc, list)
-        } else {
-            self.count_hashed(alloc, list)
+        if self.bound > MAX_PROCESSES {
+            return self.count_hashed(alloc, list);
         }
-    }
-
-    /// The same by a mark for each site below the bound, which costs least. Where all of them are marked it stops.
-    fn count_marked(&self, alloc: Global, list: &[u32]) -> Result<usize, AllocError>
-        requires { All (λ p. p < process_count self.now) list.now }
-        ensures { IfOk result (λ count. count ≡ site_count self.now list.now) }
-    {
-        let mut seen = vec![in alloc; false; self.bound]?;
+        let mut seen = copies(alloc, false, self.bound, self)?;
         let mut sites = Vec::new(alloc);
         for p in list {
             if sites.len() == self.bound {
@@ -73,7 +73,7 @@ impl<'a> Sites<'a> {
     }
 
     /// The same by a set, where the numbers of sites are great.
-    fn count_hashed(&self, alloc: Global, list: &[u32]) -> Result<usize, AllocError>
+    fn count_hashed(&self, alloc: Global, list: &[u32]) -> Allocated<usize>
         requires { All (λ p. p < process_count self.now) list.now }
         ensures { IfOk result (λ count. count ≡ site_count self.now list.now) }
     {

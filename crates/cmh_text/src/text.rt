@@ -7,8 +7,9 @@ ghost use Rattle.cmh_text.specs.Report.{report_text};
 use crate::outline::Outline;
 use crate::parallel::{group_lines, process_lines};
 use cmh_graph::WaitGraph;
+use cmh_memory::Allocated;
 use cmh_stream::Pieces;
-use std::alloc::{AllocError, Global};
+use std::alloc::Global;
 use std::thread::Threads;
 
 /// The most bytes of a text that is worth a copy to be in one piece.
@@ -29,7 +30,7 @@ pub fn text_of<R: Threads + Sync>(
     alloc: Global,
     graph: &WaitGraph,
     outline: &Outline,
-) -> Result<Pieces, AllocError>
+) -> Allocated<Pieces>
     requires { IsOutlineOf graph.now outline.now }
     ensures { IfOk result (λ text. text ≡ report_text graph.now) }
 {
@@ -44,7 +45,7 @@ fn concat_lines(
     first: &str,
     of_processes: Vec<Pieces>,
     of_groups: Vec<Pieces>,
-) -> Result<Pieces, AllocError>
+) -> Allocated<Pieces>
     ensures { IfOk result (λ text. text ≡ first.now
         ++ flat_map (λ t. t) of_processes.items
         ++ flat_map (λ t. t) of_groups.items) }
@@ -57,7 +58,7 @@ fn concat_lines(
 }
 
 /// Puts the texts behind the pieces, in their order.
-fn append_each(pieces: &mut Pieces, texts: Vec<Pieces>) -> Result<(), AllocError>
+fn append_each(pieces: &mut Pieces, texts: Vec<Pieces>) -> Allocated<()>
     ensures { OnOk result (pieces.new ≡ pieces.old ++ flat_map (λ t. t) texts.items) }
 {
     for text in texts {
@@ -67,7 +68,7 @@ fn append_each(pieces: &mut Pieces, texts: Vec<Pieces>) -> Result<(), AllocError
 }
 
 /// A short text in one piece, so that one write puts all of it or nothing.
-fn as_one_piece_if_short(alloc: Global, text: Pieces) -> Result<Pieces, AllocError>
+fn as_one_piece_if_short(alloc: Global, text: Pieces) -> Allocated<Pieces>
     ensures { IfOk result (λ same. same ≡ text) }
 {
     if text.len() > SHORT {

@@ -10,7 +10,6 @@ ghost use Rattle.cmh_rw.specs.declared.TheConstants.{MAX_SEATS};
 ghost use Rattle.cmh_board.specs.Board.{board_view};
 
 use crate::chunks::chunk_bounds;
-use crate::fault::{board_out_of_memory, tickets_out_of_memory};
 use crate::job::{Seats, Shared};
 use crate::number::number_all;
 use crate::record::Analysis;
@@ -18,11 +17,12 @@ use crate::shapes::Shapes;
 use crate::workers::workers;
 use crate::{Gate, WorkFault};
 use cmh_board::Board;
+use cmh_graph::WaitGraph;
 use cmh_graph::laws::law_built_graph;
-use cmh_graph::{WaitGraph, out_of_memory};
+use cmh_memory::{Allocated, refusal_of};
 use cmh_plan::{Plan, TicketSeat, Tickets};
 use cmh_run::{Log, ProcessList, RunLog};
-use std::alloc::{AllocError, Global};
+use std::alloc::Global;
 use std::sync::Wait;
 use std::thread::Threads;
 
@@ -74,12 +74,10 @@ pub fn analyse_with<
     ensures ok { IfOk result (IsAnalysisOf P.processes graph.now plan.now.choices) }
     ensures memory { IfErr result (λ e. e ≡ WorkFault.Memory) }
 {
-    let idle = graph
-        .idle_list(alloc)
-        .map_err(|fault| out_of_memory(fault))?;
+    let idle = graph.idle_list(alloc).map_err(|fault| refusal_of(fault))?;
     let bounds = chunk_bounds(alloc, plan.cuts(), idle.len())?;
     let shapes = Shapes::of_graph(alloc, graph)?;
-    let (board, board_seat) = Board::open(alloc, graph).map_err(board_out_of_memory)?;
+    let (board, board_seat) = Board::open(alloc, graph).map_err(|fault| refusal_of(fault))?;
     let (tickets, ticket_seat) = open_tickets(alloc, plan)?;
     let shared = Shared {
         idle,
@@ -96,13 +94,13 @@ pub fn analyse_with<
 }
 
 /// Tickets for the chunks of the plan, of which there is one more than cuts.
-fn open_tickets(alloc: Global, plan: &Plan) -> Result<(Tickets, TicketSeat), AllocError>
+fn open_tickets(alloc: Global, plan: &Plan) -> Allocated<(Tickets, TicketSeat)>
     ensures { IfOk result (λ r.
         IsTicketSeatOf r.0 r.1 × (chunk_count r.0 ≡ length plan.now.cuts + 1)
         × (ticket_view r.1 ≡ ticket_opening_view (length plan.now.cuts + 1))) }
 {
     let chunks = plan.cuts().len() as u32 + 1;
-    Tickets::open(alloc, chunks).map_err(tickets_out_of_memory)
+    Tickets::open(alloc, chunks).map_err(|fault| refusal_of(fault))
 }
 
 /// The analysis, by workers that share this.
@@ -120,7 +118,7 @@ fn finish<
     shared: Shared,
     gate: &G,
     seats: Seats,
-) -> Result<Analysis<RunLog<L, E>, P>, AllocError>
+) -> Allocated<Analysis<RunLog<L, E>, P>>
     requires made { IsMadeFor graph.now plan.now shared }
     requires sit { AreSeated shared seats }
     requires new { AreNew seats }
@@ -136,7 +134,7 @@ fn finish<
     let history = shared
         .board
         .close(alloc, seats.board)
-        .map_err(board_out_of_memory)?;
-    let records = number_all(alloc, &history, graph.len(), found)?;
+        .map_err(|fault| refusal_of(fault))?;
+    let records = number_all(alloc, &history, graph, found)?;
     Ok(Analysis { records, history })
 }

@@ -4,18 +4,15 @@ ghost use Rattle.std.specs.Prelude.{◌≡◌, ◌+◌, ◌<◌, ◌≤◌, [], 
 ghost use Rattle.cmh_work.specs.Cutting.{chunks_of, bounds_of};
 
 use crate::job::Job;
-use std::alloc::{AllocError, Global};
+use cmh_memory::{Allocated, room};
+use std::alloc::Global;
 
 /// Where each chunk of a list of this length begins, and where the last one ends. The sum of the cuts may be any: a cut
 /// takes at most what is left.
-pub(crate) fn chunk_bounds(
-    alloc: Global,
-    cuts: &[u64],
-    size: usize,
-) -> Result<Vec<usize>, AllocError>
+pub(crate) fn chunk_bounds(alloc: Global, cuts: &[u64], size: usize) -> Allocated<Vec<usize>>
     ensures { IfOk result (λ bounds. bounds.items ≡ bounds_of cuts.now size) }
 {
-    let mut bounds = Vec::with_capacity(alloc, cuts.len() + 2)?;
+    let mut bounds = room(alloc, cuts.len() + 2, cuts)?;
     bounds.push_reserved(0);
     let mut at = 0;
     for cut in cuts {

@@ -2,14 +2,9 @@
 
 ghost use Rattle.std.specs.Prelude.{◌≡◌};
 ghost use Rattle.cmh_work.specs.declared.fault.WorkFault.TheVariants as work;
-ghost use Rattle.cmh_run.specs.declared.fault.RunFault.TheVariants as run;
-ghost use Rattle.cmh_board.specs.declared.fault.BoardFault.TheVariants as board;
-ghost use Rattle.cmh_plan.specs.declared.fault.PlanFault.TheVariants as plan;
 
-use cmh_board::BoardFault;
-use cmh_plan::PlanFault;
-use cmh_run::RunFault;
-use std::alloc::{AllocError, AllocFailed};
+use cmh_memory::Refusal;
+use std::alloc::AllocFailed;
 use std::error::Error;
 use std::fmt;
 
@@ -39,10 +34,10 @@ impl fmt::Display for WorkFault {
 
 impl Error for WorkFault {}
 
-impl From<AllocError> for WorkFault {
+impl From<Refusal> for WorkFault {
     ghost from_gives = { λ _ e. e ≡ work.Memory };
 
-    fn from(_e: AllocError) -> WorkFault {
+    fn from(_e: Refusal) -> WorkFault {
         WorkFault::Memory
     }
 }
@@ -53,25 +48,4 @@ impl<T: Drop> From<AllocFailed<T>> for WorkFault {
     fn from(_e: AllocFailed<T>) -> WorkFault {
         WorkFault::Memory
     }
-}
-
-/// The fault of a run that was refused memory, as the fault of an allocator.
-pub(crate) fn run_out_of_memory(_fault: RunFault) -> AllocError
-    requires { _fault ≡ run.Memory }
-{
-    AllocError
-}
-
-/// The fault of a board that was refused memory, as the fault of an allocator.
-pub(crate) fn board_out_of_memory(_fault: BoardFault) -> AllocError
-    requires { _fault ≡ board.Memory }
-{
-    AllocError
-}
-
-/// The fault of tickets that were refused memory, as the fault of an allocator.
-pub(crate) fn tickets_out_of_memory(_fault: PlanFault) -> AllocError
-    requires { _fault ≡ plan.Memory }
-{
-    AllocError
 }

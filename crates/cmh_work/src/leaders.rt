@@ -12,13 +12,14 @@ ghost use Rattle.cmh_work.specs.Shape.{AreShapesOf};
 use crate::shapes::Shapes;
 use cmh_graph::WaitGraph;
 use cmh_graph::laws::law_built_graph;
-use std::alloc::{AllocError, Global};
+use cmh_memory::{Allocated, copies};
+use std::alloc::Global;
 
 /// A table in which no process has a leader yet.
-pub(crate) fn no_leaders(alloc: Global, graph: &WaitGraph) -> Result<Vec<Option<u32>>, AllocError>
+pub(crate) fn no_leaders(alloc: Global, graph: &WaitGraph) -> Allocated<Vec<Option<u32>>>
     ensures { IfOk result (λ leaders. KnowsLeaders graph.now leaders.items) }
 {
-    Ok(vec![in alloc; None; graph.len() as usize]?)
+    Ok(copies(alloc, None, graph.len() as usize, graph)?)
 }
 
 /// The leader of a process: what stands in the table, or the process itself where it is seen to be a core alone. Else
@@ -30,7 +31,7 @@ pub(crate) fn find_leader(
     shapes: &Shapes,
     leaders: &mut Vec<Option<u32>>,
     p: u32,
-) -> Result<u32, AllocError>
+) -> Allocated<u32>
     requires within { p < process_count graph.now }
     requires shapes { AreShapesOf graph.now shapes.now }
     requires leaders { KnowsLeaders graph.now leaders.old.items }

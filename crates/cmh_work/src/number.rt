@@ -1,6 +1,7 @@
 //! Records as they are given out: each names its run, or its row of the closed history.
 
 ghost use Rattle.std.specs.Prelude.{◌≡◌, ℕ, ◌<◌, ◌^◌, List, length, slice_index, All, Some, IfOk};
+ghost use Rattle.cmh_graph.specs.Graph.{process_count};
 ghost use Rattle.cmh_graph.specs.declared.verdict.Verdict.{Verdict};
 ghost use Rattle.cmh_rw.specs.declared.row.Row.{Row};
 ghost use Rattle.cmh_rw.specs.History.{fold_at};
@@ -10,19 +11,21 @@ ghost use Rattle.cmh_work.specs.Numbering.{IsNumbered, AreNumbered};
 use crate::finding::Finding;
 use crate::record::{Origin, Record};
 use cmh_board::Row;
-use std::alloc::{AllocError, Global};
+use cmh_graph::WaitGraph;
+use cmh_memory::{Allocated, copies};
+use std::alloc::Global;
 
-/// For each of `count` processes the number of its row, if it stands in the history. It goes from the last row to the
+/// For each process of the graph the number of its row, if it stands in the history. It goes from the last row to the
 /// first, so that a process's first row stays.
-fn row_numbers(alloc: Global, history: &[Row], count: u32) -> Result<Vec<u32>, AllocError>
-    requires within { All (λ row. row.process < count) history.now }
+fn row_numbers(alloc: Global, history: &[Row], graph: &WaitGraph) -> Allocated<Vec<u32>>
+    requires within { All (λ row. row.process < process_count graph.now) history.now }
     requires few { length history.now < 2 ^ 32 }
     ensures within { IfOk result (λ numbers. (p : ℕ) (v : Verdict)
         → fold_at history.now p ≡ Some v → p < length numbers.items) }
     ensures rows { IfOk result (λ numbers. (p : ℕ) (v : Verdict) → fold_at history.now p ≡ Some v
         → IsRowFor history.now (slice_index numbers.items p) p v) }
 {
-    let mut numbers = vec![in alloc; 0; count as usize]?;
+    let mut numbers = copies(alloc, 0, graph.len() as usize, graph)?;
     for n in (0..history.len()).rev() {
         numbers[history[n].process as usize] = n as u32;
     }
@@ -52,19 +55,19 @@ fn number_one<R: Drop, P: Drop>(row: u32, finding: Finding<R, P>) -> Record<R, P
     }
 }
 
-/// Each finding as a record. The history is of `count` processes.
+/// Each finding as a record. The history is of the graph's processes.
 pub(crate) fn number_all<R: Drop, P: Drop>(
     alloc: Global,
     history: &[Row],
-    count: u32,
+    graph: &WaitGraph,
     found: Vec<Finding<R, P>>,
-) -> Result<Vec<Record<R, P>>, AllocError>
-    requires within { All (λ row. row.process < count) history.now }
+) -> Allocated<Vec<Record<R, P>>>
+    requires within { All (λ row. row.process < process_count graph.now) history.now }
     requires few { length history.now < 2 ^ 32 }
     requires stand { All (λ f. fold_at history.now f.initiator ≡ Some f.verdict) found.items }
     ensures { IfOk result (λ records. AreNumbered history.now found.items records.items) }
 {
-    let numbers = row_numbers(alloc, history, count)?;
+    let numbers = row_numbers(alloc, history, graph)?;
     let mut records = Vec::new(alloc);
     for finding in found {
         let row = numbers[finding.initiator as usize];

@@ -7,8 +7,9 @@ use crate::leaders::find_leader;
 use crate::record::Shape;
 use cmh_graph::laws::law_built_graph;
 use cmh_graph::{Predecessors, Verdict, WaitGraph};
+use cmh_memory::Allocated;
 use cmh_run::ProcessList;
-use std::alloc::{AllocError, Global};
+use std::alloc::Global;
 
 /// What the shapes of all records are read from. It is found once, and the workers share it.
 #[derive(Drop)]
@@ -27,7 +28,7 @@ impl Shapes {
 
     /// Searches the graph once for all distances, and once for cores that are one process. It takes time and memory
     /// linear in processes and dependencies.
-    pub(crate) fn of_graph(alloc: Global, graph: &WaitGraph) -> Result<Shapes, AllocError>
+    pub(crate) fn of_graph(alloc: Global, graph: &WaitGraph) -> Allocated<Shapes>
         ensures { IfOk result (AreShapesOf graph.now) }
     {
         let predecessors = Predecessors::of_graph(alloc, graph)?;
@@ -50,7 +51,7 @@ impl Shapes {
         leaders: &mut Vec<Option<u32>>,
         p: u32,
         known: Verdict,
-    ) -> Result<Shape<P>, AllocError>
+    ) -> Allocated<Shape<P>>
         requires shapes { AreShapesOf graph.now self.now }
         requires leaders { KnowsLeaders graph.now leaders.old.items }
         requires within { p < process_count graph.now }

@@ -19,15 +19,15 @@ ghost use Rattle.cmh_work.specs.Working.{IsMadeFor, AreSeated, AreNew, AreBack, 
 
 use crate::Gate;
 use crate::chunks::chunk_at;
-use crate::fault::run_out_of_memory;
 use crate::finding::{Answer, Finding};
 use crate::job::{Job, Seats, Shared};
 use crate::leaders::no_leaders;
 use cmh_board::{BoardHints, Look, Posting};
 use cmh_graph::{Verdict, WaitGraph};
+use cmh_memory::{Allocated, refusal_of};
 use cmh_plan::Plan;
 use cmh_run::{Log, ProcessList, RunLog, Runner};
-use std::alloc::{AllocError, Global};
+use std::alloc::Global;
 use std::marker::Model;
 use std::sync::Wait;
 use std::thread::yield_now;
@@ -56,7 +56,7 @@ impl<'a> Model for Worker<'a> {
 
 impl<'a> Worker<'a> {
     /// A run of the initiator, which asks the board as it goes.
-    fn run_of<L: Log>(&mut self, alloc: Global, initiator: u32) -> Result<RunLog<L>, AllocError>
+    fn run_of<L: Log>(&mut self, alloc: Global, initiator: u32) -> Allocated<RunLog<L>>
         requires idle { IsTrue (is_idle self.old.job.graph.now initiator) }
         ensures on { GoesOn self.old self.new }
         ensures sees { SeesMore
@@ -71,7 +71,7 @@ impl<'a> Worker<'a> {
         let mut hints = BoardHints::new(&job.shared.board, &mut self.seats.board);
         self.runner
             .run(alloc, initiator, job.plan.choices(), &mut hints)
-            .map_err(run_out_of_memory)
+            .map_err(|fault| refusal_of(fault))
     }
 
     /// What the board says of the initiator. One look.
@@ -97,7 +97,7 @@ impl<'a> Worker<'a> {
         rt: &R,
         alloc: Global,
         initiator: u32,
-    ) -> Result<Answer<RunLog<L, E>>, AllocError>
+    ) -> Allocated<Answer<RunLog<L, E>>>
         requires idle { IsTrue (is_idle self.old.job.graph.now initiator) }
         ensures on { GoesOn self.old self.new }
         ensures answered { IfOk result (IsAnswered self.old.job.graph.now
@@ -125,7 +125,7 @@ impl<'a> Worker<'a> {
         alloc: Global,
         gate: &G,
         initiator: u32,
-    ) -> Result<Finding<RunLog<L, E>, P>, AllocError>
+    ) -> Allocated<Finding<RunLog<L, E>, P>>
         requires idle { IsTrue (is_idle self.old.job.graph.now initiator) }
         ensures on { GoesOn self.old self.new }
         ensures found { IfOk result (IsFound P.processes self.old.job.graph.now
@@ -155,7 +155,7 @@ impl<'a> Worker<'a> {
         gate: &G,
         found: &mut Vec<Finding<RunLog<L, E>, P>>,
         chunk: &[u32],
-    ) -> Result<(), AllocError>
+    ) -> Allocated<()>
         requires idle { All (λ p. IsTrue (is_idle self.old.job.graph.now p)) chunk.now }
         requires accounts { Accounts P.processes self.old.job.graph.now
             self.old.job.plan.now.choices (board_view self.old.seats.board) found.old.items }
@@ -181,7 +181,7 @@ impl<'a> Worker<'a> {
         rt: &R,
         alloc: Global,
         gate: &G,
-    ) -> Result<Vec<Finding<RunLog<L, E>, P>>, AllocError>
+    ) -> Allocated<Vec<Finding<RunLog<L, E>, P>>>
         requires new { AreNew self.old.seats }
         ensures back { ComesBack self.old self.new }
         ensures worked { IfOk result (λ found. IsWorked P.processes self.old.job.graph.now
@@ -205,7 +205,7 @@ pub(crate) fn work<L: Log, E: ProcessList, P: ProcessList, R: Wait, G: Gate>(
     shared: &Shared,
     gate: &G,
     seats: Seats,
-) -> (Seats, Result<Vec<Finding<RunLog<L, E>, P>>, AllocError>)
+) -> (Seats, Allocated<Vec<Finding<RunLog<L, E>, P>>>)
     requires made { IsMadeFor graph.now plan.now shared.now }
     requires sit { AreSeated shared.now seats }
     requires new { AreNew seats }

@@ -14,17 +14,18 @@ use crate::finding::Finding;
 use crate::job::{Seats, Shared};
 use crate::worker::work;
 use cmh_graph::WaitGraph;
+use cmh_memory::Allocated;
 use cmh_plan::Plan;
 use cmh_run::{Log, ProcessList, RunLog};
-use std::alloc::{AllocError, Global};
+use std::alloc::Global;
 use std::sync::Wait;
 use std::thread::{Threads, join};
 
 /// What both found, or the fault of one.
 fn concat_findings<L: Log, E: ProcessList, P: ProcessList>(
-    first: Result<Vec<Finding<RunLog<L, E>, P>>, AllocError>,
-    second: Result<Vec<Finding<RunLog<L, E>, P>>, AllocError>,
-) -> Result<Vec<Finding<RunLog<L, E>, P>>, AllocError>
+    first: Allocated<Vec<Finding<RunLog<L, E>, P>>>,
+    second: Allocated<Vec<Finding<RunLog<L, E>, P>>>,
+) -> Allocated<Vec<Finding<RunLog<L, E>, P>>>
     ensures { IfOk result (λ v.
         IsOkAnd first (λ a. IsOkAnd second (λ b. v.items ≡ a.items ++ b.items))) }
 {
@@ -91,7 +92,7 @@ pub(crate) fn workers<
     gate: &G,
     seats: Seats,
     others: u32,
-) -> (Seats, Result<Vec<Finding<RunLog<L, E>, P>>, AllocError>)
+) -> (Seats, Allocated<Vec<Finding<RunLog<L, E>, P>>>)
     requires made { IsMadeFor graph.now plan.now shared.now }
     requires sit { AreSeated shared.now seats }
     requires same { (board_view seats.board).lock.share ≡ (ticket_view seats.tickets).share }
@@ -111,14 +112,14 @@ pub(crate) fn workers<
     };
     let ((next, next_found), (mut left, left_found)) = join(
         rt,
-        || -> (Seats, Result<Vec<Finding<RunLog<L, E>, P>>, AllocError>)
+        || -> (Seats, Allocated<Vec<Finding<RunLog<L, E>, P>>>)
             requires { IsSync R.row × IsMadeFor graph.now plan.now shared.now
                 × AreSeated shared.now next × AreNew next }
             ensures { AreBack shared.entry.now next result.0
                 × IfOk result.1 (λ found. IsWorked P.processes
                 graph.entry.now plan.entry.now shared.entry.now result.0 found.items) }
         { work(rt, alloc, graph, plan, shared, gate, next) },
-        || -> (Seats, Result<Vec<Finding<RunLog<L, E>, P>>, AllocError>)
+        || -> (Seats, Allocated<Vec<Finding<RunLog<L, E>, P>>>)
             requires { IsSync R.row × IsMadeFor graph.now plan.now shared.now
                 × AreSeated shared.now left
                 × ((board_view left.board).lock.share ≡ (ticket_view left.tickets).share)

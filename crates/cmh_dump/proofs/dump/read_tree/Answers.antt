@@ -6,7 +6,6 @@ use Rattle.cmh_dump.specs.Tree.{elements_of}
 use Rattle.cmh_dump.proofs.FirstFault.Stages.{refused, accepted, refused_for_memory_alone}
 use Rattle.cmh_dump.proofs.MovedNames.{as_many, whole_graph}
 use Rattle.cmh_dump.proofs.dump.read_tree.Goals as goal
-use Rattle.cmh_dump.proofs.dump.read_tree.Goals.{in-Memory, in_default}
 
 pub returns-in_err-parts-clause-err : goal.returns-in_err-parts-clause-err
 returns-in_err-parts-clause-err c =
@@ -31,13 +30,12 @@ returns-in-Ok-clause-ok c =
     ∙ whole_graph view (view c.args.tree) trees.items c.in_ok-parts.parts.items c.in_ok-parts.in_transit.items seen
     c.in_ok-parts.ensures.1 c.move_names-parts.result.items c.move_names-parts.ensures)
 
-pub prove-unreachable-requires : goal.prove-unreachable-requires
-prove-unreachable-requires c =
+pub refusal_of-requires : goal.refusal_of-requires
+refusal_of-requires c =
     let trees = c.take_elements-processes.result in
     let seen = c.take_elements-processes.ensures ∙ ap elements_of c.take_member.ensures in
-    let memory = refused_for_memory_alone (view c.args.tree) _ c.in-Err.fault c.in_ok-parts.ensures.0
+    refused_for_memory_alone (view c.args.tree) _ c.in-Err.fault c.in_ok-parts.ensures.0
     (ap (parts_graph c.move_names-parts.result.items) c.deref.ensures.value
     ∙ whole_graph view (view c.args.tree) trees.items c.in_ok-parts.parts.items c.in_ok-parts.in_transit.items seen
     c.in_ok-parts.ensures.1 c.move_names-parts.result.items c.move_names-parts.ensures)
-    c.in-Err.ensures.fault in
-    elim c.match-matches.branch [ in-Memory w ↦ (cc) | in_default w ↦ w.in_default.not-Memory memory ]
+    c.in-Err.ensures.fault

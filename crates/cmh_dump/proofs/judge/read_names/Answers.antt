@@ -9,8 +9,8 @@ returns-in-Ok-clause-judges c =
     (ap texts c.deref.ensures.value ∙ c.in_ok-names.ensures ∙ names_seen d c.args.entries.now seen)
     c.in-Ok.ensures.distinct
 
-pub returns-clause-judges : goal.returns-clause-judges
-returns-clause-judges c =
+pub returns-in-Err-Repeated-clause-judges : goal.returns-in-Err-Repeated-clause-judges
+returns-in-Err-Repeated-clause-judges c =
     λ d seen _. name_repeated d (texts c.deref.result.now) c.in-Err-Repeated.i
     (ap texts c.deref.ensures.value ∙ c.in_ok-names.ensures ∙ names_seen d c.args.entries.now seen)
     (c.in-Err-Repeated.ensures.repeated c.in-Err-Repeated.i c.in-Err-Repeated.field-0-is)

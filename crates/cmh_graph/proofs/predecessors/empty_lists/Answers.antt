@@ -12,10 +12,10 @@ pub loop-count-preserved : goal.loop-count-preserved
 loop-count-preserved c =
     let more = c.in_ok-push.ensures.items in (
       ap length more
-          ∙ omega (arith, length_push c.loop-count.lists.items c.in_ok-with_capacity.field-0, c.loop-count.invariant.0),
+          ∙ omega (arith, length_push c.loop-count.lists.items c.in_ok-room.field-0, c.loop-count.invariant.0),
       λ r. ap (λ xs. list_at xs r) more
-          ∙ empty_more c.loop-count.lists.items c.in_ok-with_capacity.field-0 c.loop-count.invariant.1
-          c.in_ok-with_capacity.ensures.items r,
+          ∙ empty_more c.loop-count.lists.items c.in_ok-room.field-0 c.loop-count.invariant.1
+          c.in_ok-room.ensures.items r,
     )
 
 pub returns-clause-size : goal.returns-clause-size

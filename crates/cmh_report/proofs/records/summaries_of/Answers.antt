@@ -1,4 +1,4 @@
-use Rattle.std.proofs.Common.{◌∙◌, arith, sym}
+use Rattle.std.proofs.Common.{◌∙◌, arith, refl, sym}
 use Rattle.cmh_graph.specs.Graph.{idle_list}
 use Rattle.cmh_graph.proofs.Verdicts.{idle_within}
 use Rattle.cmh_report.proofs.RecordsLemmas.{initiator_at, records_count, summaries_all, summaries_more, summaries_none, tells_at}
@@ -6,8 +6,7 @@ use Rattle.cmh_report.proofs.records.summaries_of.Goals as goal
 
 pub loop-record-init : goal.loop-record-init
 loop-record-init _ c =
-    summaries_none c.args.graph.now c.len.result c.in_ok-summaries.summaries.items c.len.ensures.count
-    c.in_ok-summaries.ensures
+    summaries_none c.args.graph.now _ c.in_ok-summaries.summaries.items refl c.in_ok-summaries.ensures
 
 pub index_mut-requires : goal.index_mut-requires
 index_mut-requires g c =
@@ -28,7 +27,7 @@ loop-record-preserved g c =
     (omega (arith, c.loop-record-test.true, records_count listed graph rs c.requires))
     (initiator_at listed graph rs i r c.requires c.loop-record-test.true (sym c.record-item.is))
     (omega (arith, c.loop-record.invariant.size, idle_within graph r.initiator tells.idle))
-    (c.summary_in.ensures ∙ tells.summary c.len.ensures.well_formed.within)
+    (c.summary_in.ensures ∙ tells.summary c.law_built_graph.ensures.within)
     c.loop-record.invariant
 
 pub returns : goal.returns

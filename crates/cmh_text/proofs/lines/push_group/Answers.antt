@@ -15,7 +15,7 @@ returns-clause-text c =
     ∙ ap (λ ps. string_bytes c.push_str.new.self ++ spaced_words (names_or_dash g ps)) c.deref-3.ensures.value in
     let front = codes "group " ++ (decimal c.args.number ++ codes " |") in
     let first : string_bytes c.write.new.self ≡ string_bytes c.args.text.now ++ front =
-    c.in_ok-write.ensures.bytes ∙ ap (λ xs. xs ++ front) c.reserve.ensures.bytes in
+    c.in_ok-write.ensures.bytes ∙ ap (λ xs. xs ++ front) c.prepare_text.ensures in
     let bar : string_bytes c.push_str.new.self ≡ string_bytes c.push_names.new.text ++ codes " |" =
     c.in_ok-push_str.ensures.bytes in
     let last : string_bytes c.write-2.new.self

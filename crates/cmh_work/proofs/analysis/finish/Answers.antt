@@ -40,8 +40,7 @@ number_all-requires-clause-within g c =
     subst (λ x. IsTrueOf x rows) c.requires.made.board
     (given c.close.result c.map_err.result c.in_ok-history.history _ _ c.map_err.ensures.cases
     c.in_ok-history.was c.close.ensures.true_of) in
-    subst (λ n. All (λ (r : Row). r.process < n) c.deref.result.now) (sym c.len.ensures.count)
-    (subst (All (λ (r : Row). r.process < process_count gr)) (sym c.deref.ensures.value) (rows_within gr rows true_of))
+    subst (All (λ (r : Row). r.process < process_count gr)) (sym c.deref.ensures.value) (rows_within gr rows true_of)
 
 pub number_all-requires-clause-few : goal.number_all-requires-clause-few
 number_all-requires-clause-few g c =

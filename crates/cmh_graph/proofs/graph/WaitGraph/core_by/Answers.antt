@@ -37,18 +37,18 @@ loop-q-preserved c =
     (subst (λ marks. MarksEach (filter (is_marked reached) c.at.result.now) marks new c.pop.new.self.items after)
     c.deref_mut.ensures.value c.in_ok-mark_each_within.ensures) in
     subst (λ marks. ReturnsTo c.args.self.now c.args.p marks after c.push-in-Some.new.self.items) (sym written)
-    (returns_more _ _ _ _ _ _ _ _ _ _ _ _ c.len.ensures.well_formed.within c.requires.within c.requires.known
+    (returns_more _ _ _ _ _ _ _ _ _ _ _ _ c.has_no_fault.ensures.within c.requires.within c.requires.known
     (c.deref.ensures.value ∙ c.in_ok-reached.ensures) c.loop-q.invariant c.in-Some.ensures.items
     c.in_ok-push-2.ensures.items marked)
 
 pub loop-q-init : goal.loop-q-init
 loop-q-init c =
     returns_start _ _ _ _ _
-    (c.in_ok-marks.ensures.size ∙ c.len.ensures.count) c.requires.within c.in_ok-marks.ensures.alone
+    c.in_ok-marks.ensures.size c.requires.within c.in_ok-marks.ensures.alone
     (c.in_ok-push.ensures.items ∙ ap (λ xs. xs ++ c.args.p ∷ []) c.new-pending.ensures.items) c.new-core.ensures.items
 
 pub returns : goal.returns
 returns c =
-    returns_end _ _ _ _ _ _ c.len.ensures.well_formed.within c.requires.within
+    returns_end _ _ _ _ _ _ c.has_no_fault.ensures.within c.requires.within
     (nil_from_length _ (omega (arith, c.loop-q.pending.ok.0, c.in_default.ensures.cases.0))) c.loop-q.invariant
     c.sort_unstable.ensures.permutation c.sort_unstable.ensures.sorted

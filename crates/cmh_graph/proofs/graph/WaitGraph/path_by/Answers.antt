@@ -1,7 +1,7 @@
 use Rattle.std.proofs.Common.{◌∙◌, ◌++◌, ◌-◌, ◌<◌, ◌∷◌, [], Some, ap, arith, length, rules, refl, subst, sym}
 use Rattle.std.proofs.lemmas.List.{get_or_default}
 use Rattle.cmh_graph.specs.ChosenPath.{distance_of}
-use Rattle.cmh_graph.proofs.ChosenPathLemmas.{LeadsOn, chosen_none, leads_end, leads_on, leads_start}
+use Rattle.cmh_graph.proofs.ChosenPathLemmas.{LeadsOn, chosen_none, distance_within, leads_end, leads_on, leads_start}
 use Rattle.cmh_graph.proofs.IndexLists.{length-by_index}
 use Rattle.cmh_graph.proofs.graph.WaitGraph.path_by.Goals as goal
 
@@ -17,6 +17,17 @@ returns-in_default c =
     omega (arith, ap length c.requires.known, length-by_index g (distance_of g), c.requires.within) in
     chosen_none g c.args.p _ _ c.requires.within c.requires.known
     (get_or_default c.args.distances.now c.args.p _ _ within) c.in_default.is
+
+pub room-requires : goal.room-requires
+room-requires c =
+    let g = c.args.self.now in
+    let within : c.args.p < length c.args.distances.now =
+    omega (arith, ap length c.requires.known, length-by_index g (distance_of g), c.requires.within) in
+    omega (
+      arith,
+      distance_within g c.args.p _ _ _ c.requires.within c.requires.known
+          (get_or_default c.args.distances.now c.args.p _ _ within) c.in-Some.is,
+    )
 
 pub loop-nearer-init : goal.loop-nearer-init
 loop-nearer-init c =

@@ -9,7 +9,7 @@ use Rattle.cmh_graph.proofs.graph.WaitGraph.reach_from.Goals as goal
 pub loop-q-init : goal.loop-q-init
 loop-q-init c =
     lists_start _ _ _ _ _
-    (c.in_ok-marks.ensures.size ∙ c.len.ensures.count) c.requires c.in_ok-marks.ensures.alone
+    c.in_ok-marks.ensures.size c.requires c.in_ok-marks.ensures.alone
     (c.in_ok-push.ensures.items ∙ ap (λ xs. xs ++ c.args.p ∷ []) c.new-pending.ensures.items) c.new-list.ensures.items
 
 pub dependents-requires : goal.dependents-requires

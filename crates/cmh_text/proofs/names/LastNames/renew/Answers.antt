@@ -51,7 +51,8 @@ invariant_of-self c =
           names_renewed g old.items list kept.result c.names_room-cut.result text.items c.deref-3.result.now _
           (subst (λ (xs : List ℕ). drop (length xs - kept.result) xs ≡ drop (length list - kept.result) list)
           c.deref.ensures.value kept.ensures.same)
-          c.old.invariant.text (c.deref-3.ensures ∙ rw c.in_ok-front.ensures.bytes at c.in_ok-push_names.ensures)
+          c.old.invariant.text
+          (c.deref-3.ensures ∙ rw (c.prepare_text.ensures ∙ c.new-front.ensures.bytes) at c.in_ok-push_names.ensures)
           before.0 c.in_ok-replace_range.ensures.bytes
           ∙ ap (λ ps. spaced_words (names_of g ps)) (sym same);
     }

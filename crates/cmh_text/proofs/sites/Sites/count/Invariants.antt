@@ -1,7 +1,7 @@
 use Rattle.std.proofs.Common.{map, take}
 use Rattle.cmh_graph.specs.Graph.{site_of}
 use Rattle.cmh_text.proofs.SiteCounts.{AreSeen}
-use Rattle.cmh_text.proofs.sites.Sites.count_marked.Given as goal
+use Rattle.cmh_text.proofs.sites.Sites.count.Given as goal
 
 abbrev pub invariant-loop-p : goal.invariant-loop-p
 invariant-loop-p l =

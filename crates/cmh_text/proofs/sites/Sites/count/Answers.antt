@@ -8,8 +8,8 @@ use Rattle.cmh_graph.specs.Graph.{process_count, site_of}
 use Rattle.cmh_graph.specs.Search.{is_marked}
 use Rattle.cmh_text.specs.Report.{site_count}
 use Rattle.cmh_text.proofs.SiteCounts.{AreSeen, seen_again, seen_all, seen_more, seen_none, sites_more}
-use Rattle.cmh_text.proofs.sites.Sites.count_marked.Goals as goal
-use Rattle.cmh_text.proofs.sites.Sites.count_marked.Goals.{then-not-index+in_ok-push, else-not-index}
+use Rattle.cmh_text.proofs.sites.Sites.count.Goals as goal
+use Rattle.cmh_text.proofs.sites.Sites.count.Goals.{then-not-index+in_ok-push, else-not-index}
 
 pub loop-p-init : goal.loop-p-init
 loop-p-init c =
