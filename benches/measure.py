@@ -119,7 +119,7 @@ def machine() -> str:
     return f"{model}, {os.cpu_count()} processors, {platform.system()} {platform.release()}"
 
 
-def commit():
+def commit() -> str:
     """The commit of the checkout, or nothing where it has no history."""
     try:
         return run_bytes(["git", "-C", TOP, "rev-parse", "--short", "HEAD"]).out.decode().strip()
@@ -127,7 +127,7 @@ def commit():
         return ""
 
 
-def heading(times):
+def heading(times: int) -> str:
     """The line before a table of times, or of counts where there are no rounds."""
     rounds = f"; least of {times} rounds" if times else ""
     at = f"; commit `{commit()}`" if commit() else ""

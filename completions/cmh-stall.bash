@@ -13,9 +13,13 @@ _cmh_stall() {
     case $before:$word in
         *:-*) mapfile -t COMPREPLY < <(compgen -W "$options" -- "$word") ;;
         cmh-stall:* | --with:*) mapfile -t COMPREPLY < <(compgen -W "$systems" -o plusdirs -- "$word") ;;
+        rabbitmq:* | erlang:*) mapfile -t COMPREPLY < <(compgen -W "$(_cmh_nodes)" -- "$word") ;;
         *) compopt -o default ;;
     esac
 }
+
+# Prints the nodes of this machine.
+_cmh_nodes() { epmd -names 2>/dev/null | sed -n "s/^name \(.*\) at port .*/\1@$(uname -n | cut -d. -f1)/p"; }
 
 # Completes the words behind -- as those of a command, if bash-completion is there.
 _command_of_cmh_stall() {

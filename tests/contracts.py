@@ -1,4 +1,4 @@
-"""The contracts of the calls that crates show to others, as tests/map keeps them, and who names their clauses."""
+"""The contracts of the calls that crates show to others, as tests/map keeps them, and what fails without a clause."""
 from __future__ import annotations
 
 import os
@@ -10,13 +10,17 @@ from harness import TOP, read
 from sources import crates, files, lines_of_edit
 
 KEPT = "tests/data/contracts.txt"
+TRIED = "tests/data/clauses.txt"
 HEAD = """\
 The contract of each call that a crate shows to others, clause by clause, as tests/map --write takes them from the
 sources. Where a line here changes, a promise does, or what a caller has to see to.
 
 There are {clauses} clauses of {calls} calls, and {ghosts} ghost items of types and traits. {ensured} clauses are what
-a call ensures. {unnamed} of these have a question mark: no proof that is written by hand names them for a caller, and
-no edit that the prover has to refuse does, in a line 'clause:'. If such a clause were deleted, all might stay proved.
+a call ensures. Without most of these something fails: an edit that names it in a line 'clause:' is refused no more, or
+tests/data/clauses.txt says which function isn't proved any more. {cited} have a tilde: that file names a caller that
+needs them as its proof is now, and it wasn't tried whether there is another proof. {excused} have a sign of equality:
+nothing fails, and that file has the reason; or they are laws, which no body can break. {unseen} have a question mark:
+if such a clause were deleted, all might stay proved.
 """
 SHOWN = re.compile(r"^pub use (?!cmh_)\w+::(?:\{(.*?)\}|(\w+));", re.M | re.S)
 OWNER = re.compile(r"^(pub trait|pub struct|pub enum|impl)(?:<.*?>(?= ))? (?:(.*?) for )?(?:\w+::)*(\w+).*\{$")
@@ -26,9 +30,13 @@ GHOST = re.compile(r"^    (pub )?ghost (?!use )(\w+)")
 
 
 class Clause(NamedTuple):
+    """A clause in one line, and the numbers of its first and its last line in the file."""
+
     kind: str
     name: str
     text: str
+    first: int
+    last: int
 
 
 class Contract(NamedTuple):
@@ -43,6 +51,10 @@ class Contract(NamedTuple):
     @property
     def title(self) -> str:
         return f"{self.owner}::{self.name}" if self.owner else self.name
+
+    def full_name(self, clause: Clause) -> str:
+        """How edits and lists name a clause: `Owner::call clause`, or by the call alone if the clause has no name."""
+        return f"{self.title} {clause.name}".strip()
 
 
 # What the sources say
@@ -66,7 +78,7 @@ def parts_of_call(lines: list[str], start: int) -> tuple[str, list[Clause]]:
 
 def clauses_after(lines: list[str], start: int) -> Iterator[Clause]:
     parts: list[str] = []
-    for line in lines[start:]:
+    for number, line in enumerate(lines[start:], start):
         text = line.strip()
         if not parts and (not text or text.startswith("//")):
             continue
@@ -76,7 +88,7 @@ def clauses_after(lines: list[str], start: int) -> Iterator[Clause]:
         whole = " ".join(parts)
         if whole.count("{") == whole.count("}"):
             kind, name = re.findall(CLAUSE, whole)[0]
-            yield Clause(kind, name, whole.rstrip(";"))
+            yield Clause(kind, name, whole.rstrip(";"), number - len(parts) + 1, number)
             parts = []
 
 
@@ -87,7 +99,7 @@ def ghost_item(lines: list[str], start: int) -> Clause:
         end += 1
     end += lines[end].startswith("    }")
     text = " ".join(map(str.strip, lines[start:end])).rstrip(";,")
-    return Clause("ghost", re.findall(GHOST, lines[start])[0][1], text)
+    return Clause("ghost", re.findall(GHOST, lines[start])[0][1], text, start, end - 1)
 
 
 def blocks(lines: list[str]) -> Iterator[tuple[str, list[int]]]:
@@ -148,84 +160,70 @@ def contracts_of_crate(crate: str) -> Iterator[Contract]:
         yield from (contract for contract in contracts_of_block(block, shown) if contract.clauses)
 
 
-# Who names a clause
-
-
-def body_of(proof: str) -> str:
-    """The function that a proof is about, as the source has it, or nothing for a file of lemmas."""
-    steps = proof.split("/")
-    crate, modules, name = steps[1], steps[3:-2], steps[-2]
-    paths = [f"crates/{crate}/src/{'/'.join(modules[:count])}.rt" for count in range(1, len(modules) + 1)]
-    text = "".join(read(path) for path in paths if os.path.exists(f"{TOP}/{path}"))
-    body = re.search(rf"^( *)[\w() ]*\bfn {name}\b.*?^\1\}}", text, re.M | re.S)
-    return body[0] if body else ""
-
-
-def pairs_of_proof(text: str) -> Iterator[tuple[str, str]]:
-    """Each call and clause of its that a proof names. A proof may first name all that a call ensures."""
-    for call, clause in re.findall(r"([\w-]+)\.ensures\b(?:\.(\w+))?", text):
-        yield call, clause
-    for name, call in re.findall(r"\blet (\w+) =\s+(?:[\w-]+\.)*([\w-]+)\.ensures in\b", text):
-        for clause in re.findall(rf"(?<![\w.-]){name}\.(\w+)", text):
-            yield call, clause
-
-
-def clauses_of_proof(path: str) -> Iterator[tuple[str, str]]:
-    """The same by names of functions. A proof may name the answer of a call in place of the call. Then each function
-    counts that is called in the body that the proof is about."""
-    for call, clause in pairs_of_proof(re.sub(r"--.*", "", read(path))):
-        if re.match(r"(in|if|loop)\b", call.replace("_", "-")):
-            for function in re.findall(r"(\w+)(?:::<[^>()]*>)?\(", body_of(path)):
-                yield function, clause
-        else:
-            yield re.sub(r"-.*", "", call), clause
+# What fails without a clause
 
 
 def edited_clauses() -> set[str]:
-    """The clauses that edits name, each as `Owner::call clause`, or by the call alone if the clause has no name."""
+    """The clauses that edits name."""
     edits = (path for path in files() if path.endswith(".edit"))
     return {rest.strip() for path in edits for word, rest in lines_of_edit(path) if word == "clause"}
 
 
-class Named:
-    """What is named by proofs and by edits."""
+def tried_clauses(mark: str) -> dict[str, str]:
+    """The clauses of the list whose lines have this mark: each with the function that needs it, or with a reason."""
+    return dict(re.findall(rf"^  (\S.*?) {mark} (.+)$", read(TRIED), re.M))
+
+
+class Tried:
+    """What is known of clauses: those that edits and other functions need, that proofs cite, and that have a reason."""
 
     def __init__(self) -> None:
-        proofs = filter(re.compile(r"crates/\w+/proofs/.*\.antt$").match, files())
-        self.by_proofs = {pair for path in proofs for pair in clauses_of_proof(path)}
-        self.by_edits = edited_clauses()
+        self.needed = edited_clauses().union(tried_clauses("<"))
+        self.cited, self.excused = tried_clauses("~"), tried_clauses("=")
 
-    def has(self, contract: Contract, clause: Clause) -> bool:
-        full = f"{contract.title} {clause.name}".strip()
-        return (contract.name, clause.name) in self.by_proofs or full in self.by_edits
+    def sign(self, contract: Contract, clause: Clause) -> str:
+        """What stands before a clause."""
+        name = contract.full_name(clause)
+        if clause.kind != "ensures" or name in self.needed:
+            return " "
+        if name in self.cited:
+            return "~"
+        return "=" if name in self.excused or contract.path.endswith("/laws.rt") else "?"
 
 
 # The file
 
 
-def lines_of_contract(contract: Contract, named: Named) -> Iterator[str]:
+def lines_of_contract(contract: Contract, tried: Tried) -> Iterator[str]:
     yield contract.head.replace(f"fn {contract.name}", f"fn {contract.title}", 1) if contract.name else contract.head
     for clause in contract.clauses:
-        is_named = clause.kind != "ensures" or named.has(contract, clause)
-        yield f"  {' ' if is_named else '?'} {clause.text}"
+        yield f"  {tried.sign(contract, clause)} {clause.text}"
 
 
 def text_of_contracts() -> str:
     """The file as the sources say it."""
-    named, lines, path = Named(), [], ""
+    tried, lines, path = Tried(), [], ""
     every = contracts()
     for contract in every:
         lines += [] if contract.path == path else ["", contract.path]
-        lines += ["", *lines_of_contract(contract, named)]
+        lines += ["", *lines_of_contract(contract, tried)]
         path = contract.path
     kinds = Counter(clause.kind for contract in every for clause in contract.clauses)
+    signs = Counter(line[2] for line in lines if line.startswith("  "))
     head = HEAD.format(clauses=kinds["requires"] + kinds["ensures"], ghosts=kinds["ghost"], ensured=kinds["ensures"],
-                       calls=sum(contract.name != "" for contract in every),
-                       unnamed=sum(line.startswith("  ?") for line in lines))
+                       calls=sum(contract.name != "" for contract in every), cited=signs["~"],
+                       excused=signs["="], unseen=signs["?"])
     return "\n".join([head.rstrip(), *lines, ""])
 
 
 def lost_clauses() -> list[str]:
-    """What edits name that is no clause."""
-    there = {f"{contract.title} {clause.name}".strip() for contract in contracts() for clause in contract.clauses}
-    return sorted(edited_clauses() - there)
+    """What edits and the list of tried clauses name that is no clause."""
+    there = {contract.full_name(clause) for contract in contracts() for clause in contract.clauses}
+    return sorted(edited_clauses().union(*map(tried_clauses, "<~=")) - there)
+
+
+def lost_callers() -> list[str]:
+    """The functions and types that the list of tried clauses names and no crate has."""
+    sources = filter(re.compile(r"crates/\w+/src/.*\.rt$").match, files())
+    there = set(re.findall(r"\b(?:fn|struct) (\w+)", "".join(map(read, sources))))
+    return sorted({path for mark in "<~" for path in tried_clauses(mark).values() if path.split("::")[-1] not in there})

@@ -6,7 +6,10 @@
  * allocated counts as an allocation.
  *
  * One thread runs at a time, until it yields, waits for another to end, or ends. Then the next one of
- * those that were made goes on. The program is told of four processors. */
+ * those that were made goes on. The program is told of four processors.
+ *
+ * With AT_ONCE in the environment they run as the system has them, and the last number alone means
+ * something: how many yields there were in threads that had yielded before. */
 #define _GNU_SOURCE
 #include <dlfcn.h>
 #include <errno.h>
@@ -31,7 +34,7 @@ typedef void *start_call(void *);
 typedef int create_call(pthread_t *, const pthread_attr_t *, start_call *, void *);
 typedef int join_call(pthread_t, void **);
 
-enum { READS, WRITES, THREADS, YIELDS, ALLOCATIONS, BYTES, COPIED, KINDS };
+enum { READS, WRITES, THREADS, YIELDS, ALLOCATIONS, BYTES, COPIED, AGAIN, KINDS };
 enum { MOST = 4096 };
 
 static unsigned long counts[KINDS];
@@ -54,6 +57,8 @@ static pthread_cond_t turned = PTHREAD_COND_INITIALIZER;
 /* The number of the thread, and whether it runs code of the program: the C library allocates too. */
 static __thread int own __attribute__((tls_model("initial-exec")));
 static __thread int counted __attribute__((tls_model("initial-exec")));
+static __thread int has_yielded __attribute__((tls_model("initial-exec")));
+static int at_once;
 
 __attribute__((constructor)) static void begin(void) {
     copy = (copy_call *)dlsym(RTLD_NEXT, "memcpy");
@@ -61,6 +66,7 @@ __attribute__((constructor)) static void begin(void) {
     fill = (fill_call *)dlsym(RTLD_NEXT, "memset");
     create = (create_call *)dlsym(RTLD_NEXT, "pthread_create");
     join = (join_call *)dlsym(RTLD_NEXT, "pthread_join");
+    at_once = getenv("AT_ONCE") != NULL;
     counted = 1;
 }
 
@@ -117,6 +123,8 @@ static void *run(void *number) {
 
 int pthread_create(pthread_t *to, const pthread_attr_t *how, start_call *start, void *given) {
     count(THREADS, 1);
+    if (at_once)
+        return create(to, how, start, given);
     if (made == MOST)
         return EAGAIN;
     struct thread *next = &threads[made];
@@ -133,6 +141,8 @@ int pthread_create(pthread_t *to, const pthread_attr_t *how, start_call *start, 
 }
 
 int pthread_join(pthread_t name, void **result) {
+    if (at_once)
+        return join(name, result);
     int other = made - 1;
     while (other > 0 && !pthread_equal(threads[other].name, name))
         other--;
@@ -146,6 +156,10 @@ int pthread_join(pthread_t name, void **result) {
 
 int sched_yield(void) {
     count(YIELDS, 1);
+    __atomic_fetch_add(&counts[AGAIN], has_yielded, __ATOMIC_RELAXED);
+    has_yielded = 1;
+    if (at_once)
+        return syscall(SYS_sched_yield);
     give_way();
     return 0;
 }

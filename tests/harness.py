@@ -21,8 +21,12 @@ from typing import Any, Iterable, NamedTuple, NoReturn, Sequence
 
 TOP = os.path.dirname(os.path.dirname(os.path.realpath(__file__)))
 PROGRAM = os.path.abspath(os.environ.get("CMH") or f"{TOP}/bin/cmh")
+IS_WHOLE = "CMH_IN_SHORT" not in os.environ  # whether what repeats others is tried too: by `tests/quick --whole`
+SHARE = 1 if IS_WHOLE else 3  # of many cases of a kind, one in so many is tried
 SECONDS = 900  # no command of a test takes so long, also on a busy machine
 PYTHONS = [f"3.{minor}" for minor in range(8, 14)]  # by which the tools run
+DEAREST = 6  # tests of a script whose processor time is said
+JAVAC = ["javac", "-J-XX:TieredStopAtLevel=1", "-J-XX:+UseSerialGC"]  # in half the processor time
 CLOSING = re.compile(r"(\d+) passed, (\d+) failed(?:, (\d+) skipped)?\n?")
 
 
@@ -116,18 +120,42 @@ class Case(unittest.TestCase):
         if missing:
             self.skipTest(f"no {', no '.join(missing)}")
 
+    def need_whole(self) -> None:
+        """Skips a test that is long, and repeats what others try, unless all is asked for."""
+        if not IS_WHOLE:
+            self.skipTest("only tests/quick --whole tries it")
+
     def skip(self, name: str, why: str) -> None:
         """Skips one comparison of a test, and goes on."""
         with self.subTest(name):
             self.skipTest(why)
 
 
+def processor_time() -> float:
+    """The seconds that processors have worked for this process, and for those that it has waited for."""
+    spent = os.times()
+    return sum(spent[:4])
+
+
 class Result(unittest.TextTestResult):
-    """Counts each comparison, and tells at once what is skipped."""
+    """Counts each comparison, tells at once what is skipped, and keeps what each test costs."""
 
     def __init__(self, *more: Any, **named: Any) -> None:
         super().__init__(*more, **named)
-        self.passed, self.failed = 0, 0
+        self.passed, self.failed, self.before = 0, 0, 0.0
+        self.costs: list[tuple[float, str]] = []
+
+    def startTest(self, test: Any) -> None:
+        self.before = processor_time()
+        super().startTest(test)
+
+    def stopTest(self, test: Any) -> None:
+        super().stopTest(test)
+        self.costs.append((processor_time() - self.before, test.id().replace("__main__.", "")))
+
+    def dearest(self) -> str:
+        """The tests that have taken most processor time, if they took more than a second."""
+        return ", ".join(f"{name} {cost:.0f} s" for cost, name in sorted(self.costs)[:-DEAREST - 1:-1] if cost > 1)
 
     def addSubTest(self, test: Any, subtest: Any, err: Any) -> None:
         super().addSubTest(test, subtest, err)
@@ -160,6 +188,8 @@ def main(words: Sequence[str] | None = None) -> NoReturn:
     result: Any = unittest.main(argv=argv, testRunner=runner, exit=False).result
     if not result.testsRun and not result.skipped:
         sys.exit(f"{argv[0]}: no test has run")
+    if result.dearest():
+        print(f"most processor time: {result.dearest()}")
     print(closing(result.passed, result.failed, len(result.skipped)), flush=True)
     sys.exit(0 if result.wasSuccessful() else 1)
 
@@ -226,19 +256,25 @@ def skipped_of(lines: list[str]) -> list[str]:
 
 
 class Measured(NamedTuple):
-    """What a command has printed, and the seconds that processors have worked for it and for all that it waited for."""
+    """What a command has printed, how long it took, and the seconds that processors have worked for it and for all that
+    it waited for."""
 
     status: int
     out: str
-    seconds: float
+    took: float
+    spent: float
+
+    def cost(self) -> str:
+        return f"{self.spent:.0f} s of processor time in {minutes(self.took)}"
 
 
 def measured(words: Sequence[str], **how: Any) -> Measured:
+    begun = time.monotonic()
     with subprocess.Popen(words, **PIPES, **how) as ran:
         out = ran.stdout.read() if ran.stdout else ""
         _, status, used = os.wait4(ran.pid, 0)
         ran.returncode = -os.WTERMSIG(status) if os.WIFSIGNALED(status) else os.WEXITSTATUS(status)
-    return Measured(ran.returncode, out, used.ru_utime + used.ru_stime)
+    return Measured(ran.returncode, out, time.monotonic() - begun, used.ru_utime + used.ru_stime)
 
 
 class Summary:
@@ -260,15 +296,15 @@ class Summary:
                 printed.append(line)
         return self.judge(name, "".join(printed), ran.returncode)
 
-    def run_side_by_side(self, commands: Iterable[tuple[str, Sequence[str]]], **how: Any) -> None:
-        """Runs commands, each a name and its words, as many at a time as there are processors. Passes on what each has
-        printed, in their order."""
+    def run_side_by_side(self, commands: Iterable[tuple[str, Sequence[str]]], waiting: int = 0, **how: Any) -> None:
+        """Runs commands, each a name and its words, as many at a time as there are processors, and as those that mostly
+        wait. Passes on what each has printed, in their order."""
 
         commands = list(commands)
-        with ThreadPoolExecutor(len(os.sched_getaffinity(0))) as pool:
+        with ThreadPoolExecutor(len(os.sched_getaffinity(0)) + waiting) as pool:
             for (name, _), done in zip(commands, pool.map(lambda command: measured(command[1], **how), commands)):
                 print(f"== {name}\n{done.out}", end="", flush=True)
-                self.judge(name, done.out, done.status, f", {done.seconds:.0f} s of processor time")
+                self.judge(name, done.out, done.status, f", {done.cost()}")
 
     def judge(self, name: str, printed: str, status: int, cost: str = "") -> bool:
         """Adds what the closing line of a command says, and returns whether all is well. A command that ends without
