@@ -92,12 +92,15 @@ class Process:
         self.own = {inode_of(it[0]) for it in row["fds"].values()} - {0}
         self.pipes = Counter(it[0] for it in row["fds"].values() if it[0].startswith("pipe:["))
 
-    def thread(self, thread: Row, connections: Dict[int, str]) -> Row:
-        """Returns what a thread does: its call, whether that has a limit, and at what it waits."""
+    def thread(self, thread: Row, connections: Dict[int, str], own: int) -> Row:
+        """Returns what a thread does: its call, whether that has a limit, and at what it waits. Of several threads one
+        may wait at all connections of the process, and at its own one too."""
         found = {key: thread[key] for key in ("tid", "state", "call") if key in thread}
         if "args" in thread:
             found["limit"] = has_limit(thread["call"], [int(it, 16) for it in thread["args"]])
-            found["at"] = self.place(thread, connections)
+            numbers = [inode_of(self.row["fds"].get(str(fd), [""])[0]) for fd, *_ in thread.get("set", ())]
+            is_at = own in numbers and len(self.row["threads"]) > 1
+            found["at"] = connections[own] if is_at else self.place(thread, connections)
             found["count"] = thread["counts"][0]
         return found
 
@@ -160,7 +163,7 @@ def clients(rows: List[Row]) -> Iterator[Row]:
             it = Process(found[pid], sockets)
             yield {"connection": connections[number], "process": pid, "end": ends[connections[number]],
                    "is_deaf": it.is_deaf(connections),
-                   "threads": [it.thread(thread, connections) for thread in it.row["threads"]]}
+                   "threads": [it.thread(thread, connections, number) for thread in it.row["threads"]]}
 
 
 def main() -> int:

@@ -76,11 +76,11 @@ def text_of(data: bytes) -> str:
 def processes_of(words: Sequence[str]) -> List[int]:
     """Returns the processes that are named by their number, or by the name of their executable file, but no children
     of such, which aren't ranks."""
-    pids = sorted(int(it) for it in os.listdir("/proc") if it.isdigit())
-    names = {it for it in words if not it.isdigit()}
-    found = [pid for pid in pids if names and name_of(pid) in names and is_rank(pid)]
-    found = [pid for pid in found if int((stat_of(f"/proc/{pid}/stat")[1:2] or ["0"])[0]) not in found]
-    return [*found, *(int(it) for it in words if it.isdigit() and int(it) in pids and int(it) not in found)]
+    pids = sorted(map(int, filter(str.isdigit, os.listdir("/proc"))))
+    names = {word for word in words if not word.isdigit()}
+    ranks = [pid for pid in pids if names and name_of(pid) in names and is_rank(pid)]
+    ranks = [pid for pid in ranks if int((stat_of(f"/proc/{pid}/stat")[1:2] or ["0"])[0]) not in ranks]
+    return [*ranks, *(int(word) for word in words if word.isdigit() and int(word) in pids and int(word) not in ranks)]
 
 
 def name_of(pid: int) -> str:
@@ -100,11 +100,11 @@ def record_of(pid: int) -> Tuple[str, str]:
     """Returns where the record of a process can be opened, or why there is none."""
     folder = f"/proc/{pid}/fd"
     try:
-        paths = [f"{folder}/{it}" for it in os.listdir(folder)]
+        paths = [f"{folder}/{number}" for number in os.listdir(folder)]
     except OSError:
         return "", f"its record can't be read: {NEEDS_RIGHTS}"
-    path = next((it for it in paths if link_of(it) == LINK), "")
-    return path, "" if path else "cmh_mpi.so keeps no record of it"
+    of_record = next((path for path in paths if link_of(path) == LINK), "")
+    return of_record, "" if of_record else "cmh_mpi.so keeps no record of it"
 
 
 def link_of(path: str) -> str:
@@ -140,14 +140,14 @@ class Rank:
         if self.fault:
             return
         head = HEAD.unpack_from(self.data)[1:]
-        self.complete_at = [8 * at for at in range(WORDS) if head[at] == 0 and head[WORDS + at] == 1]
+        self.complete_at = [8 * place for place in range(WORDS) if head[place] == 0 and head[WORDS + place] == 1]
         self.numbers: Dict[str, int] = dict(zip(NUMBERS, head[2 * WORDS:]))
         before, after = head[-2 * OWN:-OWN], head[-OWN:]
         self.own = set(after) - set(before) if not before[-1] else set()  # (the threads that MPI_Init has begun)
 
     def find_fault(self) -> str:
-        found = os.fstat(self.file.fileno())
-        if found.st_uid != os.stat(f"/proc/{self.pid}").st_uid:
+        status = os.fstat(self.file.fileno())
+        if status.st_uid != os.stat(f"/proc/{self.pid}").st_uid:
             return "its record may have been written by another user"
         if len(self.data) < RANKS_AT or self.data[:8] != MAGIC:
             return "its record isn't whole, or of another version of cmh_mpi.so"
@@ -155,44 +155,44 @@ class Rank:
             return "its record is that of the process that began it"
         return ""
 
-    def again(self, at: int, size: int) -> bytes:
+    def again(self, start: int, size: int) -> bytes:
         """Returns a part of the file as it is now."""
         with contextlib.suppress(OSError):
-            return os.pread(self.file.fileno(), size, at)
+            return os.pread(self.file.fileno(), size, start)
         return b""
 
     def comms(self) -> List[Row]:
         """Returns its communicators and files by their places, up to the last one that has been taken."""
-        rows = [self.comm(at) for at in range(COMMS)]
-        used = [at for at, row in enumerate(rows) if row.pop("is_used")]
+        rows = [self.comm(place) for place in range(COMMS)]
+        used = [place for place, row in enumerate(rows) if row.pop("is_used")]
         return rows[:used[-1] + 1]
 
-    def comm(self, at: int) -> Row:
+    def comm(self, place: int) -> Row:
         handle, own_id, number, parent, made, size, rank, is_inter, root, *rest = COMM.unpack_from(
-            self.data, HEAD.size + at * COMM.size)
+            self.data, HEAD.size + place * COMM.size)
         locks, names = rest[:3], [text_of(rest[-LAST:][(number - back) % LAST]) for back in range(LAST)]
         row: Row = {"id": f"{own_id:x}" if handle else "0", "number": number, "size": size, "rank": rank,
                     "inter": is_inter, "root": root, "name": names[0], "parent": f"{parent:x}", "made": made,
                     "is_used": handle or made or size}
         row.update({"past": names[1:number]} if number > 1 else {})
         row.update(zip(("held", "target", "alone"), locks) if locks[0] else {})
-        ranks = self.again(RANKS_AT + 4 * at * self.numbers["size"], 4 * size) if handle and size else b""
-        numbers = [it[0] for it in struct.iter_unpack("=i", ranks)] or None
+        ranks = self.again(RANKS_AT + 4 * place * self.numbers["size"], 4 * size) if handle and size else b""
+        numbers = [word[0] for word in struct.iter_unpack("=i", ranks)] or None
         return row if numbers == list(range(size)) else {**row, "ranks": numbers}
 
     def begun(self) -> List[List[Any]]:
         """Returns the messages that have been begun and aren't complete, as far as that is known: kind, communicator,
         partner and tag. Their buffers may be on their way meanwhile."""
-        found = []
+        begun = []
         for handle, _, kind, comm, partner, tag in OPERATION.iter_unpack(self.data[KNOWN_AT:]):
             if handle and kind & ~KEPT in (RECEIVE, SEND) and not self.is_complete(handle):
-                found.append([kind & ~KEPT, comm, self.partner(partner) if kind & ~KEPT == RECEIVE else partner, tag])
-        return found
+                begun.append([kind & ~KEPT, comm, self.partner(partner) if kind & ~KEPT == RECEIVE else partner, tag])
+        return begun
 
     def records(self) -> Dict[int, Row]:
         """Returns the records of its threads by their numbers, as the rank itself sees these."""
-        places = [RECORDS_AT + at * RECORD_SIZE for at in range(THREADS)]
-        rows = [self.record(it) for it in places if RECORD.unpack_from(self.data, it)[5]]
+        places = [RECORDS_AT + number * RECORD_SIZE for number in range(THREADS)]
+        rows = [self.record(place) for place in places if RECORD.unpack_from(self.data, place)[5]]
         return {row.pop("thread"): row for row in rows}
 
     def record(self, place: int) -> Row:
@@ -213,7 +213,7 @@ class Rank:
         row: Row = {"thread": thread, "calls": calls, "polls": polls, "name": text_of(name), "kind": kind,
                     "caller": caller, "entered": sequence // 2}
         if kind in (ALL_OF, ANY_OF, POLL):
-            row["requests"] = [self.request(data, at) for at in range(min(requests, OPEN))]
+            row["requests"] = [self.request(data, place) for place in range(min(requests, OPEN))]
             row["more"] = max(0, requests - OPEN)
         if kind not in (ALL_OF, ANY_OF) and not row.get("requests"):
             row.update({"number": number, "comm": comm, "tag": tag,
@@ -224,9 +224,10 @@ class Rank:
         """A rank of a communicator, or "any"."""
         return "any" if number == self.numbers["any_source"] else number
 
-    def request(self, data: bytes, at: int) -> List[Any]:
+    def request(self, data: bytes, place: int) -> List[Any]:
         """Returns a request: kind, communicator, partner, tag, number, and whether it is complete, if that is known."""
-        handle, number, kind, comm, partner, tag = OPERATION.unpack_from(data, RECORD.size + (at + 1) * OPERATION.size)
+        start = RECORD.size + (place + 1) * OPERATION.size
+        handle, number, kind, comm, partner, tag = OPERATION.unpack_from(data, start)
         done = self.is_complete(handle) if kind else 1
         kind = OTHER if kind & KEPT and done is None else kind & ~KEPT
         return [kind, comm, self.partner(partner) if kind == RECEIVE else partner, tag, number, done]
@@ -251,8 +252,8 @@ def row_of_rank(pid: int) -> Row:
         fault = rank.fault
     if not os.path.exists(f"/proc/{pid}/stat"):
         return {"pid": pid, "ended": True}
-    found = RANK.search(slurp(f"/proc/{pid}/environ"))
-    return {"pid": pid, "fault": fault or "it has ended its record", **({"rank": int(found[1])} if found else {})}
+    match = RANK.search(slurp(f"/proc/{pid}/environ"))
+    return {"pid": pid, "fault": fault or "it has ended its record", **({"rank": int(match[1])} if match else {})}
 
 
 def row_of_record(rank: Rank) -> Row:
@@ -292,7 +293,7 @@ def stat_of_thread(pid: int, tid: int) -> Row:
     if len(fields) > 12:
         row["used"] = sum(map(int, fields[11:13])) / os.sysconf("SC_CLK_TCK")  # seconds of processor time
     if len(call) > 6 and call[0].isdigit():
-        row["call"] = name_of_call(int(call[0]), [int(it, 16) for it in call[1:7]])
+        row["call"] = name_of_call(int(call[0]), [int(word, 16) for word in call[1:7]])
     return row
 
 
@@ -310,9 +311,9 @@ def name_of_call(number: int, words: Sequence[int]) -> str:
         return kind if kind == "private" else f"{kind} {words[2] & 0xffffffff}"
     if number in SLEEPS.get(machine, ()):
         return "sleep"
-    at, is_number = LIMITS.get(machine, {}).get(number, (0, False))
-    has_limit = words[at] & 1 << 31 == 0 if is_number else words[at] != 0
-    return "limit" if at and has_limit else str(number)
+    place, is_number = LIMITS.get(machine, {}).get(number, (0, False))
+    has_limit = words[place] & 1 << 31 == 0 if is_number else words[place] != 0
+    return "limit" if place and has_limit else str(number)
 
 
 # Places in the source
@@ -321,18 +322,18 @@ def name_of_call(number: int, words: Sequence[int]) -> str:
 def add_places(rows: Sequence[Row]) -> None:
     """Says of each thread in a call where that stands."""
     wanted: Dict[str, Set[int]] = {}
-    at: Dict[Tuple[int, int], Tuple[str, int]] = {}
+    places: Dict[Tuple[int, int], Tuple[str, int]] = {}
     for row in rows:
-        callers = {it["caller"] for it in row.get("threads", ()) if it.get("caller")}
+        callers = {thread["caller"] for thread in row.get("threads", ()) if thread.get("caller")}
         for caller, place in zip(callers, files_of(row["pid"], callers) if callers else ()):
-            at[row["pid"], caller] = place
+            places[row["pid"], caller] = place
             wanted.setdefault(place[0], set()).add(place[1])
-    names = {path: lines_of(path, sorted(some)) for path, some in wanted.items() if path}
+    names = {path: lines_of(path, sorted(addresses)) for path, addresses in wanted.items() if path}
     for row in rows:
-        for it in row.get("threads", ()):
-            path, offset = at.get((row["pid"], it.pop("caller", 0)), ("", 0))
+        for thread in row.get("threads", ()):
+            path, offset = places.get((row["pid"], thread.pop("caller", 0)), ("", 0))
             if path:
-                it["place"] = names[path].get(offset) or [f"{os.path.basename(path)}+{offset:#x}"]
+                thread["place"] = names[path].get(offset) or [f"{os.path.basename(path)}+{offset:#x}"]
 
 
 def files_of(pid: int, addresses: Set[int]) -> Iterator[Tuple[str, int]]:
@@ -341,7 +342,7 @@ def files_of(pid: int, addresses: Set[int]) -> Iterator[Tuple[str, int]]:
                       slurp(f"/proc/{pid}/maps").decode("utf-8", "replace"), re.M)
     bases = {path: int(start, 16) for start, _, offset, path in reversed(rows) if not int(offset, 16)}
     for address in addresses:
-        path = next((it[3] for it in rows if int(it[0], 16) <= address < int(it[1], 16)), "")
+        path = next((row[3] for row in rows if int(row[0], 16) <= address < int(row[1], 16)), "")
         yield path, address - 1 - (bases.get(path, 0) if is_moved(path) else 0)
 
 
@@ -372,10 +373,10 @@ def lines_of(path: str, addresses: Sequence[int]) -> Dict[int, List[Any]]:
 
 def place_of(function: str, where: str) -> List[Any]:
     """Returns a function with its file and line, or alone, or nothing."""
-    found = re.match(r"(.+):(\d+)(?: \(.*\))?$", where)
+    match = re.match(r"(.+):(\d+)(?: \(.*\))?$", where)
     if function.startswith("??"):
         return []
-    return [function, found[1], int(found[2])] if found and int(found[2]) else [function]
+    return [function, match[1], int(match[2])] if match and int(match[2]) else [function]
 
 
 # The state
@@ -409,13 +410,14 @@ def state(words: Sequence[str], seconds: float, looks: int) -> str:
 
 
 def main() -> int:
-    it = argparse.ArgumentParser(description=(__doc__ or "").split("\n", 1)[0])
-    it.add_argument("words", metavar="PROGRAM|PID", nargs="+", help="the name of the job's executable file, or a rank")
-    it.add_argument("--seconds", type=float, default=float(os.environ.get("CMH_SECONDS", "5")),
-                    help="the time from one reading to the next (5, or $CMH_SECONDS)")
-    it.add_argument("--looks", type=int, default=int(os.environ.get("CMH_LOOKS", "2")),
-                    help="as many readings (2, or $CMH_LOOKS)")
-    asked = it.parse_args()
+    parser = argparse.ArgumentParser(description=(__doc__ or "").split("\n", 1)[0])
+    parser.add_argument("words", metavar="PROGRAM|PID", nargs="+",
+                        help="the name of the job's executable file, or a rank")
+    parser.add_argument("--seconds", type=float, default=float(os.environ.get("CMH_SECONDS", "5")),
+                        help="the time from one reading to the next (5, or $CMH_SECONDS)")
+    parser.add_argument("--looks", type=int, default=int(os.environ.get("CMH_LOOKS", "2")),
+                        help="as many readings (2, or $CMH_LOOKS)")
+    asked = parser.parse_args()
     try:
         text = state(asked.words, max(0.0, min(3600.0, asked.seconds)), max(2, asked.looks))
     except LookupError as error:

@@ -3,8 +3,8 @@
 
     cmh_python_reader.py py-spy|gdb PID.. [--seconds 5] > STATE
 
-`py-spy dump --nonblocking` reads the memory of a process, and stops nothing. gdb stops it while it reads it: its
-command py-bt needs the symbols of that very Python (Debian: python3-dbg). The kernel's counts of each thread, which
+`py-spy dump --nonblocking` reads the memory of a process, and stops nothing. gdb stops it while it reads it, and needs
+the symbols of that very Python, and its script for gdb (Debian: python3-dbg). The kernel's counts of each thread, which
 show that it was at one wait, are read after the first stack and before the second, and its call before each. It needs
 Python 3.8, and cmh_linux beside it. The state has names of functions, files and threads: look at it before you mail
 it.
@@ -12,6 +12,8 @@ it.
 from __future__ import annotations
 
 import argparse
+import contextlib
+import itertools
 import json
 import os
 import platform
@@ -19,8 +21,9 @@ import re
 import shutil
 import subprocess
 import sys
+import threading
 import time
-from typing import Any, Dict, List, Sequence, Tuple
+from typing import Any, Dict, Iterator, List, Sequence, Tuple, Type, Union
 
 from cmh_linux.calls import calls_of
 
@@ -28,12 +31,57 @@ Row = Dict[str, Any]
 
 LOOK = 0.25  # seconds in which it is measured who computes
 PATIENCE = 120  # seconds for one process
-COMMANDS = {
-    "py-spy": ["py-spy", "dump", "--nonblocking", "--json", "--pid", "{pid}"],
-    # (The symbols are read before it attaches, so that the process stands still for a shorter time.)
-    "gdb": ["gdb", "-nx", "-batch", "-ex", "set confirm off", "-ex", "file {exe}", "-ex", "attach {pid}",
-            "-ex", "thread apply all py-bt", "-ex", "detach"],
-}
+PY_SPY = ["py-spy", "dump", "--nonblocking", "--json", "--pid"]
+GDB = ["gdb", "-nx", "-q", *(word for setting in ("width 0", "height 0", "confirm off", "prompt")
+                             for word in ("-iex", f"set {setting}"))]
+END = "cmh: this is all"  # what gdb prints behind a process
+# The frames of Python below the innermost one are read from it, and not from the stack of C, whose unwinding and
+# symbols take most of the time of py-bt. Where a frame isn't as expected, py-bt is asked.
+WALK = """
+LINES = {}
+UNREAD = "(unable to read python frame information)"
+
+def lines_of(inner):
+    frame = inner._gdbval
+    has = {field.name for field in frame.type.target().strip_typedefs().fields()}
+    code, step = sorted(has & {"f_code", "f_executable"}) + sorted(has & {"f_lasti", "instr_ptr", "prev_instr"})
+    while int(frame):
+        place = int(frame[code]), int(frame[step])
+        if place not in LINES:
+            LINES[place] = line_of(type(inner)(frame))
+        yield from LINES[place]
+        frame = frame["previous" if "previous" in has else "f_back"]
+
+def line_of(frame):
+    if getattr(frame, "is_shim", bool)():
+        return []
+    said = frame.filename(), frame.current_line_num(), frame.co_name.proxyval(set())
+    return ['  File "%s", line %s, in %s' % said]
+
+def walk():
+    frame = Frame.get_selected_python_frame()
+    while frame:
+        inner = frame.get_pyop() if frame.is_evalframe() else None
+        if inner and not inner.is_optimized_out():
+            yield from lines_of(inner)
+            return
+        said = UNREAD if frame.is_evalframe() else frame.is_other_python_frame()
+        if said:
+            yield "  %s" % said
+        frame = frame.older()
+
+class Walk(gdb.Command):
+    def __init__(self):
+        super().__init__("cmh-bt", gdb.COMMAND_STACK)
+
+    def invoke(self, words, is_typed):
+        try:
+            print(*list(walk()), sep=chr(10))
+        except Exception:
+            gdb.execute("py-bt")
+
+Walk()
+"""
 NEEDS = {"py-spy": "pip install py-spy, or take gdb", "gdb": "apt-get install gdb python3-dbg, or take py-spy"}
 
 
@@ -49,15 +97,15 @@ def slurp(path: str) -> str:
 def counts_of(pid: int) -> Dict[str, Row]:
     """Returns for each thread how often it has stopped to wait, its nanoseconds of processor time, its state and its
     call of the kernel."""
-    found: Dict[str, Row] = {}
+    counts: Dict[str, Row] = {}
     for tid in os.listdir(f"/proc/{pid}/task") if os.path.isdir(f"/proc/{pid}/task") else []:
         folder = f"/proc/{pid}/task/{tid}"
         status, spent, call = (slurp(f"{folder}/{name}") for name in ("status", "schedstat", "syscall"))
         stops = re.search(r"^State:\s*(\w)(?:.*\n)*?voluntary_ctxt_switches:\s*(\d+)", status, re.M)
         if stops and spent:
-            found[tid] = {"state": stops[1], "stops": int(stops[2]), "spent": int(spent.split()[0]),
+            counts[tid] = {"state": stops[1], "stops": int(stops[2]), "spent": int(spent.split()[0]),
                           **named(call.split())}
-    return found
+    return counts
 
 
 def named(words: List[str]) -> Row:
@@ -68,31 +116,83 @@ def named(words: List[str]) -> Row:
     return {"call": names.get(int(words[0]), words[0]), "args": words[1:7]}
 
 
-def body_of(way: str, pid: int) -> str:
-    """Returns what the other tool prints of a process, also if it fails."""
-    exe = os.path.realpath(f"/proc/{pid}/exe")
-    words = [word.format(pid=pid, exe=exe) for word in COMMANDS[way]]
-    try:
-        ran = subprocess.run(words, stdin=subprocess.DEVNULL, capture_output=True, timeout=PATIENCE, check=False)
-    except subprocess.TimeoutExpired:
-        return f"{way} hasn't ended within {PATIENCE} s"
-    except OSError as error:
-        return f"{way}: {error.strerror}"
-    return (ran.stdout or ran.stderr).decode("utf-8", "replace")
+class PySpy:
+    """py-spy, which is begun for each process."""
+
+    name = "py-spy"
+
+    def load(self, pid: int) -> None:
+        """There is nothing to load."""
+
+    def body_of(self, pid: int) -> str:
+        """Returns what it prints of a process, also if it fails."""
+        try:
+            ran = subprocess.run([*PY_SPY, str(pid)], stdin=subprocess.DEVNULL, capture_output=True, timeout=PATIENCE,
+                                 check=False)
+        except subprocess.TimeoutExpired:
+            return f"py-spy hasn't ended within {PATIENCE} s"
+        except OSError as error:
+            return f"py-spy: {error.strerror}"
+        return (ran.stdout or ran.stderr).decode("utf-8", "replace")
 
 
-def state_of(way: str, pid: int, first: Dict[str, Row]) -> Tuple[str, Dict[str, Row]]:
+class Gdb:
+    """One gdb for all processes, since the symbols of a program take it seconds. It reads those of the program before
+    it attaches to a process, which so stands still for a shorter time, and none of those of its libraries."""
+
+    name = "gdb"
+
+    def __init__(self) -> None:
+        self.program = ""
+        self.gdb = subprocess.Popen(GDB, stdin=subprocess.PIPE, stdout=subprocess.PIPE, stderr=subprocess.STDOUT)
+
+    def load(self, pid: int) -> None:
+        """Begins to read the symbols of a process's program."""
+        program = os.path.realpath(f"/proc/{pid}/exe")
+        if program != self.program:
+            self.tell(f"file {program}", f"python exec({WALK!r})")
+            self.program = program
+
+    def tell(self, *commands: str) -> None:
+        assert self.gdb.stdin
+        with contextlib.suppress(BrokenPipeError):
+            self.gdb.stdin.write("".join(f"{command}\n" for command in commands).encode())
+            self.gdb.stdin.flush()
+
+    def body_of(self, pid: int) -> str:
+        """Returns what it prints of a process, also if it fails."""
+        self.tell(f"with debug-file-directory /nonexistent -- attach {pid}", "python LINES.clear()",
+                  "thread apply all cmh-bt", "detach", f"echo \\n{END}\\n")
+        timer = threading.Timer(PATIENCE, self.gdb.kill)
+        timer.start()
+        body = "".join(self.lines())
+        timer.cancel()
+        return body or f"gdb has ended, or hasn't done it within {PATIENCE} s"
+
+    def lines(self) -> Iterator[str]:
+        """Yields what it prints until it has done all."""
+        assert self.gdb.stdout
+        lines = (line.decode("utf-8", "replace") for line in self.gdb.stdout)
+        return itertools.takewhile(lambda line: line != f"{END}\n", lines)
+
+
+Tool = Union[PySpy, Gdb]
+TOOLS: Dict[str, Type[Tool]] = {PySpy.name: PySpy, Gdb.name: Gdb}
+
+
+def state_of(tool: Tool, pid: int, first: Dict[str, Row]) -> Tuple[str, Dict[str, Row]]:
     """Returns the state of one process, with its counts before its stacks. Those who compute are found by what they
     have used of the processor in a while before anything stops them. `first` has the counts of the first state."""
+    tool.load(pid)
     began, before = time.time(), counts_of(pid)
     time.sleep(LOOK)
     later = counts_of(pid)
-    body = body_of(way, pid)
+    body = tool.body_of(pid)
     counts = later if first else counts_of(pid)
-    threads = {tid: {**with_call(later[tid], first.get(tid, {})), "stops": it["stops"],
+    threads = {tid: {**with_call(later[tid], first.get(tid, {})), "stops": count["stops"],
                      "spent": later[tid]["spent"] - before[tid]["spent"]}
-               for tid, it in counts.items() if tid in before and tid in later}
-    head: Row = {"version": 1, "pid": pid, "by": way, "name": slurp(f"/proc/{pid}/comm").strip(), "seconds": LOOK,
+               for tid, count in counts.items() if tid in before and tid in later}
+    head: Row = {"version": 1, "pid": pid, "by": tool.name, "name": slurp(f"/proc/{pid}/comm").strip(), "seconds": LOOK,
                  "host": os.uname().nodename, "space": f"{os.uname().nodename} {os.readlink('/proc/self/ns/pid')}",
                  "began": began, "ended": time.time(), "threads": threads}
     text = body if body.endswith("\n") else f"{body}\n"
@@ -111,19 +211,20 @@ def state(way: str, pids: Sequence[int], seconds: float) -> str:
     for pid in pids:
         if not os.path.isdir(f"/proc/{pid}"):
             raise LookupError(f"there is no process {pid}")
-    states = [state_of(way, pid, {}) for pid in pids]
-    time.sleep(seconds)
-    states += [state_of(way, pid, counts) for pid, (_, counts) in zip(pids, tuple(states))]
+    tool = TOOLS[way]()
+    states = [state_of(tool, pid, {}) for pid in pids]
+    time.sleep(max(0.0, seconds - LOOK))
+    states += [state_of(tool, pid, counts) for pid, (_, counts) in zip(pids, tuple(states))]
     return "".join(text for text, _ in states)
 
 
 def main() -> int:
-    it = argparse.ArgumentParser(description=(__doc__ or "").split("\n", 1)[0])
-    it.add_argument("way", choices=sorted(COMMANDS), help="the tool that reads the stacks")
-    it.add_argument("pids", metavar="PID", type=int, nargs="+")
-    it.add_argument("--seconds", type=float, default=float(os.environ.get("CMH_SECONDS", "5")),
-                    help="the time between both readings (5, or $CMH_SECONDS)")
-    asked = it.parse_args()
+    parser = argparse.ArgumentParser(description=(__doc__ or "").split("\n", 1)[0])
+    parser.add_argument("way", choices=sorted(TOOLS), help="the tool that reads the stacks")
+    parser.add_argument("pids", metavar="PID", type=int, nargs="+")
+    parser.add_argument("--seconds", type=float, default=float(os.environ.get("CMH_SECONDS", "5")),
+                        help="the time between both readings (5, or $CMH_SECONDS)")
+    asked = parser.parse_args()
     if shutil.which(asked.way) is None:
         print(f"cmh_python_reader: {asked.way} is needed, and isn't there: {NEEDS[asked.way]}", file=sys.stderr)
         return 1

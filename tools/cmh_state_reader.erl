@@ -25,8 +25,9 @@
 -define(OF_ELIXIR, ['Elixir.Agent.Server', 'Elixir.DynamicSupervisor', 'Elixir.Registry.Partition',
                     'Elixir.Task.Supervised', supervisor]).
 
-%% The applications of Erlang's or Elixir's own.
--define(SYSTEM, [kernel, stdlib, elixir, logger, iex, mnesia, crypto, asn1]).
+%% The applications of Erlang's or Elixir's own, and those of others that many programs have for what they serve.
+-define(SYSTEM, [kernel, stdlib, elixir, logger, iex, mnesia, crypto, asn1, public_key, ssl, inets, sasl, os_mon, ssh,
+                 runtime_tools, xmerl, cowboy, cowlib, ranch]).
 
 print(Modules, Nodes) -> print(Modules, Nodes, 5).
 
@@ -41,9 +42,9 @@ print(Modules, Nodes, Seconds) ->
         Missing =:= [] orelse throw({hd(Missing), noconnection}),
         Readers = [{Visit, next(Visit)} || Visit <- Visits],
         Hosts = [Host || {_, Host, _, _} <- Visits], % (a pid of each node, by which the others have its number)
-        [write(Visit, Reader, {first, Hosts}) || {Visit, Reader} <- Readers],
+        [timed(Visit, Reader, {first, Hosts}) || {Visit, Reader} <- Readers],
         timer:sleep(round(1000 * Seconds)),
-        [write(Visit, Reader, second) || {Visit, Reader} <- Readers],
+        [timed(Visit, Reader, second) || {Visit, Reader} <- Readers],
         0
     catch
         throw:{Node, Why} -> io:put_chars(standard_error, refusal(Node, Why)), 1
@@ -111,6 +112,13 @@ next({Node, _, Monitor, Tag}) ->
         {'DOWN', Monitor, process, _, Why} -> throw({Node, Why})
     end.
 
+%% Behind what is read of a node stands when that was, by the clock of the caller.
+timed(Visit, Reader, Which) ->
+    Began = os:system_time(millisecond),
+    write(Visit, Reader, Which),
+    Times = [Began / 1000, os:system_time(millisecond) / 1000, element(1, Visit)],
+    ok = file:write(group_leader(), io_lib:format("=taken ~.3f ~.3f ~ts~n", Times)).
+
 write(Visit, Reader, Which) ->
     Reader ! Which,
     case next(Visit) of
@@ -162,10 +170,12 @@ is_send({call_ext, _, {extfunc, Module, Name, _}}) ->
 is_send(_) -> false.
 
 %% A second reading has the same code.
-parts(Module, Code) ->
-    Key = {parts, Module, erlang:md5(Code)},
-    case get(Key) of
-        undefined -> put(Key, disassembled(Module, Code)), get(Key);
+parts(Module, Code) -> once({parts, Module, erlang:md5(Code)}, fun() -> disassembled(Module, Code) end).
+
+%% What a function answers, which is kept by a key and asked for once.
+once(Key, Function) ->
+    case get({?MODULE, Key}) of
+        undefined -> put({?MODULE, Key}, Function()), get({?MODULE, Key});
         Known -> Known
     end.
 
@@ -342,7 +352,37 @@ key(What) ->
 tables(Numbers, {Locks, Held}) ->
     Handlers = [io_lib:format("~0p~n", [Module]) || Module <- handlers()],
     [[io_lib:format("=~s ~b ~ts~n", [Word, length(Rows), node()]) | Rows]
-     || {Word, Rows} <- [{"numbers", Numbers}, {"locks", Locks}, {"mnesia", Held}, {"handles", Handlers}]].
+     || {Word, Rows} <- [{"numbers", Numbers}, {"locks", Locks}, {"mnesia", Held}, {"handles", Handlers},
+                         {"repeated", repeated()}, {"sockets", sockets()}, {"machine", machine()}]].
+
+%% Who has begun each call that the module timer makes again and again, or gets its message: that one monitors these, so
+%% that it ends with them. What it calls lies in a timer of the runtime's, which shows it to nobody.
+repeated() ->
+    Server = whereis(timer_server),
+    case is_pid(Server) andalso process_info(Server, monitors) of
+        {_, Monitors} -> [io_lib:format("~p~n", [P]) || {process, P} <- lists:sublist(Monitors, ?FOUND), is_pid(P)];
+        _ -> []
+    end.
+
+%% The connections of TCP: the port of each with its owner, and its two ends as the kernel has them. A port that is
+%% asked for these does nothing else.
+sockets() ->
+    [io_lib:format("~p ~p ~ts ~ts~n", [Port, P, end_of(At), end_of(To)])
+     || Port <- erlang:ports(), {name, "tcp_inet"} <- [erlang:port_info(Port, name)],
+        {connected, P} <- [erlang:port_info(Port, connected)],
+        {ok, {_, Own} = At} <- [inet:sockname(Port)], is_integer(Own), {ok, To} <- [inet:peername(Port)]].
+
+end_of({{0, 0, 0, 0, 0, 16#ffff, High, Low}, Port}) ->
+    end_of({{High bsr 8, High band 255, Low bsr 8, Low band 255}, Port});
+end_of({Address, Port}) when tuple_size(Address) =:= 4 -> io_lib:format("~s:~b", [inet:ntoa(Address), Port]);
+end_of({Address, Port}) -> io_lib:format("[~s]:~b", [inet:ntoa(Address), Port]).
+
+%% On which machine and in which container the ends of its connections are.
+machine() ->
+    case {file:read_file("/proc/sys/kernel/hostname"), file:read_link("/proc/self/ns/pid")} of
+        {{ok, Name}, {ok, Space}} -> [[string:trim(Name), " ", Space, "\n"]];
+        _ -> []
+    end.
 
 %% Sends the text of each process, how many are left out that aren't of the system, and how many are printed.
 tell(Caller, Tag, Others, Text, Taken, Tables) ->
@@ -367,11 +407,8 @@ is_loaded(Module, Code) ->
         _ -> false
     end.
 
-is_sent(Caller, Tag, {code, _} = Word) ->
-    Caller ! {Tag, Word},
-    receive more -> true end;
-is_sent(Caller, Tag, Text) ->
-    Caller ! {Tag, unicode:characters_to_binary(Text)},
+is_sent(Caller, Tag, Word) ->
+    Caller ! {Tag, case Word of {code, _} -> Word; _ -> unicode:characters_to_binary(Word) end},
     receive more -> true end.
 
 %% Reading a stack, monitors, messages or memory adds a reduction, and reading the reductions adds none. So they are
@@ -495,12 +532,7 @@ handlers() ->
     [Module || Module <- lists:usort(Found) -- [alarm_handler], Module =:= erl_eval orelse not is_of_otp(Module)].
 
 %% The server of the code is asked once for each module.
-is_known_of_otp(Module) ->
-    Key = {?MODULE, otp, Module},
-    case get(Key) of
-        undefined -> put(Key, is_of_otp(Module)), get(Key);
-        Known -> Known
-    end.
+is_known_of_otp(Module) -> once({otp, Module}, fun() -> is_of_otp(Module) end).
 
 list(cut) -> "cut";
 list(Terms) -> ["[", lists:join(",", Terms), "]"].
@@ -598,13 +630,7 @@ modules_called(Module) -> element(2, calls(Module)).
 
 %% What a module calls, by its kinds, and the modules of it.
 calls(Module) ->
-    Key = {?MODULE, Module},
-    case get(Key) of
-        undefined ->
-            put(Key, case is_known_of_otp(Module) of true -> {[], []}; false -> imports_of(Module) end),
-            get(Key);
-        Known -> Known
-    end.
+    once(Module, fun() -> case is_known_of_otp(Module) of true -> {[], []}; false -> imports_of(Module) end end).
 
 imports_of(Module) ->
     case code:get_object_code(Module) of
@@ -712,12 +738,7 @@ may_reply(Text) ->
 
 %% The numbers of the funs of a module that have terms of their own; `any` if its code isn't there. Erlang's own ones
 %% have no fun of a program in theirs, other than those of Elixir, and what is typed in a shell.
-with_terms(Module) ->
-    Key = {?MODULE, funs, Module},
-    case get(Key) of
-        undefined -> put(Key, funs_of(catch binary_to_existing_atom(Module))), get(Key);
-        Known -> Known
-    end.
+with_terms(Module) -> once({funs, Module}, fun() -> funs_of(catch binary_to_existing_atom(Module)) end).
 
 funs_of(Module) when is_atom(Module) ->
     case Module =/= erl_eval andalso is_one_of(?SYSTEM -- [elixir], Module) of

@@ -10,7 +10,7 @@ import struct
 import sys
 from typing import Counter, Dict, List, Optional
 
-from .proc import KCMP_EPOLL, LIBC, MOST, Memory, Row, int32, kcmp, pid_of, try_lines, try_link, whole
+from .proc import KCMP_EPOLL, LIBC, MOST, Memory, Row, int32, kcmp, pid_of, sysvipc_rows, try_lines, whole
 
 # The numbers of the calls that may wait, by architecture.
 X86_64 = """read 0 write 1 open 2 poll 7 pread64 17 pwrite64 18 readv 19 writev 20 select 23 pause 34 nanosleep 35
@@ -89,14 +89,14 @@ def epolled(folder: str, fd: int) -> Optional[List[List[int]]]:
     except OSError:
         return None
     rows = re.findall(r"^tfd: +(\d+) events: +([0-9a-f]+) .*?(?:ino:([0-9a-f]+))?(?: sdev:.*)?$", text, re.M)
-    pid, found = pid_of(folder), []
+    pid, files = pid_of(folder), []
     times: Counter[str] = Counter()
-    for it, events, number in rows:
-        slot = (ctypes.c_uint32 * 3)(fd, int(it), times[it])  # (a number stands there twice if it is of two files)
-        is_other = kcmp(pid, pid, KCMP_EPOLL, int(it), ctypes.byref(slot)) > 0
-        found.append([int(it), int(events, 16) & (0xFFFF | ONESHOT), -1 if is_other else int(number or "0", 16)])
-        times[it] += 1
-    return found
+    for target, events, number in rows:  # (one stands there twice if it is of two files)
+        slot = (ctypes.c_uint32 * 3)(fd, int(target), times[target])
+        is_other = kcmp(pid, pid, KCMP_EPOLL, int(target), ctypes.byref(slot)) > 0
+        files.append([int(target), int(events, 16) & (0xFFFF | ONESHOT), -1 if is_other else int(number or "0", 16)])
+        times[target] += 1
+    return files
 
 
 def besides(call: str, args: List[int], memory: Memory) -> Row:
@@ -127,15 +127,12 @@ def besides(call: str, args: List[int], memory: Memory) -> Row:
 def ipc_of(kind: str, number: int, folder: str) -> Row:
     """Returns the key of a set of semaphores, or of a queue of messages, who has used it last, and when it was made, or
     changed since."""
-    if try_link(f"{folder}/ns/ipc") != try_link("/proc/self/ns/ipc"):
-        return {}
-    rows = (line.split() for line in try_lines(f"/proc/sysvipc/{kind}")[1:])
-    row = next((words for words in rows if int(words[1]) == number), None)
+    row = next((words for words in sysvipc_rows(kind, folder) if int(words[1]) == number), None)
     if row is None:
         return {}
-    users = [int(it) for it in row[5:7]] if kind == "msg" else [
-        LIBC.semctl(number, at, GETPID) for at in range(min(int(row[3]), MOST))]
-    return {"key": int(row[0]), "users": sorted({it for it in users if it > 0}), "changed": ticks_of(int(row[-1]))}
+    users = [int(user) for user in row[5:7]] if kind == "msg" else [
+        LIBC.semctl(number, place, GETPID) for place in range(min(int(row[3]), MOST))]
+    return {"key": int(row[0]), "users": sorted({*users} - {0, -1}), "changed": ticks_of(int(row[-1]))}
 
 
 def ticks_of(moment: int) -> int:

@@ -58,7 +58,7 @@ def kept_of(readings: List[Reading], pids: Iterable[int], is_near: bool = False)
         pid = left.pop()
         if pid > 0 and pid not in kept:
             kept.add(pid)
-            left += [it for reading in readings for it in reading.around(pid, is_near)]
+            left += [near for reading in readings for near in reading.around(pid, is_near)]
     return kept
 
 
@@ -78,28 +78,29 @@ def space() -> str:
 
 def seconds(text: str) -> float:
     """Returns a time in seconds. Raises ValueError if a text is none, or of more than an hour."""
-    found = float(text)
-    if not 0 <= found <= 3600:
+    value = float(text)
+    if not 0 <= value <= 3600:
         raise ValueError
-    return found
+    return value
 
 
-def add_options(it: argparse.ArgumentParser, is_needed: bool) -> None:
+def add_options(parser: argparse.ArgumentParser, is_needed: bool) -> None:
     """Adds the options of a reading to a command."""
-    it.add_argument("--pid", metavar="PID", nargs="+", type=int, required=is_needed, action="extend",
-                    help="the processes to read, with all their children and theirs")
-    it.add_argument("--seconds", type=seconds, default=5.0, help="the time from the first reading to the second (5)")
-    it.add_argument("--stacks", action="store_true",
-                    help="add lines of source and inlined functions of those at a futex, by eu-stack or gdb, which "
-                         "holds them for a moment")
+    parser.add_argument("--pid", metavar="PID", nargs="+", type=int, required=is_needed, action="extend",
+                        help="the processes to read, with all their children and theirs")
+    parser.add_argument("--seconds", type=seconds, default=5.0,
+                        help="the time from the first reading to the second (5)")
+    parser.add_argument("--stacks", action="store_true",
+                        help="add lines of source and inlined functions of those at a futex, by eu-stack or gdb, which "
+                             "holds them for a moment")
 
 
 def main() -> int:
-    it = argparse.ArgumentParser(description="Prints what the kernel keeps of the waits of some processes.")
-    add_options(it, True)
-    it.add_argument("--looks", type=int, choices=range(2, 1001), metavar="NUMBER", default=2,
-                    help="as many readings (2)")
-    asked = it.parse_args()
+    parser = argparse.ArgumentParser(description="Prints what the kernel keeps of the waits of some processes.")
+    add_options(parser, True)
+    parser.add_argument("--looks", type=int, choices=range(2, 1001), metavar="NUMBER", default=2,
+                        help="as many readings (2)")
+    asked = parser.parse_args()
     signal.signal(signal.SIGTERM, lambda *_: sys.exit(128 + signal.SIGTERM))  # (so that whom it holds goes on)
     try:
         sys.stdout.write(collect(asked.pid, asked.seconds, asked.stacks, asked.looks))

@@ -2,6 +2,7 @@
 from __future__ import annotations
 
 import contextlib
+import glob
 import os
 import shutil
 import signal
@@ -13,6 +14,7 @@ from .proc import Row, field, try_slurp
 from .reading import Reading
 
 STACKS = [["eu-stack", "-i", "-s", "-p", "{}"], ["gdb", "-p", "{}", "-batch", "-ex", "thread apply all bt"]]
+REST = 1  # seconds in which a process goes on, or stands still, once its debugger has ended
 
 
 def debugger() -> List[str]:
@@ -26,7 +28,7 @@ def stacks_of(pids: Iterable[int], reading: Reading) -> Iterator[Row]:
     words = debugger()
     for pid in pids:
         threads = reading.rows.get(pid, {}).get("threads", ())
-        if not any(it.get("call") == "futex" for it in threads):
+        if not any(thread.get("call") == "futex" for thread in threads):
             continue
         before = calls_now(pid, threads)
         text = text_of_stacks(pid, words)
@@ -37,14 +39,14 @@ def stacks_of(pids: Iterable[int], reading: Reading) -> Iterator[Row]:
 
 def calls_now(pid: int, threads: Iterable[Row]) -> Dict[int, List[str]]:
     """Returns the calls of some threads with their arguments, as they are now."""
-    return {it["tid"]: try_slurp(f"/proc/{pid}/task/{it['tid']}/syscall").split()[:7] for it in threads}
+    return {thread["tid"]: try_slurp(f"/proc/{pid}/task/{thread['tid']}/syscall").split()[:7] for thread in threads}
 
 
 def text_of_stacks(pid: int, words: List[str]) -> str:
     """Returns what a debugger prints of a process. Whatever becomes of the debugger, the process goes on."""
-    has_ended, was_still = False, is_stopped(pid) or field(try_slurp(f"/proc/{pid}/status"), "TracerPid") != "0"
+    has_ended, was_still = False, bool(standstill(pid))
     try:
-        ran = subprocess.run([it.format(pid) for it in words], stdin=subprocess.DEVNULL, timeout=30,
+        ran = subprocess.run([word.format(pid) for word in words], stdin=subprocess.DEVNULL, timeout=30,
                              capture_output=True, check=False)
         has_ended = True
         return ran.stdout.decode(errors="backslashreplace")
@@ -52,22 +54,30 @@ def text_of_stacks(pid: int, words: List[str]) -> str:
         return ""
     finally:
         if not has_ended and not was_still:
-            let_go(pid)
+            let_go([pid])
 
 
-def is_stopped(pid: int) -> bool:
-    """Whether a process stands still by a signal, or is about to."""
-    status = try_slurp(f"/proc/{pid}/status")
+def standstill(pid: int) -> str:
+    """Returns how a process stands still: "traced" if a debugger has a thread, "stopped" if a signal has stopped one or
+    will, or nothing."""
+    statuses = [try_slurp(path) for path in glob.glob(f"/proc/{pid}/task/*/status")]
+    if any(field(status, "TracerPid") not in ("0", "") for status in statuses):
+        return "traced"
+    return "stopped" if any(map(is_stopped, statuses)) else ""
+
+
+def is_stopped(status: str) -> bool:
     pending = int(field(status, "SigPnd") or "0", 16) | int(field(status, "ShdPnd") or "0", 16)
     return field(status, "State").startswith("T") or bool(pending >> signal.SIGSTOP - 1 & 1)
 
 
-def let_go(pid: int) -> None:
-    """Has a process go on whose debugger has been ended. It stops a process by SIGSTOP, and where it ends before it has
+def let_go(pids: Iterable[int]) -> None:
+    """Has processes go on whose debugger has been ended. It stops a process by SIGSTOP, and where it ends before it has
     seen that done, the process stays stopped."""
-    last = time.monotonic() + 1
-    while time.monotonic() < last:
-        if is_stopped(pid):
+    last, left = time.monotonic() + REST, set(pids)
+    while left and time.monotonic() < last:
+        for pid in [pid for pid in left if standstill(pid) == "stopped"]:
+            left.remove(pid)
             with contextlib.suppress(OSError):
                 os.kill(pid, signal.SIGCONT)
         time.sleep(0.02)

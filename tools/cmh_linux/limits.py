@@ -2,23 +2,24 @@
 from __future__ import annotations
 
 import contextlib
+import os
 import re
 import struct
 import time
-from typing import Iterable, List, Optional, Tuple
+from typing import Dict, Iterable, List, Optional, Tuple
 
+from .calls import QUEUES
 from .proc import Memory, Row, int32, try_slurp
 
 IN_MILLISECONDS = {"poll": 2, "epoll_wait": 3, "epoll_pwait": 3}  # calls with their limit's argument, as a number
 AS_TIMES = {"ppoll": 2, "pselect6": 4, "select": 4, "epoll_pwait2": 3, "rt_sigtimedwait": 2, "semtimedop": 3,
             "io_getevents": 4, "nanosleep": 0, "clock_nanosleep": 2, "futex": 3, "mq_timedsend": 4,
             "mq_timedreceive": 4}  # and those where a time stands in memory
-QUEUES = ("mq_timedsend", "mq_timedreceive")
 OPERATION, BY_CLOCK = 127, 256  # of a futex: what it does, and that its limit is by the clock
 WAITS, LOCKS = 0, (6, 7)  # of these a limit is how long, or a time of the clock; of others when it ends
 IS_A_TIME = 1  # TIMER_ABSTIME
 RAN_AT = re.compile(r"^se\.exec_start *: *([0-9.]+)", re.M)
-OWN = "/proc/thread-self/sched"
+PROCESSOR = 36  # its place in `stat`, behind the name: the one where a thread has last run
 
 
 def limit_of(call: str, args: List[int], memory: Memory) -> Row:
@@ -56,16 +57,53 @@ def clock_of(call: str, args: List[int]) -> Optional[int]:
 
 
 def add_ages(rows: Iterable[Row]) -> None:
-    """Adds to each thread that sleeps for how long it has done so, in seconds, if the kernel says that. Its clock for
-    that lags by what was taken from its processors."""
+    """Adds to each thread that sleeps for how long it has done so, in seconds, if the kernel says that."""
+    clocks = Clocks()
     for row in rows:
         for thread in row.get("threads", ()):
-            ran, now = time_of(f"/proc/{row['pid']}/task/{thread['tid']}/sched"), time_of(OWN)
-            if "counts" in thread and ran is not None and now is not None:
-                thread["waited"] = round(max(0.0, now - ran), 1)
+            waited = clocks.waited(f"/proc/{row['pid']}/task/{thread['tid']}") if "counts" in thread else None
+            if waited is not None:
+                thread["waited"] = round(waited, 1)
 
 
-def time_of(path: str) -> Optional[float]:
-    """Returns when a thread has last run."""
-    ran = RAN_AT.search(try_slurp(path))
+class Clocks:
+    """The scheduler's clock of each processor. It stands still while others take the processor, so that after some
+    days two of them may be minutes apart: a time is compared with the clock by which it was noted, alone."""
+
+    def __init__(self) -> None:
+        self.ahead: Dict[int, Optional[float]] = {}
+
+    def waited(self, folder: str) -> Optional[float]:
+        """Returns for how many seconds the thread of a folder of /proc hasn't run, or None if that isn't known."""
+        row, ran = try_slurp(f"{folder}/stat").rpartition(")")[2].split(), ran_at(folder)
+        if ran is None or len(row) <= PROCESSOR:
+            return None
+        ahead = self.of(int(row[PROCESSOR]))
+        return None if ahead is None else max(0.0, boot_time() + ahead - ran)
+
+    def of(self, processor: int) -> Optional[float]:
+        """Returns by how much the clock of a processor is ahead of the time since the start, or None if this thread may
+        not run there."""
+        if processor not in self.ahead:
+            self.ahead[processor] = ahead_of(processor)
+        return self.ahead[processor]
+
+
+def ahead_of(processor: int) -> Optional[float]:
+    before = os.sched_getaffinity(0)
+    with contextlib.suppress(OSError):
+        os.sched_setaffinity(0, {processor})
+        now = ran_at("/proc/thread-self")
+        os.sched_setaffinity(0, before)
+        return None if now is None else now - boot_time()
+    return None
+
+
+def boot_time() -> float:
+    return time.clock_gettime(time.CLOCK_BOOTTIME)
+
+
+def ran_at(folder: str) -> Optional[float]:
+    """Returns when a thread has last run, by the clock of the processor where that was."""
+    ran = RAN_AT.search(try_slurp(f"{folder}/sched"))
     return float(ran[1]) / 1000 if ran else None

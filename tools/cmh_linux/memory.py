@@ -4,13 +4,12 @@ from __future__ import annotations
 import contextlib
 import os
 import re
-from typing import Dict, Iterator, List, Optional, Set, Tuple
+from typing import Dict, Iterator, List, Optional, Tuple
 
-from .proc import KCMP_VM, Row, kcmp, try_lines, try_link, whole
+from .proc import DELETED, KCMP_VM, Row, kcmp, sysvipc_rows, whole
 
 FILE = "file"
 MAPPING = re.compile(r"^([0-9a-f]+)-([0-9a-f]+) ...([ps]) [0-9a-f]+ ([0-9a-f]+:[0-9a-f]+) (\d+) *(.*)$", re.M)
-DELETED = " (deleted)"
 NAMELESS = re.compile(r"/(dev/zero|memfd:.*) \(deleted\)")  # memory that never had a name
 SEGMENT = re.compile(r"/SYSV[0-9a-f]{8} \(deleted\)")  # memory of System V
 DESTROYED = 0o1000  # SHM_DEST: a segment that goes with the last one who has it
@@ -34,12 +33,12 @@ def mappings(pid: int) -> List[Tuple[int, int, str]]:
     """Returns where memory of a process begins and ends, with a name of what other processes may have too. Who has a
     file isn't known, as anybody may open it, and pages of it are shared too where a process has it for itself."""
     try:
-        found = MAPPING.findall(whole(f"/proc/{pid}/maps"))
+        rows = MAPPING.findall(whole(f"/proc/{pid}/maps"))
     except OSError:
         return []
     return [(int(first, 16), int(last, 16), "" if (way, number) == ("p", "0") else
              f"memory {device} {number}" if way == "s" and is_nameless(pid, f"{first}-{last}", path, int(number))
-             else FILE) for first, last, way, device, number, path in found]
+             else FILE) for first, last, way, device, number, path in rows]
 
 
 def is_nameless(pid: int, place: str, path: str, number: int) -> bool:
@@ -56,15 +55,8 @@ def is_nameless(pid: int, place: str, path: str, number: int) -> bool:
 
 def is_destroyed(pid: int, number: int) -> bool:
     """Whether a segment of System V that a process has is destroyed. The number of its file is that of the segment."""
-    if try_link(f"/proc/{pid}/ns/ipc") != try_link("/proc/self/ns/ipc"):
-        return False
-    rows = (line.split() for line in try_lines("/proc/sysvipc/shm")[1:])
-    return any(int(words[1]) == number and int(words[2], 8) & DESTROYED for words in rows)
-
-
-def shared_memory(pid: int) -> Set[str]:
-    """Returns the names of the memory of a process that others may have too."""
-    return {name for _, _, name in mappings(pid)} - {"", FILE}
+    return any(int(words[1]) == number and int(words[2], 8) & DESTROYED
+               for words in sysvipc_rows("shm", f"/proc/{pid}"))
 
 
 def add_kin(rows: List[Row]) -> None:
@@ -75,6 +67,6 @@ def add_kin(rows: List[Row]) -> None:
         programs.setdefault(row.get("exe", ""), []).append(row)
     for row in rows:
         pid = row.get("living", 0)
-        if any("memory" in it for it in row.get("threads", ())) and kcmp(pid, pid, KCMP_VM) == 0:
-            row["kin"] = [it["pid"] for it in programs[row["exe"]]
-                          if it is not row and kcmp(pid, it.get("living", 0), KCMP_VM) == 0]
+        if any("memory" in one for one in row.get("threads", ())) and kcmp(pid, pid, KCMP_VM) == 0:
+            row["kin"] = [one["pid"] for one in programs[row["exe"]]
+                          if one is not row and kcmp(pid, one.get("living", 0), KCMP_VM) == 0]

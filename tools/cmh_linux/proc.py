@@ -10,6 +10,7 @@ Row = Dict[str, Any]
 
 MOST = 65536  # bytes of memory, or descriptors of a set, that are read at most
 KCMP_FILE, KCMP_VM, KCMP_FILES, KCMP_EPOLL = 0, 1, 2, 7
+DELETED = " (deleted)"  # behind the name of a file that is gone
 LIBC = ctypes.CDLL(None, use_errno=True)
 
 
@@ -46,8 +47,8 @@ def try_link(path: str) -> str:
 
 def field(status: str, name: str) -> str:
     """Returns a field of a file `status`, or nothing."""
-    at = status.find(f"\n{name}:\t")
-    return status[at + len(name) + 3:status.find("\n", at + 1)] if at >= 0 else ""
+    start = status.find(f"\n{name}:\t")
+    return status[start + len(name) + 3:status.find("\n", start + 1)] if start >= 0 else ""
 
 
 def lines_of(path: str, beginnings: Tuple[str, ...]) -> List[str]:
@@ -72,10 +73,10 @@ class Memory:
 
     def text(self, address: int) -> str:
         """Returns the text up to a zero byte, of 4,096 bytes at most, page by page."""
-        found = self.read(address, 4096 - address % 4096)
-        if b"\0" not in found:
-            found += self.read(address + len(found), 4096)
-        return found.partition(b"\0")[0].decode("utf-8", "backslashreplace")
+        data = self.read(address, 4096 - address % 4096)
+        if b"\0" not in data:
+            data += self.read(address + len(data), 4096)
+        return data.partition(b"\0")[0].decode("utf-8", "backslashreplace")
 
     def close(self) -> None:
         if self.handle >= 0:
@@ -89,13 +90,19 @@ def try_lines(path: str) -> List[str]:
         return []
 
 
+def sysvipc_rows(kind: str, folder: str) -> List[List[str]]:
+    """Returns what the kernel has of a kind of System V, if a process sees the same as this one."""
+    is_same = try_link(f"{folder}/ns/ipc") == try_link("/proc/self/ns/ipc")
+    return [line.split() for line in try_lines(f"/proc/sysvipc/{kind}")[1:]] if is_same else []
+
+
 def int32(value: int) -> int:
     return ctypes.c_int32(value & 0xFFFFFFFF).value
 
 
 def pid_of(folder: str) -> int:
-    it = folder.rpartition("/")[2]
-    return os.getpid() if it == "self" else int(it)
+    number = folder.rpartition("/")[2]
+    return os.getpid() if number == "self" else int(number)
 
 
 def kcmp(one: int, other: int, kind: int, *more: Any) -> int:

@@ -12,7 +12,7 @@ from typing import Dict, Iterator, List, Optional, Tuple
 
 from .calls import QUEUES, besides, calls_of, set_of
 from .limits import limit_of
-from .memory import names_of_memory, shared_memory
+from .memory import mappings, names_of_memory
 from .proc import (KCMP_FILE, KCMP_FILES, Memory, Row, field, kcmp, lines_of, pid_of, slurp, try_lines, try_link,
                    try_slurp, whole)
 
@@ -48,7 +48,7 @@ class Machine:
             row["threads"] = list(self.threads(pid, memory))
             row.update(runtime_of(living, row))
             row.update(aio_of(living, row))
-            if any(has_own_files(living, it["tid"]) for it in row["threads"] if it["state"] not in "ZX"):
+            if any(has_own_files(living, thread["tid"]) for thread in row["threads"] if thread["state"] not in "ZX"):
                 row["unreadable"] = "a thread of it has descriptors of its own"
         except PermissionError:
             row["unreadable"] = why_unreadable(pid)
@@ -76,7 +76,7 @@ class Machine:
         others, which it closes unused."""
         row = self.base(os.getpid())
         assert row is not None
-        files = {fd: it for fd, it in self.descriptors("/proc/self") if fd in "012"}
+        files = {fd: words for fd, words in self.descriptors("/proc/self") if fd in "012"}
         return {**row, "fds": files, "threads": [{"tid": os.getpid(), "state": "R"}], "collects": True}
 
     def descriptors(self, folder: str) -> Iterator[Tuple[str, List[str]]]:
@@ -86,24 +86,24 @@ class Machine:
             with contextlib.suppress(FileNotFoundError):
                 path = f"{folder}/fd/{fd}"
                 target, mode = os.readlink(path), os.lstat(path).st_mode
-                it = [target, "r" * bool(mode & 0o400) + "w" * bool(mode & 0o200)]
+                words = [target, "r" * bool(mode & 0o400) + "w" * bool(mode & 0o200)]
                 if target == "anon_inode:[eventpoll]":
-                    self.epolls.append(Descriptor(folder, int(fd), it))
+                    self.epolls.append(Descriptor(folder, int(fd), words))
                 elif target.startswith(("anon_inode:[", "pidfd:[")):
                     more = lines_of(f"{folder}/fdinfo/{fd}", ("eventfd-id:", "Pid:", "it_value:", RING, SIGNALS))
-                    it += more
+                    words += more
                 elif target.startswith("socket:["):
-                    it += [line for line in lines_of(f"{folder}/fdinfo/{fd}", (CARRIES,)) if line != f"{CARRIES} 0"]
+                    words += [line for line in lines_of(f"{folder}/fdinfo/{fd}", (CARRIES,)) if line != f"{CARRIES} 0"]
                 elif target.startswith("/") and not target.startswith(("/proc/", "/sys/")):
-                    self.add_file(Descriptor(folder, int(fd), it), os.stat(path))
-                yield fd, it
+                    self.add_file(Descriptor(folder, int(fd), words), os.stat(path))
+                yield fd, words
 
-    def add_file(self, it: "Descriptor", status: os.stat_result) -> None:
+    def add_file(self, descriptor: "Descriptor", status: os.stat_result) -> None:
         """Notes who has a file open. A FIFO is told by its number."""
         if stat.S_ISFIFO(status.st_mode):
-            it.words.append(f"fifo {status.st_dev:x}:{status.st_ino}")
+            descriptor.words.append(f"fifo {status.st_dev:x}:{status.st_ino}")
         elif stat.S_ISREG(status.st_mode) or stat.S_ISDIR(status.st_mode):
-            self.files.setdefault((status.st_dev, status.st_ino), []).append(it)
+            self.files.setdefault((status.st_dev, status.st_ino), []).append(descriptor)
 
     def add_locks(self, rows: List[Row]) -> None:
         """Adds the locks of each file at whose lock a thread waits, or that is locked while another process has it open
@@ -135,24 +135,24 @@ class Machine:
         waited = {id(row["fds"].get(str(fd))) for row in rows for thread in row.get("threads", ())
                   if thread.get("call") in calls for fd, _ in thread["set"]}
         for (device, number), them in self.files.items():
-            if any(id(it.words) in waited for it in them):
-                for it in them:
-                    it.words.append(f"{kind} {device:x}:{number}")
+            if any(id(descriptor.words) in waited for descriptor in them):
+                for descriptor in them:
+                    descriptor.words.append(f"{kind} {device:x}:{number}")
                 yield them
 
     def add_memory(self, rows: List[Row]) -> None:
         """Adds of each thread at a futex which memory that is of, and who has this too: it alone may wake the thread.
         """
         names = {row["pid"]: {*names_of_memory(row)} for row in rows if "threads" in row}
-        wanted = {name for some in names.values() for name in some}
+        wanted = {name for of_process in names.values() for name in of_process}
         for row in rows if wanted else ():
-            for name in wanted & shared_memory(row.get("living", row["pid"])):
+            for name in wanted.intersection(name for _, _, name in mappings(row.get("living", row["pid"]))):
                 row.get("fds", {})[name] = ["memory", "rw", name]
         for (device, number), them in self.files.items():
             name = f"memory {os.major(device):02x}:{os.minor(device):02x} {number}"
             if name in wanted:  # (who has it open may map it)
-                for it in them:
-                    it.words.append(name)
+                for descriptor in them:
+                    descriptor.words.append(name)
 
     def threads(self, pid: int, memory: Memory) -> Iterator[Row]:
         for tid in os.listdir(f"/proc/{pid}/task"):
@@ -174,20 +174,24 @@ class Machine:
         if row["state"] in "ZXR":
             return row
         words = slurp(f"{folder}/syscall").split()
-        if words[0] in ("running", "-1"):
+        if words[0] in ("running", "-1"):  # (one that is stopped while it computes is in none, as "-1" says)
             row["call"] = words[0]
+        else:
+            row.update(self.call_of(words, memory))
+        if words[0] == "running":
             return row
-        args = [int(it, 16) for it in words[1:]]
-        row["call"] = call = self.calls.get(int(words[0]), words[0]) if args[6] >> 32 else f"32-bit {words[0]}"
-        row["args"] = [f"{it:#x}" for it in args[:6]]
-        row.update(besides(call, args, memory))
-        row.update(limit_of(call, args, memory))
-        found_set = set_of(call, args, memory)
-        if found_set is not None:
-            row["set"] = found_set
         row["wchan"] = try_slurp(f"{folder}/wchan")
-        row["counts"] = [int(field(it, "voluntary_ctxt_switches")) for it in (status, slurp(f"{folder}/status"))]
+        row["counts"] = [int(field(text, "voluntary_ctxt_switches")) for text in (status, slurp(f"{folder}/status"))]
         return row
+
+    def call_of(self, words: List[str], memory: Memory) -> Row:
+        """Returns what is known of a call, by the number and the arguments that the kernel shows."""
+        args = [int(number, 16) for number in words[1:]]
+        call = self.calls.get(int(words[0]), words[0]) if args[6] >> 32 else f"32-bit {words[0]}"
+        row: Row = {"call": call, "args": [f"{number:#x}" for number in args[:6]], **besides(call, args, memory),
+                    **limit_of(call, args, memory)}
+        found_set = set_of(call, args, memory)
+        return row if found_set is None else {**row, "set": found_set}
 
 
 def locked_files() -> List[Tuple[int, int]]:
@@ -218,9 +222,9 @@ def name_of_user(number: int) -> str:
 
 def living_thread(pid: int) -> int:
     """Returns a thread of a process whose first thread has ended."""
-    tids = [int(it) for it in os.listdir(f"/proc/{pid}/task")]
+    tids = list(map(int, os.listdir(f"/proc/{pid}/task")))
     states = {tid: field(try_slurp(f"/proc/{pid}/task/{tid}/status"), "State")[:1] for tid in tids}
-    return next((tid for tid, it in states.items() if it and it not in "ZX"), pid)
+    return next((tid for tid, state in states.items() if state and state not in "ZX"), pid)
 
 
 class Descriptor:
@@ -243,16 +247,16 @@ def compare_open(one: Descriptor, other: Descriptor) -> int:
 def name_open_files(them: List[Descriptor]) -> None:
     """Gives all descriptors of one open file the same name: those that a child inherits, but not those of who opened
     the same file again."""
-    there = [it for it in them if kcmp(it.pid, it.pid, KCMP_FILE, it.fd, it.fd) == 0]
+    there = (descriptor for descriptor in them if compare_open(descriptor, descriptor) == 0)
     first: Optional[Descriptor] = None
-    for it in sorted(there, key=functools.cmp_to_key(compare_open)):
-        first = it if first is None or compare_open(first, it) else first
-        it.words.append(f"open {first.pid}:{first.fd}")
+    for descriptor in sorted(there, key=functools.cmp_to_key(compare_open)):
+        first = descriptor if first is None or compare_open(first, descriptor) else first
+        descriptor.words.append(f"open {first.pid}:{first.fd}")
 
 
 def aio_of(folder: str, row: Row) -> Row:
     """Returns whether requests of a process (io_submit) may make the kernel write to an eventfd that it has."""
-    if not any(it[0] == "anon_inode:[eventfd]" for it in row["fds"].values()):
+    if not any(words[0] == "anon_inode:[eventfd]" for words in row["fds"].values()):
         return {}
     return {"aio": True} if "/[aio]" in whole(f"{folder}/maps") else {}
 
@@ -260,10 +264,10 @@ def aio_of(folder: str, row: Row) -> Row:
 def runtime_of(folder: str, row: Row) -> Row:
     """Returns the runtime that a process shows by its program, as a Go program does, or a rank of MPI that doesn't
     sleep by its libraries."""
-    if any(it["state"] == "R" or it.get("call") == "running" or "poll" in it.get("call", "") for it in row["threads"]):
+    if any(thread["state"] == "R" or re.search("running|poll", thread.get("call", "")) for thread in row["threads"]):
         if re.search(r"/libmpi\w*\.so", whole(f"{folder}/maps")):
             return {"runtime": "mpi"}
-    if len(row["threads"]) == 1 or not any(it.get("call") == "futex" for it in row["threads"]):
+    if len(row["threads"]) == 1 or not any(thread.get("call") == "futex" for thread in row["threads"]):
         return {}
     with contextlib.suppress(OSError):
         with open(f"{folder}/exe", "rb") as file:

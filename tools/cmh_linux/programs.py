@@ -7,13 +7,12 @@ import re
 import struct
 from typing import Dict, List, NamedTuple, Optional, Tuple
 
-from .proc import Memory, Row, whole
+from .proc import DELETED, Memory, Row, whole
 from .symbols import EH_FRAME, Head, Read, Symbols, symbols_of
 from .tables import Rule, Tables
 from .words import Unclear
 
 MAPPED_CODE = re.compile(r"^([0-9a-f]+)-([0-9a-f]+) ..(.). ([0-9a-f]+) (\S+ \d+) *(/.*)$", re.M)
-DELETED = " (deleted)"
 
 
 class Program:

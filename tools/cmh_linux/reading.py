@@ -22,7 +22,7 @@ class Reading:
 
     def __init__(self) -> None:
         self.began, start = time.time(), time.monotonic()
-        pids = [int(it) for it in os.listdir("/proc") if it.isdigit() and int(it) != os.getpid()]
+        pids = [int(name) for name in os.listdir("/proc") if name.isdigit() and int(name) != os.getpid()]
         machine = Machine()
         rows = [*read_all(machine, pids), machine.itself()]
         machine.add_locks(rows)
@@ -37,8 +37,8 @@ class Reading:
         self.children: Dict[int, Set[int]] = {}
         self.threads: Dict[int, Set[int]] = {}  # the processes of a thread, by its number as it sees itself
         for row in rows:
-            for it in row.get("threads", ()):
-                self.threads.setdefault(it.get("inner", it["tid"]), set()).add(row["pid"])
+            for thread in row.get("threads", ()):
+                self.threads.setdefault(thread.get("inner", thread["tid"]), set()).add(row["pid"])
             for key in keys_of(row):
                 self.holders.setdefault(key, set()).add(row["pid"])
             for parent in (row["ppid"], int(row.get("TracerPid", "0"))):
@@ -46,14 +46,14 @@ class Reading:
 
     def tree(self, pids: Iterable[int]) -> Set[int]:
         """Returns some processes, with all their children and theirs."""
-        found: Set[int] = set()
+        below: Set[int] = set()
         left = list(pids)
         while left:
             pid = left.pop()
-            if pid not in found:
-                found.add(pid)
+            if pid not in below:
+                below.add(pid)
                 left += self.children.get(pid, ())
-        return found
+        return below
 
     def rows_of(self, pids: Iterable[int]) -> List[Row]:
         return [self.rows[pid] for pid in pids if pid in self.rows]
@@ -68,11 +68,11 @@ class Reading:
 
     def later_branches(self, pid: int) -> Set[int]:
         """Returns the children of those above a process that began after it: one may be an orphan of those below it."""
-        start, found = self.rows[pid]["start"], set()
+        start, later = self.rows[pid]["start"], set()
         while pid in self.rows:
             pid = self.rows[pid]["ppid"]
-            found |= {it for it in self.children.get(pid, ()) if self.rows[it].get("start", start) >= start}
-        return found
+            later |= {child for child in self.children.get(pid, ()) if self.rows[child].get("start", start) >= start}
+        return later
 
     def carriers(self) -> Set[int]:
         """Returns the processes that may have a file which no descriptor shows: on its way, or used by an io_uring."""
@@ -84,27 +84,28 @@ class Reading:
         row = self.rows.get(pid)
         if row is None:
             return set()
-        found = self.children.get(pid, set()) | {int(row.get("TracerPid", "0")), *row.get("kin", ())}
+        near = self.children.get(pid, set()) | {int(row.get("TracerPid", "0")), *row.get("kin", ())}
         for thread in row.get("threads", ()):
-            found = found | self.threads.get(owner_of(thread), set())
+            near = near | self.threads.get(owner_of(thread), set())
             if thread.get("key") == NO_KEY and not is_near:
-                tops = {self.top(it) for it in [row, *self.rows_of(thread["users"])]}
-                found = found | self.tree(tops.union(*map(self.later_branches, tops)))
-            keys = self.keys_of_wait(row, thread) if thread.get("call") not in SLEEPS else keys_of_locks(row)
-            for key in keys:
-                found = found | self.holders.get(key, set())
-        return found
+                tops = {self.top(user) for user in [row, *self.rows_of(thread["users"])]}
+                near = near | self.tree(tops.union(*map(self.later_branches, tops)))
+            # (One that sleeps may poll for a file that somebody has locked.)
+            locked = (key for key in keys_of(row) if key.startswith("file "))
+            for key in locked if thread.get("call") in SLEEPS else self.keys_of_wait(row, thread):
+                near = near | self.holders.get(key, set())
+        return near
 
     def keys_of_wait(self, row: Row, thread: Row) -> Iterator[str]:
         """Yields what tells the ends of the files that a thread waits at."""
         for fd, *_ in thread.get("set", ()):
-            it = row["fds"].get(str(fd))
-            if it is None:
+            words = row["fds"].get(str(fd))
+            if words is None:
                 continue
-            number = inode_of(it[0])
+            number = inode_of(words[0])
             if number:
                 yield from (f"socket:[{peer}]" for peer in self.sockets.rows.get(number, {}).get("peers", ()))
-            yield from keys_of_file(it)
+            yield from keys_of_file(words)
         if thread.get("call") in EPOLLS:
             yield from keys_of_file(row["fds"].get(str(int32(int(thread["args"][0], 16))), ()))
         if thread.get("memory"):
@@ -115,27 +116,27 @@ class Reading:
 
     def parents(self, pids: Set[int]) -> Dict[int, List[int]]:
         """Returns the parent of each process above some, and when it began."""
-        found: Dict[int, List[int]] = {}
+        parents: Dict[int, List[int]] = {}
         left = [self.rows[pid]["ppid"] for pid in pids]
         while left:
             pid = left.pop()
             row = self.rows.get(pid, {})
-            if "start" in row and pid not in pids and pid not in found:
-                found[pid] = [row["ppid"], row["start"]]
+            if "start" in row and pid not in pids and pid not in parents:
+                parents[pid] = [row["ppid"], row["start"]]
                 left.append(row["ppid"])
-        return found
+        return parents
 
     def text(self, number: int, kept: Set[int]) -> Iterator[Row]:
         """Yields the rows of the state for some processes."""
         rows = [self.rows[pid] for pid in sorted(kept) if pid in self.rows]
         missing = [row for pid, row in sorted(self.rows.items()) if pid not in kept and "unreadable" in row]
-        numbers = {inode_of(it[0]) for row in rows for it in row.get("fds", {}).values()} - {0}
+        numbers = {inode_of(words[0]) for row in rows for words in row.get("fds", {}).values()} - {0}
         yield {"reading": number, "began": self.began, "seconds": round(self.seconds, 2),
                "warnings": self.sockets.warnings}
         yield from ({**row, "command": "", "apart": True} for row in missing)
         for row in rows:
             wanted = {fd for thread in row.get("threads", ()) for fd, *_ in thread.get("set", ())}
-            files = {fd: it for fd, it in row.get("fds", {}).items() if is_shared(it) or int(fd) in wanted}
+            files = {fd: words for fd, words in row.get("fds", {}).items() if is_shared(words) or int(fd) in wanted}
             yield {**row, "fds": files} if "fds" in row else row
         for inode in sorted(numbers & self.sockets.rows.keys()):
             yield {"socket": inode, **self.sockets.rows[inode]}
@@ -147,19 +148,14 @@ class Reading:
 
 def keys_of(row: Row) -> Iterator[str]:
     """Yields what tells the files of a process from others."""
-    for it in row.get("fds", {}).values():
-        yield from keys_of_file(it)
+    for words in row.get("fds", {}).values():
+        yield from keys_of_file(words)
 
 
-def keys_of_locks(row: Row) -> Iterator[str]:
-    """Yields what tells the files of a process that somebody has locked, for which it may poll."""
-    return (key for key in keys_of(row) if key.startswith("file "))
-
-
-def keys_of_file(it: Sequence[str]) -> Iterator[str]:
-    yield from (more for more in it[2:] if not more.startswith(NO_KEYS))
-    if it and it[0].startswith(("pipe:[", "socket:[")):
-        yield it[0]
+def keys_of_file(words: Sequence[str]) -> Iterator[str]:
+    yield from (more for more in words[2:] if not more.startswith(NO_KEYS))
+    if words and words[0].startswith(("pipe:[", "socket:[")):
+        yield words[0]
 
 
 def owner_of(thread: Row) -> int:
@@ -167,20 +163,20 @@ def owner_of(thread: Row) -> int:
     words = bytes.fromhex(thread.get("words", ""))
     if thread.get("call") != "futex" or int(thread["args"][1], 16) & PRIVATE or len(words) < 12:
         return 0
-    word, owner = (int.from_bytes(words[at:at + 4], sys.byteorder) for at in (0, 8))
+    word, owner = (int.from_bytes(words[start:start + 4], sys.byteorder) for start in (0, 8))
     return owner if word == 2 else word & TID if word >> 31 else 0
 
 
-def may_carry(it: Sequence[str]) -> bool:
+def may_carry(words: Sequence[str]) -> bool:
     """Whether a descriptor may have or use files that none shows."""
-    if "io_uring" in it[0]:  # (an older kernel doesn't say how many files it keeps)
-        return f"{RING} 0" not in it[2:]
-    return any(more.startswith(CARRIES) for more in it[2:])
+    if "io_uring" in words[0]:  # (an older kernel doesn't say how many files it keeps)
+        return f"{RING} 0" not in words[2:]
+    return any(more.startswith(CARRIES) for more in words[2:])
 
 
-def is_shared(it: Sequence[str]) -> bool:
+def is_shared(words: Sequence[str]) -> bool:
     """Whether a descriptor may be an end of somebody's wait."""
-    return it[0].startswith(("pipe:[", "socket:[", "anon_inode:[")) or len(it) > 2
+    return words[0].startswith(("pipe:[", "socket:[", "anon_inode:[")) or len(words) > 2
 
 
 def inode_of(target: str) -> int:

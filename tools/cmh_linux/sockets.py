@@ -26,7 +26,8 @@ class Sockets:
         own = os.readlink("/proc/self/ns/net")[5:-1]
         for net, pids in spaces.items():
             # One of the processes may have ended by now.
-            there = ["self"] if net == own else [f"{it}" for it in pids if os.path.exists(f"/proc/{it}/ns/net")]
+            others = (str(pid) for pid in pids if net != own and os.path.exists(f"/proc/{pid}/ns/net"))
+            there = ["self"] if net == own else list(others)
             for pid in there[:1]:
                 prefix = [] if net == own else ["nsenter", f"--net=/proc/{pid}/ns/net"]
                 self.add_unix(net, unix_rows(prefix, self.warnings))
@@ -43,9 +44,9 @@ class Sockets:
                 self.names.setdefault((net, path), []).append(inode)
                 busy += [inode] if pending != "0" else []
         for words in rows:  # (one whose connection isn't accepted yet belongs to all that listen and have such a one)
-            it = self.rows[int(words[-3])]
-            if it["state"] == "ESTAB" and not it["peers"]:
-                it["peers"] = busy
+            row = self.rows[int(words[-3])]
+            if row["state"] == "ESTAB" and not row["peers"]:
+                row["peers"] = busy
 
     def add_tcp(self, rows: List["TcpRow"]) -> None:
         ends = {(row.at, row.to): row.inode for row in rows}
@@ -54,7 +55,8 @@ class Sockets:
         local = {row.at[0] for row in rows}
         for row in rows:
             other = ends.get((row.to, row.at))
-            peers = [other] if other else [] if other is None else [it.inode for it in listeners if it.takes(row.to)]
+            takers = (listener.inode for listener in listeners if listener.takes(row.to))
+            peers = [other] if other else [] if other is None else list(takers)
             here = row.to[0] in local or is_loopback(row.to[0])
             if row.inode:
                 self.rows[row.inode] = {"kind": "tcp", "state": row.state, "at": address(row.at),
@@ -64,7 +66,7 @@ class Sockets:
 
 def unix_rows(prefix: List[str], warnings: List[str]) -> List[List[str]]:
     """Returns the words of each line that `ss` has on Unix sockets."""
-    for command, package in (("ss", "iproute2"), *((it, "util-linux") for it in prefix[:1])):
+    for command, package in (("ss", "iproute2"), *((word, "util-linux") for word in prefix[:1])):
         if shutil.which(command) is None:
             warnings.append(f"Unix sockets can't be read: {command} isn't there (Debian: apt-get install {package})")
             return []
@@ -100,18 +102,19 @@ class TcpRow:
 
 def end_of(text: str) -> Tuple[str, str]:
     """Returns the address and the port of an end. An address of IPv4 within IPv6 is that of IPv4."""
-    it, _, port = text.partition(":")
-    return it[24:] if len(it) == 32 and it.startswith(MAPPED) else it, port
+    digits, _, port = text.partition(":")
+    return digits[24:] if len(digits) == 32 and digits.startswith(MAPPED) else digits, port
 
 
-def is_loopback(it: str) -> bool:
-    return len(it) == 8 and it.endswith("7F") or it == "0" * 24 + "01000000"
+def is_loopback(digits: str) -> bool:
+    return len(digits) == 8 and digits.endswith("7F") or digits == "0" * 24 + "01000000"
 
 
 def address(end: Tuple[str, str]) -> str:
     """Returns '127.0.0.1:80' of the kernel's '0100007F' and '0050'."""
-    it, port = end[0], int(end[1], 16)
-    numbers = [byte for at in range(0, len(it), 8) for byte in reversed(bytes.fromhex(it[at:at + 8]))]
+    digits, port = end[0], int(end[1], 16)
+    words = (digits[start:start + 8] for start in range(0, len(digits), 8))
+    numbers = [byte for word in words for byte in reversed(bytes.fromhex(word))]
     if len(numbers) == 4:
         return f"{'.'.join(map(str, numbers))}:{port}"
     return f"[{socket.inet_ntop(socket.AF_INET6, bytes(numbers))}]:{port}"

@@ -76,7 +76,7 @@ class Symbols:
     def read(self, read: Read, head: Head) -> None:
         table = read(head.sections_at, head.section_size * head.sections)
         sections = [struct.unpack_from("=IIQQQQII", table, head.section_size * number)
-                    for number in range(head.sections)]
+                    for number in range(head.sections if table else 0)]  # (a file that is gone has none)
         for section in sections:
             if section[1] in NAMES and section[6] < len(sections):
                 self.add(content(read, section), content(read, sections[section[6]]))

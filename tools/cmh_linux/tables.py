@@ -38,11 +38,11 @@ class Rule:
         if base is None:
             raise Unclear
         end = base if computed else base + offset
-        found = {number: word(end + place) for number, place in self.saved.items()}
-        found.update({number: word(result_of(text, registers, word, end)) for number, text in self.computed.items()})
-        if not found.get(RETURN):
+        saved = {number: word(end + place) for number, place in self.saved.items()}
+        saved.update({number: word(result_of(text, registers, word, end)) for number, text in self.computed.items()})
+        if not saved.get(RETURN):
             raise Unclear
-        return {**registers, STACK_POINTER: end, **found}
+        return {**registers, STACK_POINTER: end, **saved}
 
 
 class Tables:

@@ -52,8 +52,8 @@ def has_room(number: int, seconds: float) -> bool:
         return False
     asked = select.poll()
     asked.register(number, select.POLLOUT)
-    found = asked.poll(1000 * seconds)
-    return bool(found) and not found[0][1] & (select.POLLERR | select.POLLHUP | select.POLLNVAL)
+    events = asked.poll(1000 * seconds)
+    return bool(events) and not events[0][1] & (select.POLLERR | select.POLLHUP | select.POLLNVAL)
 
 
 def is_of_program(error: BaseException) -> bool:

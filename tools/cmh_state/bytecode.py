@@ -44,30 +44,36 @@ def pushed_by(step: Step) -> Optional[Tuple[int, int]]:
 def first_of(steps: Steps, end: int, need: int, are_arguments: bool = False) -> Optional[int]:
     """The place of the first of those steps that push `need` values just before `end`, or None. Arguments may be made
     in one of two ways, and what is called stands before both."""
-    at = end - 1
-    while at >= 0:
-        step = steps[at]
+    place = end - 1
+    while place >= 0:
+        step = steps[place]
         if step.opname in ENDS:  # of one of two ways to the same values
-            at = branch_to(steps, at + 1)
+            place = branch_to(steps, place + 1)
             continue
         if isinstance(step.argval, int) and step.opcode in (*dis.hasjrel, *dis.hasjabs) and step.argval < step.offset:
             return None
         argument = step.arg if step.opcode >= dis.HAVE_ARGUMENT else None
         need -= dis.stack_effect(step.opcode, argument, jump=False)
-        is_second = are_arguments and steps[at - 1].opname in ENDS and branch_to(steps, at) >= 0
+        is_second = are_arguments and steps[place - 1].opname in ENDS and branch_to(steps, place) >= 0
         if need <= 0 and not is_second:
-            return at if need == 0 else None
-        at -= 1
+            return place if need == 0 and not is_one_way(steps, place, end) else None
+        place -= 1
     return None
+
+
+def is_one_way(steps: Steps, start: int, end: int) -> bool:
+    """Whether some steps make a value in one of two ways, as behind an `else`: another way comes in between."""
+    before = steps[start - 1]
+    return before.opname == "JUMP_FORWARD" and steps[start].offset < before.argval <= steps[end].offset
 
 
 def branch_to(steps: Steps, other: int) -> int:
     """The place of the step that goes to `other` or on, or -1."""
-    for at in range(other - 1, -1, -1):
-        step = steps[at]
+    for place in range(other - 1, -1, -1):
+        step = steps[place]
         if step.opname not in ENDS and step.opcode in (*dis.hasjrel, *dis.hasjabs):
             if step.argval == steps[other].offset:
-                return at
+                return place
     return -1
 
 
@@ -97,11 +103,11 @@ def names_of(steps: Steps, constants: Tuple[Thing, ...]) -> Tuple[List[str], Ste
     return (list(names), [step for step in steps if step is not last]) if type(names) is tuple else ([], steps)
 
 
-def start_of_call(steps: Steps, at: int) -> Tuple[Optional[int], Optional[int]]:
+def start_of_call(steps: Steps, place: int) -> Tuple[Optional[int], Optional[int]]:
     """The places of the first step for what a call calls, and of that for its arguments. None for one that isn't known.
     """
-    pushed = pushed_by(steps[at])
-    middle = at if pushed is None or pushed[1] == 0 else first_of(steps, at, pushed[1], True)
+    pushed = pushed_by(steps[place])
+    middle = place if pushed is None or pushed[1] == 0 else first_of(steps, place, pushed[1], True)
     return None if middle is None or pushed is None else first_of(steps, middle, pushed[0]), middle
 
 
@@ -115,25 +121,25 @@ def handler_of(table: List[Thing], offset: int) -> Optional[int]:
     return next((entry.target for entry in table if entry.start <= offset < entry.end), None)
 
 
-def blocks_by_table(code: Code, steps: Steps, at: int) -> List[int]:
+def blocks_by_table(code: Code, steps: Steps, here: int) -> List[int]:
     """The places of the steps that began the blocks of `with` around a step, from Python 3.11 on: an error in one goes
     to the block's own end, and one there to that of the block around it."""
     table = list(getattr(dis.Bytecode(code), "exception_entries"))
     places = {step.offset: place for place, step in enumerate(steps)}
-    found: List[int] = []
+    blocks: List[int] = []
     seen: Set[int] = set()
-    target = handler_of(table, steps[at].offset)
+    target = handler_of(table, steps[here].offset)
     while target is not None and target not in seen:
         seen.add(target)
         place = places[target]
         if steps[place + 1].opname == "WITH_EXCEPT_START":
             start = places[min(entry.start for entry in table if entry.target == target)]
-            found += [place for place in range(start - 1, -1, -1) if steps[place].opname.startswith("BEFORE_")][:1]
+            blocks += [place for place in range(start - 1, -1, -1) if steps[place].opname.startswith("BEFORE_")][:1]
         target = handler_of(table, target)
-    return found
+    return blocks
 
 
-def blocks_by_steps(steps: Steps, at: int) -> List[int]:
+def blocks_by_steps(steps: Steps, last: int) -> List[int]:
     """The same of Python 3.9 and 3.10, where steps begin blocks and end them: those that are open on a way there."""
     places = {step.offset: place for place, step in enumerate(steps)}
     left: List[Tuple[int, Blocks]] = [(0, ())]
@@ -154,7 +160,7 @@ def blocks_by_steps(steps: Steps, at: int) -> List[int]:
             left.append((places[step.argval], blocks))
         if step.opname not in (*ENDS, *LEAVES):
             left.append((place + 1, blocks))
-    return [place for place in reversed(seen.get(at, ())) if place is not None and "WITH" in steps[place].opname]
+    return [place for place in reversed(seen.get(last, ())) if place is not None and "WITH" in steps[place].opname]
 
 
 @functools.lru_cache(maxsize=1000)
@@ -165,10 +171,10 @@ def blocks_at(code: Code, last: int) -> List[Tuple[Steps, FrozenSet[str]]]:
     if sys.version_info < (3, 9) or WITH.isdisjoint(code.co_code[::2]):
         return []
     steps = list(dis.get_instructions(code))
-    at = max((place for place, step in enumerate(steps) if step.offset <= last), default=None)
-    if at is None:  # (in a call of Python code the last step may be within its own cache)
+    here = max((place for place, step in enumerate(steps) if step.offset <= last), default=None)
+    if here is None:  # (in a call of Python code the last step may be within its own cache)
         return []
-    places = blocks_by_table(code, steps, at) if sys.version_info >= (3, 11) else blocks_by_steps(steps, at)
+    places = blocks_by_table(code, steps, here) if sys.version_info >= (3, 11) else blocks_by_steps(steps, here)
     starts = [(first_of(steps, place, 1), place) for place in places if steps[place].opname in BEGIN]
     return [(steps[start:place] if start is not None and "ASYNC" not in steps[place].opname else [],
              stored_in(code, steps[place].offset)) for start, place in starts]
@@ -184,7 +190,7 @@ def stored_in(code: Code, start: int = -1, is_elsewhere: bool = False) -> Frozen
              or step.opname.endswith("_DEREF") and step.argval in code.co_freevars]
     names = [name for step in steps for name in (step.argval if type(step.argval) is tuple else (step.argval,))]
     return frozenset(names).union(
-        *(stored_in(each, -1, is_elsewhere) for each in code.co_consts if type(each) is types.CodeType))
+        *(stored_in(inner, -1, is_elsewhere) for inner in code.co_consts if type(inner) is types.CodeType))
 
 
 @functools.lru_cache(maxsize=1000)
@@ -193,11 +199,11 @@ def names_ahead(code: Code, last: int, kinds: Tuple[str, ...] = LOADS) -> Frozen
     those of the functions that they make."""
     steps, start = list(dis.get_instructions(code)), last
     jumps = [(step.offset, step.argval) for step in steps if step.opcode in (*dis.hasjrel, *dis.hasjabs)]
-    while any(at >= start > target for at, target in jumps):
-        start = min(target for at, target in jumps if at >= start)
+    while any(jump >= start > target for jump, target in jumps):
+        start = min(target for jump, target in jumps if jump >= start)
     ahead = [step for step in steps if step.offset >= start]
     loads = [step.argval for step in ahead if step.opname.startswith(kinds)]
-    values = [each for value in loads for each in (value if type(value) is tuple else (value,))]
+    values = [name for value in loads for name in (value if type(value) is tuple else (value,))]
     inner = [names_ahead(step.argval, 0, kinds) for step in ahead if type(step.argval) is types.CodeType]
     return frozenset(value for value in values if type(value) is str).union(*inner)
 
@@ -215,7 +221,7 @@ def is_in_loop(code: Code, last: int) -> bool:
 @functools.lru_cache(maxsize=20000)
 def all_names(code: Code) -> FrozenSet[str]:
     """All names of a code, and texts that may be some, with those of the functions in it."""
-    values = [each for value in code.co_consts for each in (value if type(value) is tuple else (value,))]
+    values = [name for value in code.co_consts for name in (value if type(value) is tuple else (value,))]
     names = [*code.co_names, *code.co_varnames, *code.co_freevars, *code.co_cellvars]
     inner = [all_names(value) for value in values if type(value) is types.CodeType]
     return frozenset([*names, *(value for value in values if type(value) is str)]).union(*inner)

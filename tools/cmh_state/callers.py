@@ -1,37 +1,50 @@
-"""What an event loop will call that the program has put there, by name, and whether that may cancel a task."""
+"""What an event loop will call that the program has put there, by name, and whether that may cancel a task, or end
+another wait."""
 from __future__ import annotations
 
 import types
 
-from .ends import CANCELLING, CANCELS, from_step, reached
-from .handles import factory_of, foreign_name, handles_by_kind, protocol_of, readers_of
-from .objects import CALLED, LIBRARIES, functions_of, is_library_module, plain_name, unwrapped
-from .reach import inside_function, spread
+from .ends import CANCELLING, CANCELS, CODES, WAKES, from_step, reached
+from .handles import factory_of, foreign_name, handles_by_kind, protocol_of, readers_of, timers_of
+from .objects import CALLED, LIBRARIES, functions_of, is_a, is_library_module, plain_name, unwrapped
+from .reach import NEAR, attributes_in, inside_function, spread
 
 TYPE_CHECKING = False
 if TYPE_CHECKING:
-    from typing import Dict, List, Optional
+    from typing import AbstractSet, Dict, List, Optional, Set
     from .objects import Thing
-
 
 
 def called_for(handle: Thing) -> List[Thing]:
     """What a loop calls for a handle, with the class of a protocol, and what the library's own functions have around
     them."""
     values = [handle._callback, *(handle._args or ())]
-    kinds = [type(getattr(getattr(each, "__self__", None), "_protocol", None)) for each in values]
-    inner = [part for each in values if type(each) is types.FunctionType for part in inside_function(each)]
+    kinds = [type(getattr(getattr(value, "__self__", None), "_protocol", None)) for value in values]
+    inner = [part for value in values if type(value) is types.FunctionType for part in inside_function(value)]
     return spread([*values, *kinds, *inner])
 
 
 def callers_of(loop: Thing) -> Dict[str, bool]:
     """What a loop will call that the program has put there, by its name, with whether that may cancel a task."""
-    found: Dict[str, bool] = {}
+    callers: Dict[str, bool] = {}
     for kind, handle in handles_by_kind(loop):
         name = caller_name(kind, handle)
         if name is not None:
-            found[name] = found.get(name, False) or may_call_cancel(name, handle)
-    return found
+            callers[name] = callers.get(name, False) or may_call(CANCELS, name, handle, CANCELLING)
+    return callers
+
+
+def waking_timers(loop: Thing) -> List[str]:
+    """The names of those timers that may end a wait at an object of the runtime, by what their code names."""
+    names = [(caller_name("timer", handle), handle) for handle in timers_of(loop)]
+    return sorted({name for name, handle in names if name is not None and may_call(WAKES, name, handle)})
+
+
+def arriving_in(loop: Thing) -> List[str]:
+    """The futures that the protocols of connections have: what comes there ends them."""
+    protocols = [protocol_of(handle) for handle in readers_of(loop)]
+    values = spread([part for protocol in protocols for part in attributes_in(protocol)])
+    return sorted({hex(id(value)) for value in values if is_a(value, "asyncio.futures", "Future")})
 
 
 def caller_name(kind: str, handle: Thing) -> Optional[str]:
@@ -46,11 +59,13 @@ def caller_name(kind: str, handle: Thing) -> Optional[str]:
     return f"connection {plain_name(type(protocol))}" if kind == "reader" and is_own else None
 
 
-def may_call_cancel(name: str, handle: Thing) -> bool:
-    """Whether the code of what a loop calls may cancel a task. What is no plain function is taken to."""
+def may_call(words: Set[str], name: str, handle: Thing, methods: AbstractSet[str] = frozenset()) -> bool:
+    """Whether the code of what a loop calls names one of some words or methods. What is no plain function is taken to.
+    """
     by_kind = {"server": accepted_by(handle), "connection": functions_of([type(protocol_of(handle))])}
     called = by_kind.get(name.partition(" ")[0], called_for(handle))
-    return type(unwrapped(handle._callback)) not in CALLED or any(reached(CANCELS, [], from_step, called, CANCELLING))
+    names = reached(words, [], from_step, called, methods, CODES if words is WAKES else NEAR + 1)
+    return type(unwrapped(handle._callback)) not in CALLED or any(names)
 
 
 def name_of_factory(factory: Thing) -> str:
@@ -58,7 +73,7 @@ def name_of_factory(factory: Thing) -> str:
     its protocol."""
     is_nameless = plain_name(factory).endswith("<lambda>") or is_library_module(str(factory.__module__))
     inner = inside_function(factory) if is_nameless and type(factory) is types.FunctionType else []
-    inner = [each for each in inner if type(each) in CALLED or isinstance(each, type)]
+    inner = [value for value in inner if type(value) in CALLED or isinstance(value, type)]
     return plain_name(inner[0] if inner else factory)
 
 
@@ -72,4 +87,5 @@ def accepted_by(handle: Thing) -> List[Thing]:
 
 def accepted_in(loop: Thing) -> List[Thing]:
     """The same of all handles of a loop."""
-    return [each for handle in readers_of(loop) for each in accepted_by(handle)] if hasattr(loop, "_selector") else []
+    handles = readers_of(loop) if hasattr(loop, "_selector") else []
+    return [function for handle in handles for function in accepted_by(handle)]

@@ -16,7 +16,6 @@ if TYPE_CHECKING:
     Called = Tuple[List[str], Thing, Thing]  # the words of what is called, its object, and itself
 
 
-
 def variable_of(frame: Frame, step: Step) -> Thing:
     name = step.argval
     if not isinstance(name, str):
@@ -33,18 +32,18 @@ def called_at(frame: Frame, steps: Steps) -> Called:
     value: Thing = None
     owner: Thing = None
     steps = loads_in(steps)
-    for at, step in enumerate(steps):
+    for place, step in enumerate(steps):
         is_name = step.opname.startswith("LOAD_") and "ATTR" not in step.opname
         if not words and is_name:
             words, value = [str(step.argval)], variable_of(frame, step)
         elif words and step.opname in ("LOAD_ATTR", "LOAD_METHOD"):
             words.append(step.argval)
             owner, value = value, step_into(value, step.argval)
-        elif words and is_name and is_subscript(steps[at + 1:at + 2]):
+        elif words and is_name and is_subscript(steps[place + 1:place + 2]):
             is_constant = "CONST" in step.opname
             words[-1] += f"[{step.argval if type(step.argval) is int or not is_constant else '..'}]"
             owner, value = value, item_of(value, step.argval if is_constant else variable_of(frame, step))
-        elif words and not any(is_call(each.opname) or is_subscript([each]) for each in steps[at:]):
+        elif words and not any(is_call(later.opname) or is_subscript([later]) for later in steps[place:]):
             break  # (the condition of an argument)
         elif not words or not is_subscript([step]):
             return (["?", steps[-1].argval] if steps[-1].opname in ("LOAD_ATTR", "LOAD_METHOD") else []), None, Method
@@ -55,29 +54,29 @@ def place_of_call(frame: Frame) -> Tuple[Steps, Optional[int], Optional[int], Op
     """The steps of a frame, and of the call that it is in: its place, that of its arguments, and what it calls. None if
     it is in no call, and without a place if its last step isn't known."""
     steps = list(dis.get_instructions(frame.f_code))
-    at = next((place for place, step in enumerate(steps) if step.offset == frame.f_lasti), None)
-    if at is None or not is_call(steps[at].opname):
-        return steps, at, None, None
-    at -= steps[at - 1].opname == "PRECALL"
-    start, middle = start_of_call(steps, at)
-    return steps, at, middle, called_at(frame, steps[start:middle]) if start is not None else ([], None, Method)
+    here = next((place for place, step in enumerate(steps) if step.offset == frame.f_lasti), None)
+    if here is None or not is_call(steps[here].opname):
+        return steps, here, None, None
+    here -= steps[here - 1].opname == "PRECALL"
+    start, middle = start_of_call(steps, here)
+    return steps, here, middle, called_at(frame, steps[start:middle]) if start is not None else ([], None, Method)
 
 
 def call_of(frame: Frame) -> Optional[Row]:
     """The call of no Python frame that a frame is in, or None: its words, its object, its number of arguments."""
-    steps, at, middle, called = place_of_call(frame)
-    if at is None or called is None:
-        return {"step": steps[at].opname} if at is not None else None
+    steps, place, middle, called = place_of_call(frame)
+    if place is None or called is None:
+        return {"step": steps[place].opname} if place is not None else None
     words, owner, value = called
     if not words:
         return {"words": None}
-    if is_block(steps[at]):
+    if is_block(steps[place]):
         return {"words": ".".join(words), "how": "with", "on": describe(value), "arguments": []}
     row = {"words": ".".join(words), "how": "call", "on": describe(owner), **function_names(value)}
-    if steps[at].opname == "CALL_FUNCTION_EX":
+    if steps[place].opname == "CALL_FUNCTION_EX":
         return {**row, **bound_of(value), "arguments": None}
-    has_names = steps[at].opname.endswith("_KW") or any(step.opname == "KW_NAMES" for step in steps[middle:at])
-    loads = steps[middle:at]
+    has_names = steps[place].opname.endswith("_KW") or any(step.opname == "KW_NAMES" for step in steps[middle:place])
+    loads = steps[middle:place]
     names, loads = names_of(loads, frame.f_code.co_consts) if has_names else ([], loads)
     return {**row, "arguments": arguments_of(loads), **({"named": names} if names else {})}
 

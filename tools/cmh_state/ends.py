@@ -19,6 +19,7 @@ TYPE_CHECKING = False
 if TYPE_CHECKING:
     from typing import AbstractSet, Callable, Dict, FrozenSet, Iterable, Iterator, List, Set, Tuple
     from .objects import Attributes, Frame, Row, Stack, Thing
+    from .locks import Taken
     from .reach import Owners
     Ways = List[Tuple[FrozenSet[str], Tuple[Attributes, ...]]]  # names in code, and where they are looked up
 
@@ -26,6 +27,9 @@ if TYPE_CHECKING:
 CANCELS = {"cancel", "all_tasks", "set_result", "set_exception", "shutdown", "_work_queue", "_threads_queues",
            "_max_workers"}
 RELEASES = {"release", "_release_save"}
+# Names of all that ends a wait at an object of the runtime, but for a cancel.
+WAKES = {*CANCELS - {"cancel"}, *RELEASES, "set", "put", "put_nowait", "get", "get_nowait", "task_done", "notify",
+         "notify_all", "notifyAll", "abort", "reset", "feed_data", "feed_eof", "resume_writing", "send", "throw"}
 CANCELLING: Set[str] = set()  # as `find_cancelling` has found them for this state
 FATAL = {"_exit", "abort", "kill", "killpg", "interrupt_main", "pthread_kill", "raise_signal",
          "execl", "execle", "execlp", "execlpe", "execv", "execve", "execvp", "execvpe"}
@@ -34,27 +38,33 @@ LEFT = {"codes": CODES}
 
 
 def inside_thread(frames: Stack) -> Row:
-    return {"taken": inside([(frame, taken_in(frame)) for frame, _ in frames]), "releases": may_release(frames)}
+    return blocks_of([(frame, taken_in(frame)) for frame, _ in frames], frames)
 
 
 def inside_task(coroutine: Thing) -> Row:
     chain = coroutines_of(coroutine)
-    frames = [getattr(each, "cr_frame", None) for each in chain]
-    rows = [(frame, kept_in(each)) for each, frame in zip(chain, frames) if frame is not None]
-    return {"taken": inside(rows), "releases": may_release([(frame, frame.f_lineno) for frame, _ in rows])}
+    frames = [getattr(part, "cr_frame", None) for part in chain]
+    rows = [(frame, kept_in(part)) for part, frame in zip(chain, frames) if frame is not None]
+    return blocks_of(rows, [(frame, frame.f_lineno) for frame, _ in rows])
+
+
+def blocks_of(rows: List[Tuple[Frame, Taken]], frames: Stack) -> Row:
+    """What the blocks of some frames have taken, what they likely have, and whether their code may give it back."""
+    taken, around = inside(rows)
+    return {"taken": taken, "around": around, "releases": may_release(frames)}
 
 
 def reached(words: Set[str], frames: Stack, start_of: Callable[[Frame], int], called: Iterable[Thing] = (),
-            methods: AbstractSet[str] = frozenset()) -> Iterator[str]:
+            methods: AbstractSet[str] = frozenset(), far: int = NEAR + 1) -> Iterator[str]:
     """Yields those of some names that the code of frames of the program from a step on has, or functions that this
-    names, some steps far, or that will be called. Yields too those of some methods that this code names."""
+    names, so many steps far, or that will be called. Yields too those of some methods that this code names."""
     ways: Ways = [(names_ahead(frame.f_code, start_of(frame)), (dict(frame.f_locals), frame.f_globals))
                   for frame, _ in frames if is_own(frame)]
     own = [names_ahead(frame.f_code, start_of(frame), ATTRIBUTES) for frame, _ in frames if is_own(frame)]
     values = [*called, *called_later(frames)]
     seen: Set[types.FunctionType] = set()
     owners: Owners = {}
-    for _ in range(NEAR + 1):
+    for _ in range(far):
         values += [value for names, places in ways for value in named_by(names, places)]
         add_owners(owners, values)
         names = {value.__name__ for value in values if type(value) in CALLED}
@@ -65,10 +75,11 @@ def reached(words: Set[str], frames: Stack, start_of: Callable[[Frame], int], ca
         LEFT["codes"] -= len(new)
         if LEFT["codes"] < 0:
             yield from words
+        if LEFT["codes"] < 0 or not (new or values):
             return
-        ways = [(names_ahead(each.__code__, 0), (cells_in(each), each.__globals__, *objects_of(each, owners)))
-                for each in new]
-        own = [shared_names(each.__code__) for each in new]
+        ways = [(names_ahead(function.__code__, 0),
+                 (cells_in(function), function.__globals__, *objects_of(function, owners))) for function in new]
+        own = [shared_names(function.__code__) for function in new]
         values = []
 
 
@@ -95,20 +106,20 @@ def find_cancelling() -> None:
     """Keeps the names of the functions of the program that may come to what ends a task or a future, by the names in
     their code: whoever names one as an attribute may have an object of any class."""
     CANCELLING.clear()
-    codes = {name: [each.__code__ for each in some if type(each) is types.FunctionType]
-             for name, some in functions_by_name().items() if not name.startswith("__")}
-    codes = {name: [code for code in some if not PACKAGES.search(code.co_filename)] for name, some in codes.items()}
-    shared = {name: frozenset().union(*map(shared_names, some)) for name, some in codes.items()}
-    new = {name for name, some in codes.items() if any(not CANCELS.isdisjoint(all_names(code)) for code in some)}
+    codes = {name: [function.__code__ for function in functions if type(function) is types.FunctionType
+                    and not PACKAGES.search(function.__code__.co_filename)]
+             for name, functions in functions_by_name().items() if not name.startswith("__")}
+    shared = {name: frozenset().union(*map(shared_names, of_name)) for name, of_name in codes.items()}
+    new = {name for name, of_name in codes.items() if any(not CANCELS.isdisjoint(all_names(code)) for code in of_name)}
     while new:
         CANCELLING.update(new)
-        new = {name for name, some in shared.items() if name not in CANCELLING and not some.isdisjoint(CANCELLING)}
+        new = {name for name, names in shared.items() if name not in CANCELLING and not names.isdisjoint(CANCELLING)}
 
 
 def finalized() -> List[Thing]:
     """What is called once an object goes, which any code may bring about."""
-    found = list(getattr(weakref.finalize, "_registry", {}).values())
-    return [part for each in found for part in (each.func, each.args)]
+    finalizers = list(getattr(weakref.finalize, "_registry", {}).values())
+    return [part for finalizer in finalizers for part in (finalizer.func, finalizer.args)]
 
 
 def may_release(frames: Stack) -> bool:
@@ -128,17 +139,17 @@ def comes_back(frames: Stack) -> bool:
 
 def functions_by_name() -> Dict[str, List[Thing]]:
     """The functions of all modules but the library's and this one, by the names that these and their classes have."""
-    found = collections.defaultdict(list)
+    functions = collections.defaultdict(list)
     left = [row for name, module in list(sys.modules.items()) for row in list(attributes_of(module).items())
             if not is_library_module(name)]
     kinds = set()
     while left:
         name, value = left.pop()
-        for each in (value, *wrapped_in(value)):
-            if type(each) is types.FunctionType:
-                found[name].append(each)
+        for part in (value, *wrapped_in(value)):
+            if type(part) is types.FunctionType:
+                functions[name].append(part)
         if issubclass(type(value), type) and id(value) not in kinds and not is_library(value):
             kinds.add(id(value))
-            found[value.__name__].append(value)
+            functions[value.__name__].append(value)
             left += list(value.__dict__.items())
-    return found
+    return functions

@@ -18,11 +18,11 @@ LOCALS = ("self", "timeout", "fs", "fut", "future", "return_when", "work_queue",
 def class_of(code: Code, value: object) -> Optional[str]:
     """The class that a method's code stands in, by its first argument."""
     kind = value if isinstance(value, type) else type(value)
-    for each in classes_of(kind):
-        found = each.__dict__.get(code.co_name)
-        found = getattr(found, "__func__", found)
-        if getattr(found, "__code__", None) is code:
-            return each.__name__
+    for class_ in classes_of(kind):
+        function = class_.__dict__.get(code.co_name)
+        function = getattr(function, "__func__", function)
+        if getattr(function, "__code__", None) is code:
+            return class_.__name__
     return None
 
 
@@ -46,7 +46,7 @@ def module_name(frame: Frame) -> str:
 
 def frame_row(frame: Frame, line: int) -> Row:
     row: Row = {"in": f"{module_name(frame)}.{function_of(frame)}", "file": frame.f_code.co_filename, "line": line}
-    if LIBRARIES.match(frame.f_globals.get("__name__") or ""):
+    if not is_own(frame):
         here = frame.f_locals
         row["has"] = {name: describe(here[name]) for name in LOCALS if name in here}
         if callable(here.get("executor_reference")):
@@ -58,11 +58,11 @@ def frame_row(frame: Frame, line: int) -> Row:
 def stack_of(frame: Optional[Frame]) -> Stack:
     """The frames from the innermost on, each with its line. What stands outside of the first one of a child that was
     forked is its parent's, such as an event loop: nobody comes back to it."""
-    found: Stack = []
-    while frame is not None and len(found) < DEEP:
-        found.append((frame, frame.f_lineno))
+    frames: Stack = []
+    while frame is not None and len(frames) < DEEP:
+        frames.append((frame, frame.f_lineno))
         frame = frame.f_back if not is_first_of_child(frame) else None
-    return found
+    return frames
 
 
 def is_first_of_child(frame: Frame) -> bool:
@@ -71,7 +71,7 @@ def is_first_of_child(frame: Frame) -> bool:
 
 def chain_of(coroutine: Thing) -> Stack:
     """The frames of a chain of awaits from the innermost on."""
-    frames = [getattr(each, f"{letters_of(each)}_frame") for each in coroutines_of(coroutine)]
+    frames = [getattr(part, f"{letters_of(part)}_frame") for part in coroutines_of(coroutine)]
     return [(frame, frame.f_lineno) for frame in frames if frame is not None]
 
 

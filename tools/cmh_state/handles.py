@@ -4,13 +4,12 @@ from __future__ import annotations
 import contextlib
 import functools
 
-from .objects import callback_name, is_a, is_work
+from .objects import callback_name, callbacks_of, is_a, is_work
 
 TYPE_CHECKING = False
 if TYPE_CHECKING:
     from typing import List, Set, Tuple
     from .objects import Stack, Thing
-
 
 
 def running_loop(frames: Stack) -> Thing:
@@ -27,8 +26,8 @@ def timers_of(loop: Thing) -> List[Thing]:
 
 def readers_of(loop: Thing) -> List[Thing]:
     """What a loop calls for sockets and pipes."""
-    found = [handle for key in list((loop._selector.get_map() or {}).values()) for handle in key.data or ()]
-    return [handle for handle in found if handle is not None]
+    handles = [handle for key in list((loop._selector.get_map() or {}).values()) for handle in key.data or ()]
+    return [handle for handle in handles if handle is not None]
 
 
 def signals_of(loop: Thing) -> List[Thing]:
@@ -38,17 +37,17 @@ def signals_of(loop: Thing) -> List[Thing]:
 
 def handles_of(loop: Thing) -> List[Thing]:
     """All that a loop calls by itself, as far as it shows it."""
-    found = []
-    for some in (timers_of, readers_of, signals_of):
+    handles = []
+    for handles_for in (timers_of, readers_of, signals_of):
         with contextlib.suppress(AttributeError):  # (a loop that isn't asyncio's own)
-            found += some(loop)
-    return found
+            handles += handles_for(loop)
+    return handles
 
 
 def handles_by_kind(loop: Thing) -> List[Tuple[str, Thing]]:
     """The same of a loop of asyncio, with what each is for."""
-    return [(kind, handle) for kind, some in (("timer", timers_of), ("reader", readers_of), ("signal", signals_of))
-            for handle in some(loop)]
+    kinds = ("timer", timers_of), ("reader", readers_of), ("signal", signals_of)
+    return [(kind, handle) for kind, handles_for in kinds for handle in handles_for(loop)]
 
 
 def protocol_of(handle: Thing) -> Thing:
@@ -81,16 +80,16 @@ def foreign_name(callback: Thing, is_timer: bool) -> str:
 def ends_more(future: Thing) -> bool:
     """Whether others may wait for a future of asyncio than tasks that await it by itself, or it cancels others."""
     is_task = is_a(future, "asyncio.tasks", "Task")
-    called = [each for each, _ in getattr(future, "_callbacks", None) or () if not is_task]
+    called = [] if is_task else callbacks_of(future)
     return is_a(future, "asyncio.tasks", "_GatheringFuture") or is_a(future, "asyncio.futures", "Future") and any(
-        not is_a(getattr(each, "__self__", None), "asyncio.tasks", "Task") for each in called)
+        not is_a(getattr(callback, "__self__", None), "asyncio.tasks", "Task") for callback in called)
 
 
 def timed(loop: Thing) -> Set[int]:
     """The ids of what the timers of a loop will wake or cancel: futures, tasks, limits of asyncio.timeout."""
-    found: Set[int] = set()
+    ids: Set[int] = set()
     for timer in list(getattr(loop, "_scheduled", ())):
         if not timer.cancelled() and not callback_name(timer._callback):
             on = getattr(timer._callback, "__self__", None)
-            found.update(id(each) for each in (*(timer._args or ()), on, getattr(on, "_task", None)))
-    return found
+            ids.update(id(value) for value in (*(timer._args or ()), on, getattr(on, "_task", None)))
+    return ids

@@ -17,35 +17,35 @@ TYPE_CHECKING = False
 if TYPE_CHECKING:
     from typing import FrozenSet, Iterable, List, Set, Tuple
     from .objects import Frame, Steps, Thing
-
+    Taken = List[Tuple[Thing, bool]]
 
 
 def stored_elsewhere(names: Set[str], functions: Iterable[Thing]) -> bool:
     """Whether one of some functions but `__init__` stores another one's variable or an attribute of such a name."""
-    return any(not names.isdisjoint(stored_in(each.__code__, -1, True)) for each in functions
-               if type(each) is types.FunctionType and each.__name__ != "__init__")
+    return any(not names.isdisjoint(stored_in(function.__code__, -1, True)) for function in functions
+               if type(function) is types.FunctionType and function.__name__ != "__init__")
 
 
-def taken_in(frame: Frame) -> List[Thing]:
-    """What a frame that runs has taken by `with`, from the innermost block on, as far as its code names it. None stands
-    for a block of which that isn't known, and the mark for a method for one that may give back what others have."""
+def taken_in(frame: Frame) -> Taken:
+    """What a frame that runs has taken by `with`, from the innermost block on, as far as its code names it, and whether
+    the name still stands for that. None stands for a block that takes nothing, and the mark for a method for one that
+    may give back what others have."""
     return [taken_by(frame, *block) for block in blocks_at(frame.f_code, frame.f_lasti)]
 
 
-def taken_by(frame: Frame, steps: Steps, stored: FrozenSet[str]) -> Thing:
+def taken_by(frame: Frame, steps: Steps, stored: FrozenSet[str]) -> Tuple[Thing, bool]:
     value, owner = called_at(frame, steps)[:0:-1] if steps else (Method, None)
     if value is Method or not is_lock(lock_in(value)):
-        return None if is_harmless(first_in(frame, steps) if value is Method else value) else Method
-    loads = [each for each in steps if each.opname.startswith("LOAD_") and type(each.argval) is str]
-    names = {each.argval for each in loads}
-    shared = {each.argval for each in loads if not each.opname.startswith("LOAD_FAST")}
+        return None if is_harmless(first_in(frame, steps) if value is Method else value) else Method, True
+    loads = [step for step in steps if step.opname.startswith("LOAD_") and type(step.argval) is str]
+    names = {step.argval for step in loads}
+    shared = {step.argval for step in loads if not step.opname.startswith("LOAD_FAST")}
     module = frame.f_globals.get("__name__")
-    others = [each for each in list(frame.f_globals.values())
-              if issubclass(type(each), (type, types.FunctionType)) and each.__module__ == module]
-    others = [each for each in functions_of(others) if not is_library_module(str(getattr(each, "__module__", "")))]
+    others = [other for other in list(frame.f_globals.values())
+              if issubclass(type(other), (type, types.FunctionType)) and other.__module__ == module]
+    others = [other for other in functions_of(others) if not is_library_module(str(getattr(other, "__module__", "")))]
     others = [*others, *functions_of([type(owner)])] if is_own(frame) else []
-    is_same = names.isdisjoint(stored) and not stored_elsewhere(shared, others)
-    return value if is_same else None
+    return value, names.isdisjoint(stored) and not stored_elsewhere(shared, others)
 
 
 def is_harmless(value: Thing) -> bool:
@@ -57,15 +57,16 @@ def is_harmless(value: Thing) -> bool:
     return value is not Method and name.split(".")[0] in known and not name.startswith(("contextlib", "__main__"))
 
 
-def kept_in(coroutine: Thing) -> List[Thing]:
+def kept_in(coroutine: Thing) -> Taken:
     """What a coroutine that is suspended has taken by `with` or `async with`, once for each block, behind a mark if it
     is in a block that may give back what others have."""
     frame = getattr(coroutine, "cr_frame", None)
     inside = gc.get_referents(coroutine if sys.version_info >= (3, 11) else frame) if frame is not None else []
-    found = [each.__self__ for each in inside
-             if type(each) is types.MethodType and each.__func__.__name__ in ("__aexit__", "__exit__")
-             or type(each) is types.BuiltinMethodType and each.__name__ == "__exit__"]
-    return [Method] * any(not is_lock(lock_in(each)) and not is_harmless(each) for each in found) + found
+    owners = [method.__self__ for method in inside
+              if type(method) is types.MethodType and method.__func__.__name__ in ("__aexit__", "__exit__")
+              or type(method) is types.BuiltinMethodType and method.__name__ == "__exit__"]
+    marks = [Method] * any(not is_lock(lock_in(owner)) and not is_harmless(owner) for owner in owners)
+    return [(value, True) for value in marks + owners]
 
 
 def lock_in(value: Thing) -> Thing:
@@ -87,18 +88,20 @@ def given_back(frame: Frame) -> Thing:
     return None
 
 
-def inside(rows: List[Tuple[Frame, List[Thing]]]) -> List[str]:
-    """The ids of the locks that are taken in a stack, of which each row has a frame and what that has taken. Those that
-    an inner frame has given back, or is about to take, don't count, nor those around a mark."""
+def inside(rows: List[Tuple[Frame, Taken]]) -> Tuple[List[str], List[str]]:
+    """The ids of the locks that are taken in a stack, of which each row has a frame and what that has taken, and of
+    those that likely are: around a mark, or by a name that may stand for another one by now. Those that an inner frame
+    has given back, or is about to take, don't count."""
     back: List[Thing] = []
-    found: List[str] = []
-    marks = [Method in values for _, values in rows]
-    for frame, values in rows[:(marks + [True]).index(True) + 1]:
-        for value in map(lock_in, values[:(values + [Method]).index(Method)]):
-            given = next((place for place, each in enumerate(back) if each is value), None)
+    ids: Tuple[List[str], List[str]] = [], []
+    is_around = False
+    for frame, values in rows:
+        for value, is_same in ((lock_in(value), is_same) for value, is_same in values):
+            is_around = is_around or value is Method
+            given = next((place for place, lock in enumerate(back) if lock is value), None)
             if given is not None:
                 del back[given]
-            elif is_lock(value):
-                found.append(hex(id(value)))
+            elif is_lock(value) and hex(id(value)) not in ids[0] + ids[1]:
+                ids[is_around or not is_same].append(hex(id(value)))
         back += [value for value in [given_back(frame)] if value is not None]
-    return list(dict.fromkeys(found))
+    return ids

@@ -62,10 +62,15 @@ def cells_of(callback: Thing, function: str) -> Dict[str, Thing]:
     return dict(zip(code.co_freevars, [cell.cell_contents for cell in callback.__closure__]))
 
 
+def callbacks_of(future: Thing) -> List[Thing]:
+    """What a future of asyncio, or a task, will call once it is done."""
+    return [callback for callback, _ in getattr(future, "_callbacks", None) or ()]
+
+
 def items_in(work: Thing) -> List[Thing]:
     """The work that lies in the queue of a pool."""
     inside = gc.get_referents(work) if type(work) is queue.SimpleQueue else []
-    items = [item for each in inside for item in (each if type(each) is list else [each])]
+    items = [item for part in inside for item in (part if type(part) is list else [part])]
     return [item for item in items if is_a(item, "concurrent.futures.thread", "_WorkItem")]
 
 
@@ -79,25 +84,25 @@ def attribute_of(value: object, name: str) -> Thing:
     if isinstance(value, types.ModuleType):
         return vars(value)[name]
     kinds = classes_of(type(value))
-    found = next((kind.__dict__[name] for kind in kinds if name in kind.__dict__), Method)
-    if type(found) is types.MemberDescriptorType:
-        return found.__get__(value, type(value))
+    of_kind = next((kind.__dict__[name] for kind in kinds if name in kind.__dict__), Method)
+    if type(of_kind) is types.MemberDescriptorType:
+        return of_kind.__get__(value, type(value))
     own = attributes_of(value)
-    if name in own and not hasattr(type(found), "__set__"):
+    if name in own and not hasattr(type(of_kind), "__set__"):
         return own[name]
-    return of_class(value, name, found)
+    return of_class(value, name, of_kind)
 
 
-def of_class(value: object, name: str, found: Thing) -> Thing:
+def of_class(value: object, name: str, of_kind: Thing) -> Thing:
     """What a class has for all its objects by a name, if that is a value and no way to one. `found` is what the class
     of the value has."""
     rows = [kind.__dict__ for kind in classes_of(value)] if isinstance(value, type) else []
-    is_shadowed = hasattr(type(found), "__set__")
-    found = next((row[name] for row in rows if name in row), found)
+    is_shadowed = hasattr(type(of_kind), "__set__")
+    of_kind = next((row[name] for row in rows if name in row), of_kind)
     is_plain = type(value).__getattribute__ in (object.__getattribute__, type.__getattribute__)
-    if found is Method or is_shadowed or not is_plain or hasattr(type(found), "__get__"):
+    if of_kind is Method or is_shadowed or not is_plain or hasattr(type(of_kind), "__get__"):
         raise ValueError(name)
-    return found
+    return of_kind
 
 
 def item_of(value: Thing, key: object) -> Thing:
@@ -120,8 +125,8 @@ def functions_of(values: Iterable[Thing]) -> List[Thing]:
     """The functions among values, and those of the classes among them."""
     kinds = {kind for value in values if issubclass(type(value), type)
              for kind in classes_of(value)}
-    inner = [each for kind in kinds for each in list(kind.__dict__.values())]
-    return [each.__func__ if type(each) in (staticmethod, classmethod) else each for each in [*values, *inner]]
+    inner = [part for kind in kinds for part in list(kind.__dict__.values())]
+    return [part.__func__ if type(part) in (staticmethod, classmethod) else part for part in [*values, *inner]]
 
 
 def letters_of(coroutine: object) -> str:
@@ -133,14 +138,14 @@ def letters_of(coroutine: object) -> str:
 
 def coroutines_of(coroutine: Thing) -> List[Thing]:
     """A chain of awaits from the innermost on."""
-    found: List[Thing] = []
-    while coroutine is not None and len(found) < DEEP:
+    chain: List[Thing] = []
+    while coroutine is not None and len(chain) < DEEP:
         letters = letters_of(coroutine)
         if not letters:
             break
-        found.append(coroutine)
+        chain.append(coroutine)
         coroutine = getattr(coroutine, "gi_yieldfrom" if letters == "gi" else f"{letters}_await", None)
-    return found[::-1]
+    return chain[::-1]
 
 
 def is_work(value: object) -> bool:
@@ -155,7 +160,7 @@ def is_child(value: object) -> bool:
 def kinds_of(values: Iterable[Thing]) -> List[Attributes]:
     """The names of the classes of values, and of those that are classes."""
     kinds = {type(value) for value in values} | {value for value in values if issubclass(type(value), type)}
-    return [each.__dict__ for each in {each for kind in kinds for each in classes_of(kind)}]
+    return [class_.__dict__ for class_ in {class_ for kind in kinds for class_ in classes_of(kind)}]
 
 
 def attributes_of(value: object) -> Attributes:
@@ -176,11 +181,11 @@ def is_foreign(function: Thing) -> bool:
 
 def cells_in(function: types.FunctionType) -> Dict[str, Thing]:
     """What a function sees of those around it, by name."""
-    found = {}
+    values = {}
     for name, cell in zip(function.__code__.co_freevars, function.__closure__ or ()):
         with contextlib.suppress(ValueError):  # (that is empty)
-            found[name] = cell.cell_contents
-    return found
+            values[name] = cell.cell_contents
+    return values
 
 
 @functools.lru_cache(maxsize=20000)

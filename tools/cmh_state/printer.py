@@ -7,7 +7,6 @@ import faulthandler
 import fcntl
 import functools
 import os
-import re
 import select
 import signal
 import stat
@@ -17,6 +16,7 @@ import time
 from . import attempt, has_room, say
 from .state import seconds_of, state
 from .tasks import INHERITED, tasks_of_all
+from .threads import status_of
 
 TYPE_CHECKING = False
 if TYPE_CHECKING:
@@ -28,7 +28,8 @@ GATHER, BYTES = 0.02, 65536  # seconds for what the signal's handler still write
 # What ends the thread that prints, and takes that back: what faulthandler writes has no such byte, whatever functions
 # are called.
 STOP, GOES_ON = b"\0", b"\1"
-SETTLE = 0.05  # seconds from the signal to the first look: the signal wakes the main thread, which then waits again
+LOOKS = 0.1, 1, 10  # seconds after which a new pipe is looked at again: a program goes into the background early
+SETTLE = 0.05  # seconds from the signal to the first look: it wakes a thread that takes it too, and then waits again
 
 
 def open_file(path: str) -> int:
@@ -63,10 +64,11 @@ def write_all(number: int, text: bytes) -> None:
         left = left[os.write(number, left if is_plain else left[:select.PIPE_BUF]):]
 
 
-def has_input(number: int, seconds: float) -> bool:
+def has_input(number: int, seconds: Optional[float]) -> bool:
+    """Waits for input, for some seconds or for good, and tells whether something is there, or the file isn't."""
     asked = select.poll()
     asked.register(number, select.POLLIN)
-    return bool(asked.poll(1000 * seconds))
+    return bool(asked.poll(seconds and 1000 * seconds))
 
 
 def out_of_the_way(number: int) -> int:
@@ -82,27 +84,31 @@ def out_of_the_way(number: int) -> int:
 def file_at(number: int) -> File:
     """What tells the file at a descriptor from any other, or None if there is none."""
     try:
-        found = os.fstat(number)
+        status = os.fstat(number)
     except OSError:
         return None
-    return found.st_dev, found.st_ino
+    return status.st_dev, status.st_ino
 
 
 class Printer:
     """A thread that prints a state each time that the signal comes.
 
     faulthandler writes into its pipe from within the signal's handler, so that no Python code of a blocked thread has
-    to run for it. A program that goes into the background closes all files that it doesn't know, also this pipe, whose
-    numbers may then be those of its own: what isn't the pipe any more is never read, written or closed."""
+    to run for it. Only this thread takes the signal: a system call of another one may return at it, as signal.pause
+    does, at which a main thread may end the program.
+
+    A program that goes into the background closes all files that it doesn't know, also this pipe, whose numbers may
+    then be those of its own: what isn't the pipe any more is never read, written or closed."""
 
     def __init__(self, name: str, number: int) -> None:
         self.name, self.number, self.signals, self.is_stuck = name, number, 0, False
         self.thread: Optional[threading.Thread] = None
+        self.shown: Tuple[int, File] = -1, None
         self.open()
 
     def open(self) -> None:
         self.read_end, self.write_end = map(out_of_the_way, os.pipe())
-        self.pipe = self.ends()
+        self.pipe, self.looks = self.ends(), iter(LOOKS)
         os.set_blocking(self.write_end, False)
         faulthandler.register(self.number, file=self.write_end, all_threads=False)
 
@@ -130,6 +136,7 @@ class Printer:
 
     def serve(self) -> None:
         pause = seconds_of("CMH_STATE_PAUSE", 5)
+        signal.pthread_sigmask(signal.SIG_UNBLOCK, [self.number])
         while True:
             text = self.read()
             if STOP in text.rpartition(GOES_ON)[2]:
@@ -137,8 +144,8 @@ class Printer:
             self.is_stuck = False
             if not text:
                 self.reopen()
-                show(self.name)
             elif text.strip(STOP + GOES_ON):
+                self.show_again()
                 self.serve_once(pause)
 
     def serve_once(self, pause: float) -> None:
@@ -150,13 +157,31 @@ class Printer:
 
     def read(self) -> bytes:
         """What the signal's handler wrote, all of it, or nothing if the pipe isn't open any more, which may be closed
-        between the look and the read."""
+        between any two steps. So nothing is read before something is there: what the program then has under the number
+        is waited for at most."""
         text = b""
         with contextlib.suppress(OSError):
-            text = os.read(self.read_end, BYTES) if self.is_open() else b""
-            while text and STOP not in text and self.is_open() and has_input(self.read_end, GATHER):
+            while self.is_open() and not has_input(self.read_end, next(self.looks, None)):
+                self.show_again()
+            while STOP not in text and has_input(self.read_end, GATHER) and self.is_open():
                 text += os.read(self.read_end, BYTES)
         return text
+
+    def show(self) -> None:
+        """Keeps a file in memory open with the signal's name, by which others see that this process answers. A process
+        that is forked has it too, and answers; one that runs another program hasn't."""
+        if hasattr(os, "memfd_create"):
+            with contextlib.suppress(OSError):  # (an old kernel)
+                number = out_of_the_way(os.memfd_create("cmh_state"))
+                os.write(number, self.name.encode())
+                self.shown = number, file_at(number)
+
+    def show_again(self) -> None:
+        """Shows it again where all files were closed: a look later than the pipe is open again, when that is over. A
+        file of the program may else get this number, and what is written there."""
+        number, file = self.shown
+        if file is not None and file_at(number) != file:
+            self.show()
 
     def tell(self, what: bytes) -> None:
         if self.is_open():
@@ -179,23 +204,10 @@ class Printer:
         self.start()
 
 
-def show(name: str) -> None:
-    """Keeps a file in memory open with the signal's name, by which others see that this process answers. A process that
-    is forked has it too, and answers; one that runs another program hasn't."""
-    if hasattr(os, "memfd_create"):
-        with contextlib.suppress(OSError):  # (an old kernel)
-            os.write(out_of_the_way(os.memfd_create("cmh_state")), name.encode())
-
-
 def is_taken(number: int) -> bool:
     """Whether a signal is ignored or has a handler, of Python or, as the kernel has it, of a library."""
-    try:
-        with open("/proc/self/status") as file:
-            caught = re.search(r"^SigCgt:\s*([0-9a-f]+)", file.read(), re.M)
-    except OSError:
-        caught = None
-    is_caught = caught is not None and int(caught[1], 16) >> number - 1 & 1
-    return bool(is_caught) or signal.getsignal(number) != signal.SIG_DFL
+    caught = int(status_of("/proc/self").get("SigCgt", "0"), 16) >> number - 1 & 1
+    return bool(caught) or signal.getsignal(number) != signal.SIG_DFL
 
 
 def start() -> Optional[Printer]:
@@ -205,9 +217,10 @@ def start() -> Optional[Printer]:
         say(f"{name} is taken or unknown: name another in CMH_STATE_SIGNAL")
         return None
     printer = Printer(name, number)
+    signal.pthread_sigmask(signal.SIG_BLOCK, [number])
     printer.start()
-    hooks = (functools.partial(attempt, each) for each in (printer.stop, printer.start, printer.open_in_child))
+    hooks = (functools.partial(attempt, hook) for hook in (printer.stop, printer.start, printer.open_in_child))
     os.register_at_fork(**dict(zip(("before", "after_in_parent", "after_in_child"), hooks)))
     atexit.register(attempt, printer.stop, AT_END)
-    show(name)
+    printer.show()
     return printer

@@ -9,8 +9,8 @@ import types
 
 from .frames import is_own
 from .handles import ends_more, handles_of
-from .objects import (CALLED, LIBRARIES, ROWS, attributes_of, callback_name, classes_of, futures_in, is_a,
-                      is_child, is_library_module, is_work, items_in, kinds_of)
+from .objects import (CALLED, HEAP_TYPE, ROWS, attributes_of, callback_name, cells_in, classes_of, futures_in, is_a,
+                      is_child, is_foreign, is_library_module, is_work, items_in, kinds_of)
 
 TYPE_CHECKING = False
 if TYPE_CHECKING:
@@ -33,35 +33,35 @@ class Holders:
 
     def held(self, frames: Stack) -> Optional[List[str]]:
         """Those that these frames can reach, or None if they are too many, or that took too long."""
-        found: Dict[str, None] = {}
+        reached: Dict[str, None] = {}
         seen: Dict[int, int] = {}
         for frame, _ in frames:
             for value in named_in(frame):
-                self.look(value, NEAR, found, seen)
-        return list(found) if self.left > 0 and len(found) <= MOST else None
+                self.look(value, NEAR, reached, seen)
+        return list(reached) if self.left > 0 and len(reached) <= MOST else None
 
-    def look(self, value: Thing, depth: int, found: Dict[str, None], seen: Dict[int, int]) -> None:
+    def look(self, value: Thing, depth: int, reached: Dict[str, None], seen: Dict[int, int]) -> None:
         self.left -= 1
         if is_work(value) or is_child(value):
-            found[hex(id(value))] = None
+            reached[hex(id(value))] = None
         elif is_a(value, "concurrent.futures.thread", "ThreadPoolExecutor"):
-            found.update(dict.fromkeys(futures_in(value._work_queue)))  # (its shutdown may cancel them)
-        elif depth > seen.get(id(value), 0) and self.left > 0 and len(found) <= MOST:
+            reached.update(dict.fromkeys(futures_in(value._work_queue)))  # (its shutdown may cancel them)
+        elif depth > seen.get(id(value), 0) and self.left > 0 and len(reached) <= MOST:
             seen[id(value)] = depth
-            for each in insides(value):
-                self.look(each, depth - 1, found, seen)
+            for part in insides(value):
+                self.look(part, depth - 1, reached, seen)
 
 
 def named_in(frame: Frame) -> List[Thing]:
     """What the code of a frame has names for: variables, their methods, globals. Of the library's own, what a thread
     will call."""
-    if LIBRARIES.match(frame.f_globals.get("__name__") or ""):
+    if not is_own(frame):
         return called_by(frame)
-    found = list(frame.f_locals.values())
+    variables = list(frame.f_locals.values())
     names = set(frame.f_code.co_names)
-    kinds = {kind for value in found for kind in classes_of(type(value))}
-    return [*found, *globals_of(frame.f_code, frame.f_globals),
-            *(each for kind in kinds for name, each in list(kind.__dict__.items()) if name in names)]
+    kinds = {kind for value in variables for kind in classes_of(type(value))}
+    return [*variables, *globals_of(frame.f_code, frame.f_globals),
+            *(method for kind in kinds for name, method in list(kind.__dict__.items()) if name in names)]
 
 
 def called_by(frame: Frame) -> List[Thing]:
@@ -80,9 +80,10 @@ def called_by(frame: Frame) -> List[Thing]:
 
 def globals_of(code: Code, names: Attributes) -> List[Thing]:
     """The globals that a code names, and what it may name as variables of other modules of the program."""
-    found = [names[name] for name in code.co_names if name in names]
-    others = [vars(each) for each in found if type(each) is types.ModuleType and not is_library_module(each.__name__)]
-    return found + [inner[name] for inner in others for name in code.co_names if name in inner]
+    values = [names[name] for name in code.co_names if name in names]
+    others = [vars(module) for module in values
+              if type(module) is types.ModuleType and not is_library_module(module.__name__)]
+    return values + [inner[name] for inner in others for name in code.co_names if name in inner]
 
 
 def insides(value: Thing) -> List[Thing]:
@@ -105,51 +106,47 @@ def insides(value: Thing) -> List[Thing]:
 
 def inside_function(value: types.FunctionType) -> List[Thing]:
     """The values that a function sees: of those around it, of its arguments, and globals."""
-    found = list(value.__defaults__ or ())
-    for cell in value.__closure__ or ():
-        with contextlib.suppress(ValueError):  # (that is empty)
-            found.append(cell.cell_contents)
-    is_own = not LIBRARIES.match(value.__module__ or "")
-    return found + (globals_of(value.__code__, value.__globals__) if is_own else [])
+    return [*(value.__defaults__ or ()), *cells_in(value).values(),
+            *(globals_of(value.__code__, value.__globals__) if is_foreign(value) else ())]
 
 
 def attributes_in(value: object) -> List[Thing]:
     """The attributes of an object or class, also those in slots, and the lists and the like of its class."""
     kinds = classes_of(value if isinstance(value, type) else type(value))
-    found: List[Thing] = []
+    values: List[Thing] = []
     with contextlib.suppress(AttributeError, TypeError):
-        found += [] if isinstance(value, type) else attributes_of(value).values()
-    for each in [each for kind in kinds if kind is not object for each in list(kind.__dict__.values())]:
-        if type(each) in (list, dict, set, tuple):
-            found.append(each)
-        elif type(each) is types.MemberDescriptorType and not isinstance(value, type):
+        values += [] if isinstance(value, type) else attributes_of(value).values()
+    for part in [part for kind in kinds if kind is not object for part in list(kind.__dict__.values())]:
+        if type(part) in (list, dict, set, tuple):
+            values.append(part)
+        elif type(part) is types.MemberDescriptorType and not isinstance(value, type):
             with contextlib.suppress(AttributeError):  # (that isn't set)
-                found.append(each.__get__(value))
-    return found
+                values.append(part.__get__(value))
+    return values
 
 
 def called_later(frames: Stack) -> List[Thing]:
     """What frames of the library will call, but for the work of a thread that has begun it."""
-    found = []
+    values = []
     for place, (frame, _) in enumerate(frames):
         is_thread = issubclass(type(frame.f_locals.get("self")), threading.Thread)
-        has_begun = frame.f_code.co_name != "run" or any(is_own(each) for each, _ in frames[:place])
+        has_begun = frame.f_code.co_name != "run" or any(is_own(inner) for inner, _ in frames[:place])
         if not is_own(frame) and not (is_thread and has_begun):
-            found += called_by(frame)
-    return spread(found)
+            values += called_by(frame)
+    return spread(values)
 
 
 def spread(values: Iterable[Thing]) -> List[Thing]:
     """Values, and what those have that are lists or the like, also within one another, as far as these are no more than
     can be looked at."""
-    found = last = list(values)
+    reached = last = list(values)
     seen: Set[int] = set()
     for _ in range(NEAR):
-        some = {id(value): value for value in last if holds_others(value) and id(value) not in seen}
-        seen.update(some)
-        last = list(itertools.islice((each for value in some.values() for each in insides(value)), CROWD))
-        found = found + last
-    return found
+        wide = {id(value): value for value in last if holds_others(value) and id(value) not in seen}
+        seen.update(wide)
+        last = list(itertools.islice((part for value in wide.values() for part in insides(value)), CROWD))
+        reached = reached + last
+    return reached
 
 
 def holds_others(value: object) -> bool:
@@ -157,19 +154,20 @@ def holds_others(value: object) -> bool:
 
 
 def add_owners(owners: Owners, values: Iterable[Thing]) -> None:
-    """Adds the attributes of some objects to those that methods may find in `self`: by the names of their classes, a
-    few of each."""
+    """Adds the attributes of some objects, and of their classes, to those that methods may find in `self`: by the names
+    of these classes, a few of each."""
     for value in values:
         here = attributes_of(value) if type(value) not in (*CALLED, types.ModuleType, type) else {}
-        for kind in classes_of(type(value))[:-1] if here else ():
+        kinds = classes_of(type(value))[:-1] if here or type(value).__flags__ & HEAP_TYPE else ()
+        for kind in kinds:
             rows = owners.setdefault(kind.__qualname__, {})
             if len(rows) < FEW:
-                rows[id(value)] = here
+                rows.update([(id(value), here), *((id(other), other.__dict__) for other in kinds)])
 
 
 def named_by(names: FrozenSet[str], places: Sequence[Attributes]) -> List[Thing]:
     """What names stand for: in variables, as attributes and methods of these, and of what they stand for there."""
-    found = [place[name] for place in places for name in names & place.keys()]
-    found += [inner[name] for inner in map(attributes_of, found) for name in names & inner.keys()]
-    kinds = kinds_of([*found, *list(places[0].values())])
-    return spread(found + [each[name] for each in kinds for name in names if name in each])
+    meant = [place[name] for place in places for name in names & place.keys()]
+    meant += [inner[name] for inner in map(attributes_of, meant) for name in names & inner.keys()]
+    kinds = kinds_of([*meant, *list(places[0].values())])
+    return spread(meant + [kind[name] for kind in kinds for name in names if name in kind])

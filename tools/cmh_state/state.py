@@ -20,7 +20,7 @@ from .values import maps_of_semaphores, semaphore_of
 TYPE_CHECKING = False
 if TYPE_CHECKING:
     from typing import Dict, List, Optional
-    from .objects import Row
+    from .objects import Row, Thing
 
 MARK = "cmh-state "
 VERSION = 1
@@ -43,20 +43,22 @@ def children_rows() -> List[Row]:
 
 def taken_rows() -> List[Row]:
     """The locks and semaphores of multiprocessing that this process has taken and not given back itself."""
-    module = sys.modules.get("multiprocessing.util")
-    found = [each for each in list(getattr(module, "_afterfork_registry", {}).values())
-             if is_a(each, "multiprocessing.synchronize", "SemLock") and each._semlock._count() > 0]
-    maps = maps_of_semaphores() if found else []
-    return [{"semaphore": semaphore_of(each, maps), "count": each._semlock._count()} for each in found]
+    locks = [lock for lock in shared_ones("synchronize", "SemLock") if lock._semlock._count() > 0]
+    maps = maps_of_semaphores() if locks else []
+    return [{"semaphore": semaphore_of(lock, maps), "count": lock._semlock._count()} for lock in locks]
 
 
 def queue_rows() -> List[Row]:
     """The queues of multiprocessing that this process has."""
-    module = sys.modules.get("multiprocessing.util")
-    found = [each for each in list(getattr(module, "_afterfork_registry", {}).values())
-             if is_a(each, "multiprocessing.queues", "Queue")]
-    maps = maps_of_semaphores() if found else []
-    return [{"queue": semaphore_of(each._sem, maps)} for each in found]
+    queues = shared_ones("queues", "Queue")
+    maps = maps_of_semaphores() if queues else []
+    return [{"queue": semaphore_of(queue._sem, maps)} for queue in queues]
+
+
+def shared_ones(module: str, name: str) -> List[Thing]:
+    """The objects of a class of multiprocessing that this process shares with others."""
+    registry = getattr(sys.modules.get("multiprocessing.util"), "_afterfork_registry", {})
+    return [value for value in list(registry.values()) if is_a(value, f"multiprocessing.{module}", name)]
 
 
 def has_ended(pid: Optional[int]) -> Optional[bool]:
@@ -80,8 +82,8 @@ def alarm_row() -> Row:
 def handlers_by_signal() -> Dict[str, str]:
     """The names of the program's own functions that signals call, by the names of these. An event loop says by itself
     what it calls for signals."""
-    found = {number: signal.getsignal(number) for number in signal.valid_signals()}
-    return {getattr(number, "name", f"SIG{int(number)}"): plain_name(handler) for number, handler in found.items()
+    handlers = {number: signal.getsignal(number) for number in signal.valid_signals()}
+    return {getattr(number, "name", f"SIG{int(number)}"): plain_name(handler) for number, handler in handlers.items()
             if callable(handler) and handler is not signal.default_int_handler and callback_name(handler)}
 
 
@@ -106,7 +108,7 @@ def state(number: int = 0) -> str:
     forget_numbers()
     LEFT["codes"] = CODES if guarded(find_cancelling) is None else -1
     before, tasks_before = places(), guarded(task_places)
-    natives = {each.ident: native_of(each) for each in threading.enumerate()}
+    natives = {thread.ident: native_of(thread) for thread in threading.enumerate()}
     spent = {ident: counts_of(native) for ident, native in natives.items()}
     time.sleep(seconds)
     holders = Holders()
@@ -114,7 +116,7 @@ def state(number: int = 0) -> str:
     tasks = guarded(task_rows, loops, {} if "error" in tasks_before else tasks_before, holders)
     more = [guarded(look) for look in (children_rows, taken_rows, queue_rows)]
     rows = [*threads, *(tasks if isinstance(tasks, list) else [tasks]),
-            *(row for some in more for row in (some if isinstance(some, list) else [some]))]
+            *(row for part in more for row in (part if isinstance(part, list) else [part]))]
     queues = len(more[-1]) if isinstance(more[-1], list) else None
     head = {"version": VERSION, "queues": queues, "process": process_name(), "pid": os.getpid(), "parent": os.getppid(),
             "host": os.uname().nodename, "space": guarded(space), "reader": threading.get_native_id() if number else 0,

@@ -7,11 +7,12 @@ import sys
 import types
 import weakref
 
-from .callers import callers_of
+from .callers import arriving_in, callers_of, waking_timers
+from .connections import sockets_of_task
 from .ends import comes_back, inside_task, may_cancel, may_end
 from .frames import chain_of, frame_row
 from .handles import timed
-from .objects import cells_of, coroutines_of, guarded, is_a, is_standard
+from .objects import callbacks_of, cells_of, coroutines_of, guarded, is_a, is_standard
 from .reach import spread
 from .values import describe
 
@@ -36,10 +37,10 @@ def tasks_of_all() -> List[Thing]:
         return []
     for _ in range(1000):
         try:
-            found = []
+            tasks = []
             for name in ("_all_tasks", "_scheduled_tasks", "_eager_tasks"):
-                found += list(getattr(module, name, ()))
-            return list({id(task): task for task in found if task not in INHERITED}.values())
+                tasks += list(getattr(module, name, ()))
+            return list({id(task): task for task in tasks if task not in INHERITED}.values())
         except RuntimeError:  # the set has changed meanwhile
             continue
     return []
@@ -63,17 +64,17 @@ def forget_numbers() -> None:
 def completed_in(coroutine: Thing) -> Row:
     """What the as_completed of a chain of awaits has yet to see done, if it has no limit, or nothing."""
     chain = coroutines_of(coroutine)
-    frames = [getattr(each, "cr_frame", None) for each in chain]
-    inner = [each for each in frames if each is not None and each.f_code.co_name == "_wait_for_one"]
+    frames = [getattr(link, "cr_frame", None) for link in chain]
+    inner = [frame for frame in frames if frame is not None and frame.f_code.co_name == "_wait_for_one"]
     own = inner[0].f_locals.get("self") if inner else None  # (from Python 3.13 on)
     if is_a(own, "asyncio.tasks", "_AsCompletedIterator") and own._timeout_handle is None:
         return {"completes": describe(own._todo)}
-    queues = [each.f_locals.get("done") for each in inner]
-    inside = [part for each in (chain if sys.version_info >= (3, 11) else frames) for part in gc.get_referents(each)]
-    for each in inside if queues else ():
-        is_one = type(each) is types.GeneratorType and each.gi_code.co_name == "as_completed"
-        if is_one and each.gi_frame is not None and is_standard(each.gi_code.co_filename):
-            here = each.gi_frame.f_locals
+    queues = [frame.f_locals.get("done") for frame in inner]
+    inside = [part for link in (chain if sys.version_info >= (3, 11) else frames) for part in gc.get_referents(link)]
+    for part in inside if queues else ():
+        is_one = type(part) is types.GeneratorType and part.gi_code.co_name == "as_completed"
+        if is_one and part.gi_frame is not None and is_standard(part.gi_code.co_filename):
+            here = part.gi_frame.f_locals
             has_none = here.get("timeout_handle", 0) is None
             if here.get("done") is queues[0] and has_none and type(here.get("todo")) is set:
                 return {"completes": describe(here["todo"])}
@@ -82,7 +83,7 @@ def completed_in(coroutine: Thing) -> Row:
 
 def parent_of(task: Thing) -> Row:
     """The task whose TaskGroup this one is of: if it fails, that one and all others of the group are cancelled."""
-    for callback, _ in getattr(task, "_callbacks", None) or ():
+    for callback in callbacks_of(task):
         group: Thing = getattr(callback, "__self__", None)
         if is_a(group, "asyncio.taskgroups", "TaskGroup"):
             return {"parent": hex(id(group._parent_task))}
@@ -94,17 +95,17 @@ def task_row(task: Thing, timers: Set[int], before: Places, holders: Holders) ->
     coroutine = task.get_coro()
     chain = chain_of(coroutine)
     place = place_of(chain, waiter)
-    sets = [cells_of(callback, "_chain_future.<locals>._call_set_state").get("destination")
-            for callback, _ in getattr(task, "_callbacks", None) or ()]
+    callbacks = callbacks_of(task)
+    sets = [cells_of(callback, "_chain_future.<locals>._call_set_state").get("destination") for callback in callbacks]
     return {
         "task": hex(id(task)), "number": number_of(task), "name": task.get_name(), "loop": hex(id(task.get_loop())),
         "moved": id(task) in before and before[id(task)] != place, "wait": place[-1],
         "waits": describe(waiter), "limit": id(task) in timers or (waiter is not None and id(waiter) in timers),
         "sets": [hex(id(future)) for future in sets if future is not None], **parent_of(task),
         "holds": guarded(holders.held, chain), "ends": guarded(may_end, chain),
-        "cancels": guarded(may_cancel, chain, spread([each for each, _ in getattr(task, "_callbacks", None) or ()])),
-        **guarded(inside_task, coroutine), **guarded(completed_in, coroutine), "again": guarded(comes_back, chain),
-        "frames": [guarded(frame_row, *each) for each in chain]}
+        "cancels": guarded(may_cancel, chain, spread(callbacks)),
+        **guarded(inside_task, coroutine), **guarded(completed_in, coroutine), **guarded(sockets_of_task, chain),
+        "again": guarded(comes_back, chain), "frames": [guarded(frame_row, *row) for row in chain]}
 
 
 def task_places() -> Places:
@@ -132,15 +133,16 @@ def asked_of(loop: Thing) -> List[Row]:
 def task_rows(loops: Loops, before: Places, holders: Holders) -> List[Row]:
     """A row for each task, and for each loop with the task that has its thread."""
     tasks = [task for task in tasks_of_all() if not task.done()]
-    tasks.sort(key=lambda it: (len(it.get_name()), it.get_name()))
-    found: Loops = {id(task.get_loop()): (task.get_loop(), None) for task in tasks}
-    found.update(loops)
-    timers = {key: timed(loop) for key, (loop, _) in found.items()}
+    tasks.sort(key=lambda one: (len(one.get_name()), one.get_name()))
+    all_loops: Loops = {id(task.get_loop()): (task.get_loop(), None) for task in tasks}
+    all_loops.update(loops)
+    timers = {key: timed(loop) for key, (loop, _) in all_loops.items()}
     rows = [guarded(task_row, task, timers[id(task.get_loop())], before, holders) for task in tasks]
-    for loop, ident in found.values():
+    for loop, ident in all_loops.values():
         ident = ident or getattr(loop, "_thread_id", None)
         task = sys.modules["asyncio"].current_task(loop) if "asyncio" in sys.modules else None
         rows.append({"runs": hex(id(loop)), "thread": ident, "current": hex(id(task)) if task is not None else None,
-                     "callers": guarded(callers_of, loop)})
+                     "callers": guarded(callers_of, loop), "waking": guarded(waking_timers, loop),
+                     "arriving": guarded(arriving_in, loop)})
         rows += asked_of(loop)
     return rows

@@ -3,7 +3,6 @@ from __future__ import annotations
 
 import contextlib
 import os
-import re
 import sys
 import threading
 
@@ -45,16 +44,17 @@ def native_of(thread: Optional[threading.Thread]) -> Optional[int]:
 def counts_of(native: Optional[int]) -> Counts:
     """The nanoseconds of processor time of a thread, how often it has stopped to wait, and whether it sleeps in the
     kernel now. None where not shown."""
-    try:
-        with open(f"/proc/self/task/{native}/schedstat") as file:
-            spent = int(file.read().split()[0])
-        with open(f"/proc/self/task/{native}/status") as file:
-            status = file.read()
-    except (OSError, ValueError, IndexError):
-        return UNKNOWN
-    stops = re.search(r"^voluntary_ctxt_switches:\s*(\d+)", status, re.M)
-    letter = re.search(r"^State:\s*(\w)", status, re.M)
-    return (spent, int(stops[1]), letter[1] == "S") if stops and letter else UNKNOWN
+    with contextlib.suppress(OSError, ValueError, LookupError), open(f"/proc/self/task/{native}/schedstat") as file:
+        spent, status = int(file.read().split()[0]), status_of(f"/proc/self/task/{native}")
+        return spent, int(status["voluntary_ctxt_switches"]), status["State"].split()[0] == "S"
+    return UNKNOWN
+
+
+def status_of(folder: str) -> Dict[str, str]:
+    """What the kernel says of a process or a thread, by its words, or nothing where that isn't shown."""
+    with contextlib.suppress(OSError), open(f"{folder}/status", errors="replace") as file:
+        return dict(line.split(":", 1) for line in file if ":" in line)
+    return {}
 
 
 def between(first: Counts, last: Counts) -> Row:
@@ -104,7 +104,7 @@ def foreign_threads() -> Optional[List[str]]:
     """The numbers of the threads of this process that run no Python code now, as far as the module threading knows. One
     that isn't Python's may come back to it. None where that isn't shown."""
     idents = set(sys._current_frames())
-    known = {str(native_of(each)) for each in threading.enumerate() if each.ident in idents}
+    known = {str(native_of(thread)) for thread in threading.enumerate() if thread.ident in idents}
     try:
         return [number for number in os.listdir("/proc/self/task") if number not in known]
     except OSError:
@@ -113,7 +113,4 @@ def foreign_threads() -> Optional[List[str]]:
 
 def is_blocked(number: str) -> bool:
     """Whether a thread blocks all signals that can be blocked."""
-    with contextlib.suppress(OSError), open(f"/proc/self/task/{number}/status") as file:
-        found = re.search(r"^SigBlk:\s*([0-9a-f]+)", file.read(), re.M)
-        return found is not None and int(found[1], 16) & SIGNALS == SIGNALS
-    return False
+    return int(status_of(f"/proc/self/task/{number}").get("SigBlk", "0"), 16) & SIGNALS == SIGNALS

@@ -9,7 +9,7 @@ import sys
 import termios
 import threading
 
-from .objects import callback_name, cells_of, futures_in, is_a
+from .objects import callback_name, callbacks_of, cells_of, futures_in, is_a
 
 TYPE_CHECKING = False
 if TYPE_CHECKING:
@@ -31,8 +31,8 @@ def owner_of(lock: Thing) -> Optional[int]:
         return lock._owner or 0
     if type(lock) in RLOCKS:
         kind: Thing = type(lock)
-        found = re.search(r" owner=(\d+) ", kind.__repr__(lock))
-        return int(found[1]) if found else None
+        match = re.search(r" owner=(\d+) ", kind.__repr__(lock))
+        return int(match[1]) if match else None
     return getattr(lock, "owner", None) or 0
 
 
@@ -58,8 +58,8 @@ def describe_future(value: Thing, row: Row) -> Optional[Row]:
     if is_a(value, "asyncio.tasks", "Task"):
         return {**row, "type": "Task", "name": value.get_name(), "done": value.done()}
     if is_a(value, "asyncio.tasks", "_GatheringFuture"):
-        left = [each for each in value._children if not each.done()]
-        return {**row, "type": "gather", "all": [describe(each) for each in left], **raises(left)}
+        left = [child for child in value._children if not child.done()]
+        return {**row, "type": "gather", "all": [describe(child) for child in left], **raises(left)}
     if is_a(value, "asyncio.futures", "Future"):
         return {**row, "type": "asyncio.Future", "done": value.done(), **links_of(value)}
     return None
@@ -106,7 +106,7 @@ def describe(value: Thing) -> Json:
     if type(value) is str:
         return value if value in WORDS else {"type": "str"}
     if type(value) in (set, list, tuple, frozenset, dict):
-        return [describe(each) for each in list(value)]
+        return [describe(part) for part in list(value)]
     row = {"type": type(value).__name__, "id": hex(id(value))}
     return describe_future(value, row) or describe_known(value, row) or row
 
@@ -114,7 +114,7 @@ def describe(value: Thing) -> Json:
 def raises(children: Iterable[Thing]) -> Row:
     """Whether a gather goes on once one of these fails."""
     for child in children:
-        for callback, _ in getattr(child, "_callbacks", None) or ():
+        for callback in callbacks_of(child):
             cells = cells_of(callback, "gather.<locals>._done_callback")
             if "return_exceptions" in cells:
                 return {"raises": not cells["return_exceptions"]}
@@ -123,7 +123,7 @@ def raises(children: Iterable[Thing]) -> Row:
 
 def links_of(future: Thing) -> Row:
     """What an asyncio future stands for: the work of an executor, or what shield() keeps."""
-    for callback, _ in getattr(future, "_callbacks", None) or ():
+    for callback in callbacks_of(future):
         outside = cells_of(callback, "_chain_future.<locals>._call_check_cancel").get("source")
         if outside is not None:
             return {"source": describe(outside)}

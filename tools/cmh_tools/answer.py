@@ -40,6 +40,8 @@ def answer(found: Explanation, noted: Optional[str] = None, at: Optional[int] = 
         "roots": [root_row(found, number) for number in roots],
         "doubts": doubt_rows(found),
         "cures": cure_rows(found),
+        "ends": [] if found.roots.roots else [{**step._asdict(), "waiters": number}
+                                              for step, number in found.cures.ends()],
         "still_stuck": names(found, found.left_over),
         "unknown": unknown_rows(found),
         "proposals": proposal_rows(found),
@@ -89,7 +91,7 @@ def cut_of(found: Findings) -> Dict[str, int]:
 # Roots
 
 
-def root_row(found: Findings, number: int) -> Tree:
+def root_row(found: Explanation, number: int) -> Tree:
     members, behind = found.roots.roots[number], found.roots.behind[number]
     sites, is_some_unsaid = found.sites(members)
     return {
@@ -99,6 +101,7 @@ def root_row(found: Findings, number: int) -> Tree:
         "is_cycle": bool(found.cycle(number)),
         "members": names(found, members),
         "behind": names(found, behind),
+        "enough": found.cures.enough_words(number),
         "sites": sites,
         "has_other_sites": is_some_unsaid,
         "rests_on": reason_rows(found.rests.of(found.processes(members))),
@@ -110,7 +113,8 @@ def cure_rows(found: Explanation) -> List[Tree]:
     """Returns what breaks all roots."""
     cures = found.cures
     return [{"units": cure.units, "is_all": cure.is_all, "roots": [number + 1 for number in cure.roots],
-             "says": words_of(cures, cure)} for cure in cures.least()]
+             "steps": [cures.step_of(unit)._asdict() for unit in cure.units], "says": words_of(cures, cure)}
+            for cure in cures.least()]
 
 
 def reason_rows(some: Iterable[Reason]) -> List[Tree]:

@@ -5,13 +5,13 @@ from __future__ import annotations
 import re
 from typing import Dict, Iterable, List, Optional, Set, Tuple
 
-from .facts import HOLDS, OTHERS, RELATIVES, Fact, Facts, families, fill_in, is_others
+from .facts import ALSO, HOLDS, OTHERS, RELATIVES, Fact, Facts, families, fill_in, is_others
 from .files import short_name
 from .model import COMES, Anybody, Part, Sign, Strength, Wakers, all_of, any_of, unseen, wakers
 from .places import SPECIAL, VARIABLE, is_like, may_meet
 from .proposals import frame_name
-from .sketch import (ANY, DONE, GOING, LIMIT, NEEDED, REST, UNKNOWN, WAITING, WORK, Process, Sketch, near_name,
-                     premise, quote)
+from .sketch import (ANY, DONE, GOING, LIMIT, NEEDED, REST, UNKNOWN, WAITING, WORK, Process, Sketch, has_how,
+                     near_name, premise, quote)
 
 TIMED = "timed "  # before the operation of a wait with a limit
 UNCOUNTED, UNSHOWN = "uncounted", "unshown"  # hows that a fact may settle
@@ -24,7 +24,10 @@ Found = List[Tuple[Process, Optional[Fact]]]  # processes, each with the fact on
 def apply(facts: Facts, sketch: Sketch) -> None:
     """Changes by facts who may end the waits of a sketch. Adds to its warnings which facts matched nothing, or name
     nobody."""
-    Application(facts, sketch).run()
+    if facts.facts or facts.still is not None:
+        Application(facts, sketch).run()
+    else:
+        drop_missing(sketch)
 
 
 class Names:
@@ -33,9 +36,9 @@ class Names:
     def __init__(self, facts: Facts, sketch: Sketch) -> None:
         self.facts, self.groups = facts, sketch.groups
         self.names = {process.name: None for process in sketch.processes}
-        self.at_frames = {frame_name(each): process.name for process in sketch.processes for each in process.frames}
+        self.at_frames = {frame_name(frame): process.name for process in sketch.processes for frame in process.frames}
         self.families = families(self.names)
-        self.others = [it.name for it in sketch.processes if it.is_there()]
+        self.others = [one.name for one in sketch.processes if one.is_there()]
         self.holders: Dict[str, Dict[str, None]] = {}
         self.holding: Dict[str, Dict[int, Fact]] = {}  # the facts by which something is held, by their lines
         self.lists: Dict[Tuple[str, Tuple[str, ...]], Tuple[List[str], str]] = {}
@@ -65,15 +68,15 @@ class Names:
         return word in self.names or word in self.facts.groups
 
     def of_words(self, fact: Fact, words: List[str]) -> Tuple[List[str], str]:
-        found: Dict[str, None] = {}
+        all_names: Dict[str, None] = {}
         for key, word in zip(fact.words, words):
             names = dict.fromkeys(self.of_word(word))
             if not is_others(word):  # (they may be many, and the word says who they are)
                 fact.took.setdefault(key, {}).update(names)
             if not names and not fact.or_nobody:
                 return [], f"{self.facts.path}:{fact.at}: {self.lack(fact, key, word)}"
-            found.update(names)
-        return list(found), ""
+            all_names.update(names)
+        return list(all_names), ""
 
     def lack(self, fact: Fact, word: str, filled: str) -> str:
         """What is said of a word that stands for nobody, by itself and with the values of its variables."""
@@ -95,7 +98,7 @@ class Names:
         if word.startswith("@"):
             return self.holders.get(word[1:], {})
         if word in self.facts.groups and word not in self.names:
-            return [name for each in self.facts.groups[word] for name in self.of_name(each)]
+            return [name for member in self.facts.groups[word] for name in self.of_name(member)]
         return self.of_name(word)
 
     def of_name(self, word: str) -> Iterable[str]:
@@ -108,8 +111,8 @@ class Names:
         if VARIABLE.search(word):  # (it has no value, and stands for no text)
             return []
         if is_others(word):
-            some = [name for name in self.others if name.startswith(f"{word[len(OTHERS) + 1:]}/")]
-            return some or self.others  # (all, where another system calls them otherwise)
+            names = [name for name in self.others if name.startswith(f"{word[len(OTHERS) + 1:]}/")]
+            return names or self.others  # (all, where another system calls them otherwise)
         if ":" in word and any(group.startswith(f"{word.split(':')[0]}:") for group in self.groups):
             return [name for group, names in self.groups.items() if is_like(word, group) for name in names]
         return [name for name in self.names if is_like(word, name)] if SPECIAL.search(word) else []
@@ -125,7 +128,7 @@ class Application:
     def __init__(self, facts: Facts, sketch: Sketch) -> None:
         self.facts, self.sketch, self.names = facts, sketch, Names(facts, sketch)
         self.at_rest: Set[str] = set()
-        self.missing = [it.name for it in sketch.processes if it.frames == [REST]]
+        self.missing = [process.name for process in sketch.processes if process.frames == [REST]]
         # By operation and meeting, who is at a collective one: with its fact, and what tells the circle that it needs.
         self.here: Dict[Tuple[str, str], Dict[str, Tuple[Optional[Fact], object]]] = {}
         self.started: Dict[Tuple[int, ...], List[str]] = {}  # by the ids of lists, all who are in them
@@ -134,10 +137,10 @@ class Application:
 
     def run(self) -> None:
         self.facts.find_bystanders(self.sketch)
-        found = self.undecided()
-        self.at_rest = {it.name for it in self.sketch.processes if it.sign is Sign.RESTS and it.reason == WORK}
-        self.note_places(found)
-        for process, fact in found:
+        undecided = self.undecided()
+        self.at_rest = {one.name for one in self.sketch.processes if one.sign is Sign.RESTS and one.reason == WORK}
+        self.note_places(undecided)
+        for process, fact in undecided:
             self.decide(process, fact)
         for process in self.sketch.processes:
             self.widen(process)
@@ -152,9 +155,9 @@ class Application:
         """Returns those whom facts may decide, each with the fact on its wait, if there is one."""
         return [(process, self.facts.wait(process)) for process in self.sketch.processes if self.is_undecided(process)]
 
-    def note_places(self, found: Found) -> None:
+    def note_places(self, undecided: Found) -> None:
         """Notes who is at which collective operation, each with the fact on its wait, and which lines are on whom."""
-        for process, fact in found:
+        for process, fact in undecided:
             if process.is_collective:
                 self.here_with(process)[process.name] = fact, self.circle(process, fact)
             if fact is not None and not fact.has_variables():
@@ -163,8 +166,8 @@ class Application:
 
     def note_facts(self) -> None:
         """Has the facts in the sketch that were used."""
-        found = [*self.facts.facts, *filter(None, [self.facts.still])]
-        self.sketch.facts += [fact.row(self.facts.path) for fact in found if fact.used]
+        facts = [*self.facts.facts, *filter(None, [self.facts.still])]
+        self.sketch.facts += [fact.row(self.facts.path) for fact in facts if fact.used]
 
     def is_undecided(self, process: Process) -> bool:
         """Whether a fact may decide a process: one whose wait the state doesn't show, or shows by mere reach, or by a
@@ -216,10 +219,10 @@ class Application:
 
     def starters(self, whom: List[str]) -> List[Wakers]:
         """Returns those who may start more like some, whom a pattern found, where the system says who they are."""
-        lists = {id(some): some for some in (self.sketch.groups.get(f"{STARTERS}:{name}") for name in whom) if some}
+        lists = {id(names): names for names in (self.sketch.groups.get(f"{STARTERS}:{name}") for name in whom) if names}
         key = tuple(lists)
         if key not in self.started:
-            self.started[key] = list(dict.fromkeys(name for some in lists.values() for name in some
+            self.started[key] = list(dict.fromkeys(name for names in lists.values() for name in names
                                                    if name in self.names.names))
         return [wakers("starts", self.started[key])] if self.started[key] else []
 
@@ -267,20 +270,20 @@ class Application:
 
     def wait_for_holders(self, process: Process) -> None:
         """One that waits at what others hold by facts waits for any of these. What nobody holds may be anybody's."""
-        keys = [some for part in process.parts for some in part if some.what]
-        held = {some.what: [what for what in self.names.holders if self.is_key(what, some.what)] for some in keys}
+        keys = [group for part in process.parts for group in part if group.what]
+        held = {group.what: [what for what in self.names.holders if self.is_key(what, group.what)] for group in keys}
         objects = [what for what in process.objects if what in self.names.holders]
-        found = dict.fromkeys([*objects, *(what for some in held.values() for what in some)])
+        held_there = dict.fromkeys([*objects, *(what for holdings in held.values() for what in holdings)])
         gone = next((fact for fact in self.facts.facts if fact.kind == HOLDS and not fact.used
                      and any(self.is_key(fact.words[0], key) for key in held)), None)
         if gone is not None:
             doubt(process, f"nobody is there that line {gone.at} of the facts says to hold {quote(gone.words[0])}")
             return
-        free = next((key for key, some in held.items() if not some), None)
-        if free is not None and found:
+        free = next((key for key, holdings in held.items() if not holdings), None)
+        if free is not None and held_there:
             process.reason = f"nobody is known by facts to hold {quote(free)}"
-        if found:
-            self.let_wait(process, list(found), [some for some in keys if not held[some.what]])
+        if held_there:
+            self.let_wait(process, list(held_there), [group for group in keys if not held[group.what]])
 
     def is_key(self, what: str, key: str) -> bool:
         """Whether what is held fits a key that ends a wait: by an expression of the system for it, or as a pattern of
@@ -295,8 +298,8 @@ class Application:
         facts = sorted({fact.at: fact for what in objects for fact in self.names.holding[what].values()}.items())
         because = [self.facts.reason(fact) for _, fact in facts]
         whom = list(dict.fromkeys(name for what in objects for name in self.names.holders[what]))
-        known = [some for part in process.parts for some in part if some.strength in (Strength.NAMED, Strength.ABLE)
-                 and some.how == "listed"]
+        known = [group for part in process.parts for group in part if group.strength in (Strength.NAMED, Strength.ABLE)
+                 and group.how == "listed"]
         left_out = (wakers("left-out", self.missing),) if self.missing else ()
         process.wait_for(any_of(*known, said(whom, *because), *free, *kept_wakers(process), *left_out), because)
         for _, fact in facts:
@@ -307,7 +310,7 @@ class Application:
         called = process.whom if process.kind == ANY else []
         if process.kind == UNKNOWN and not process.is_garbled:
             called = [name for name in process.objects if name in self.names.names]
-        fact = self.facts.also(process) if called else None
+        fact = self.facts.first((ALSO,), process) if called else None
         if fact is None:
             return
         more, fault = self.names.of_fact(fact, process)
@@ -326,7 +329,7 @@ class Application:
         if still is None or process.sign not in WAITING or not has_how(process, UNCOUNTED):
             return
         still.used = True
-        process.parts = [tuple(some for some in part if some.how != UNCOUNTED) for part in process.parts]
+        process.parts = [tuple(group for group in part if group.how != UNCOUNTED) for part in process.parts]
         if process.sign is Sign.BLOCKED or not process.is_open():  # (one with nothing to do is left out as before)
             process.because = [*process.because, self.facts.reason(still)]
             still.decided.append(process.name)
@@ -337,20 +340,12 @@ def is_undecided(process: Process) -> bool:
     if process.sign is Sign.UNKNOWN:
         return True
     return process.sign in WAITING and (not process.parts or any(
-        some.how in OPEN or some.what or is_anybody(some) for part in process.parts for some in part))
-
-
-def is_anybody(some: Wakers) -> bool:
-    """Whether somebody may end a wait whom the state doesn't name, and a fact may."""
-    return isinstance(some.who, Anybody) and some.how != UNCOUNTED
+        group.how in OPEN or group.what or isinstance(group.who, Anybody) and group.how != UNCOUNTED
+        for part in process.parts for group in part))
 
 
 # Hows by which one may end a wait, and needn't, and those of somebody who isn't in the state.
 OPEN = {"reaches", "same-process", "inside", "guess", UNSHOWN, "outside", "to-come"}
-
-
-def has_how(process: Process, how: str) -> bool:
-    return any(some.how == how for part in process.parts for some in part)
 
 
 BESIDE = premise("one-thread")  # a reason of those who count whatever a fact says of others: threads of a rank
@@ -360,7 +355,8 @@ THERE = {"repeats", "finalizes"}  # hows by which one would end a wait as those 
 def kept_wakers(process: Process) -> Part:
     """Returns the wakers of a wait that a fact on it leaves as they are: who ends it in another way, other threads
     of its own, and who may have ended it between the looks."""
-    return tuple({(id(some.who), some.how): some for part in process.parts for some in part if is_kept(some)}.values())
+    kept = (group for part in process.parts for group in part if is_kept(group))
+    return tuple({(id(group.who), group.how): group for group in kept}.values())
 
 
 def is_kept(group: Wakers) -> bool:
@@ -372,8 +368,8 @@ def intersected(process: Process, fact: Fact, whom: List[str]) -> Tuple[List[str
     """Returns those of whom a fact speaks who may end the wait by the state too, where this has all who may."""
     if process.sign not in WAITING or process.is_open() or not process.parts:
         return whom, ""
-    able = {name for part in process.parts for some in part for name in some.names()
-            if some.strength in (Strength.NAMED, Strength.ABLE)}
+    able = {name for part in process.parts for group in part for name in group.names()
+            if group.strength in (Strength.NAMED, Strength.ABLE)}
     left = [name for name in whom if name in able]
     if whom and not left:
         return [], f"line {fact.at} of the facts names nobody who may end this wait by the state"
@@ -398,9 +394,9 @@ def several(fact: Fact) -> str:
 
 def drop_missing(sketch: Sketch) -> None:
     """Takes those out of all lists whom a state may lack, if a fact says that none of them matters."""
-    gone = {it.name for it in sketch.processes if it.frames == [REST] and it.sign is not Sign.UNKNOWN}
+    gone = {one.name for one in sketch.processes if one.frames == [REST] and one.sign is not Sign.UNKNOWN}
     for process in sketch.processes if gone else ():
-        process.parts = [tuple(left for left in (some.without(gone) for some in part) if left.names() or left.who)
+        process.parts = [tuple(left for left in (group.without(gone) for group in part) if left.names() or left.who)
                          for part in process.parts]
 
 
@@ -409,7 +405,7 @@ def drop_bystanders(facts: Facts, sketch: Sketch) -> None:
     list of such ones alone stays: who waits for them waits for their own end, as a join does."""
     kept: Dict[Tuple[int, int], Wakers] = {}  # by the ids of a list and of who is taken out, what is left of it
     for process in sketch.processes if facts.bystanders or facts.bystanders_at else ():
-        known = facts.bystanders_of(process)
+        known = facts.bystanders_at.get(process.name, facts.bystanders)
         gone: Dict[int, Fact] = {}
         process.parts = [part_without(part, known, kept, gone) for part in process.parts]
         for fact in gone.values() if process.sign in WAITING else ():
@@ -421,12 +417,12 @@ def part_without(part: Part, known: Dict[str, Fact], kept: Dict[Tuple[int, int],
                  gone: Dict[int, Fact]) -> Part:
     """Returns a part without bystanders, and notes the facts on those who were one of it."""
     left: List[Wakers] = []
-    for some in part:
-        key = id(some.who), id(known)
+    for group in part:
+        key = id(group.who), id(known)
         if key not in kept:
-            kept[key] = some.without(known)
-        left.append(kept[key]._replace(strength=some.strength, how=some.how, because=some.because, what=some.what))
-    if not any(some.strength in (Strength.NAMED, Strength.ABLE) and some.names() for some in left):
+            kept[key] = group.without(known)
+        left.append(kept[key]._replace(strength=group.strength, how=group.how, because=group.because, what=group.what))
+    if not any(group.strength in (Strength.NAMED, Strength.ABLE) and group.names() for group in left):
         left = [new if old.strength in (Strength.AGAINST, Strength.UNSEEN) else old for old, new in zip(part, left)]
     for old, new in zip(part, left):
         gone.update({known[name].at: known[name] for name in set(old.names()) - set(new.names())})

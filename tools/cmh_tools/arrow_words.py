@@ -16,13 +16,18 @@ class Reach(NamedTuple):
 
 def words_of(reach: Reach, start: int, end: int, needs_all: bool) -> str:
     """Returns the words on an arrow between boxes of so many: how many have whom, if not all have all."""
-    some = "" if reach.number == start else f"{reach.number:,} of {start:,}"
+    who = "" if reach.number == start else f"{reach.number:,} of {start:,}"
     if end == 1 or reach.is_whole:
-        return some if end == 1 or not some else f"{some} → {'all' if needs_all else 'any of'} {end:,}"
+        return who if end == 1 or not who else f"{who} → {'all' if needs_all else 'any of'} {end:,}"
     if len(reach.sets) == 1:
         whom = f"{sum(map(len, reach.sets)):,} of {end:,}"
-        return whom if start == 1 else f"{some or 'all'} → {whom}"
-    return f"{some} → {each_words(reach)}".lstrip("→ ")
+        return whom if start == 1 else f"{who or 'all'} → {whom}"
+    return f"{who} → {each_words(reach)}".lstrip("→ ")
+
+
+def broken(words: str) -> List[str]:
+    """Returns the words on an arrow in lines, as where boxes are narrow."""
+    return words.replace(" → ", " →\n").replace(" of these", "\nof these").split("\n") if words else []
 
 
 def far_words(number: int, start: int) -> str:
@@ -32,7 +37,7 @@ def far_words(number: int, start: int) -> str:
 
 def each_words(reach: Reach) -> str:
     """Returns whom each one has, if not all have the same."""
-    if any(len(some) > 1 for some in reach.sets):
+    if any(len(whom) > 1 for whom in reach.sets):
         return "each some of these"
     return "each its own" if len(reach.sets) == reach.number else "each one of these"
 
@@ -41,18 +46,18 @@ def reach_of(rows: Iterable[Tuple[List[int], Collection[int], bool]], end: Colle
     """Returns the reach of some into a box. Each row has those that share a list, it, and whether it is of one alone,
     who doesn't have to be in it."""
     number, sets, is_whole, inside = 0, set(), True, frozenset(end)
-    for some, whom, is_own in rows:
-        found = inside.intersection(whom)
-        if found:
-            number += len(some)
-            sets.add(found)
-            is_whole = is_whole and len(found.union(inside.intersection(some) if is_own else ())) == len(inside)
+    for members, whom, is_own in rows:
+        common = inside.intersection(whom)
+        if common:
+            number += len(members)
+            sets.add(common)
+            is_whole = is_whole and len(common.union(inside.intersection(members) if is_own else ())) == len(inside)
     return Reach(number, frozenset(sets), is_whole)
 
 
 def by_first(pairs: Iterable[Pair]) -> Dict[int, List[int]]:
     """Returns for each first one of some pairs the others."""
-    found: Dict[int, List[int]] = {}
+    others_by_first: Dict[int, List[int]] = {}
     for first, other in pairs:
-        found.setdefault(first, []).append(other)
-    return found
+        others_by_first.setdefault(first, []).append(other)
+    return others_by_first

@@ -96,8 +96,8 @@ ASSUMPTIONS: Dict[str, Assumption] = {
         "a lock of a window is kept by its target, or by the first rank there or of all",
         "a library that has another one keep it", "mpi"),
     "session-limits": Assumption(
-        "no session has set a limit of its own, and none but its client, a limit in force and an operator ends what it "
-        "does", "SET lock_timeout in a program, a driver that cancels queries", "mariadb postgres"),
+        "none but its client, a limit and an operator ends what a session does", "a driver that cancels queries",
+        "mariadb postgres"),
     "named-tables": Assumption(
         "a statement waits for the metadata lock of a table whose name stands in it",
         "a view, a trigger or a foreign key that takes another table's", "mariadb"),

@@ -2,7 +2,6 @@
 from __future__ import annotations
 
 import contextlib
-import glob
 import os
 import re
 import shutil
@@ -13,6 +12,9 @@ import time
 from dataclasses import dataclass, field, replace
 from typing import Dict, Iterator, List, Optional, Sequence
 
+from cmh_linux.debugger import let_go, standstill
+
+from .descendants import descendants
 from .files import Failure, say, shown
 from .folder import user_of
 
@@ -21,9 +23,9 @@ READER = f"{HOME}/cmh_python_reader.py"  # which two looks alone tell from what 
 LONG = 10  # seconds beyond which there is a third look halfway: no more, as each may hold the system, and takes memory
 TIMES = {2: "twice", 3: "three times"}
 PATIENCE = 10  # seconds in which a command that is ended puts away what it has begun
-REST = 1  # seconds in which a process goes on, or stands still, once its debugger has ended
 OURS = ("take-", "cmh_")  # how lines begin that our own scripts say, and no program that they run
-STOP = 1 << (signal.SIGSTOP - 1)  # in a mask of signals
+LISTENS = "0A"  # the state of a socket of TCP
+LOCAL = re.compile(r"localhost|127(\.\d+){3}|\[::1\]")  # what this machine is called
 
 
 @dataclass(frozen=True)
@@ -44,8 +46,7 @@ SYSTEMS = {
                   "--heap shows more",
                   {"jstack": "default-jdk-headless"}),
     "go": System("the program stops while it prints its goroutines: twice, 0.6 s with 100,000 of them"),
-    "python": System("nothing is stopped: a signal wakes the thread of cmh_state, and a system call of the main thread "
-                     "may return early"),
+    "python": System("nothing is stopped: a signal wakes the thread of cmh_state, and no other one"),
     "erlang": System("no process is held, but each while its own stack is printed",
                      {"erl": "erlang-nox", "erlc": "erlang-nox"}, is_counted=True),
     "mariadb": System("nothing is stopped: two statements that only read, of 2 s at most each, ask the server",
@@ -73,7 +74,8 @@ HEAP_NEEDS = {it: "default-jdk-headless" for it in ("jstack", "jcmd")}
 # The ways to Python processes that haven't loaded cmh_state.
 PYTHON_WAYS = {
     "py-spy": "py-spy reads the memory of each process, and stops nothing: twice. It shows no locks",
-    "gdb": "gdb with python3-dbg stops each process while it reads it: twice, some 3 s. It shows no owners of locks",
+    "gdb": "gdb with python3-dbg stops each process while it reads it: some 1.5 s, later 0.5 s. It shows no owners of "
+           "locks",
 }
 TO_SEE_INSIDE = ("to see inside of it, have it load cmh_state the next time, or read it now by cmh_python_reader.py, "
                  "which needs py-spy, or gdb with python3-dbg")
@@ -89,6 +91,7 @@ class Capture:
     command: Sequence[str] = ()  # of such a way
     has_stacks: bool = False  # of Linux: with the stacks of those at a futex
     beside: Sequence[str] = ()  # of Python: the children that would answer too, and aren't taken
+    label: str = ""  # what its files are called, where another one of the system is taken too
 
     def looks(self, seconds: float) -> int:
         """Returns how many looks there are within some seconds."""
@@ -114,22 +117,28 @@ class Capture:
             return [*collector, *(word for pid in self.targets for word in ("--pid", pid))]
         return [recipe(self.system), *(nodes_first(self.targets) if self.system == "erlang" else self.targets)]
 
-    def held(self) -> List[str]:
-        """Returns the processes to which a debugger attaches, by their numbers."""
+    def held(self) -> List[int]:
+        """Returns the processes to which a debugger attaches."""
         if "gdb" in self.command or (self.system == "mpi" and not self.command):
-            return [pid for it in self.targets for pid in pids_of(it)]
+            return [int(pid) for target in self.targets for pid in pids_of(target)]
         return []
 
     def names(self, seconds: float) -> List[str]:
         """Returns the names of the files that have its states."""
         number = self.looks(seconds) if SYSTEMS[self.system].is_once else 1
-        return [f"{self.system}.{at}.state" for at in range(1, number + 1)]
+        return [f"{self.label or self.system}.{look}.state" for look in range(1, number + 1)]
+
+
+def labels_of(systems: Sequence[str]) -> List[str]:
+    """Returns what the files of some systems are called: by the system, with a number where it has come before."""
+    numbers = [systems[:place].count(system) for place, system in enumerate(systems, 1)]
+    return [system if number == 1 else f"{system}-{number}" for system, number in zip(systems, numbers)]
 
 
 def nodes_first(words: Sequence[str]) -> List[str]:
     """Returns the words for nodes of Erlang, all of them in one, and those for modules behind it."""
-    nodes = [it for it in words if "@" in it] or words
-    return [",".join(nodes), *(it for it in words if it not in nodes)]
+    nodes = [word for word in words if "@" in word] or words
+    return [",".join(nodes), *(word for word in words if word not in nodes)]
 
 
 def recipe(system: str) -> str:
@@ -141,7 +150,7 @@ def recipe(system: str) -> str:
 
 
 def check_needs(capture: Capture) -> None:
-    """Raises Failure if a command is missing, or all processes that are named have ended."""
+    """Raises Failure if a command is missing, all processes that are named have ended, or a JVM is of another user."""
     system = capture.system
     numbers = list(filter(str.isdigit, capture.targets))
     if numbers and not any(os.path.exists(f"/proc/{pid}") for pid in numbers):
@@ -152,14 +161,10 @@ def check_needs(capture: Capture) -> None:
             raise Failure(f"{command} is needed for {system}, and isn't there (Debian: apt-get install {package})")
     for pid in capture.targets if system == "jvm" and os.geteuid() else ():
         with contextlib.suppress(FileNotFoundError):
-            check_user(pid, os.stat(f"/proc/{pid}").st_uid)
-
-
-def check_user(pid: str, owner: int) -> None:
-    """Raises Failure if a JVM is of another user: it answers its own and root alone."""
-    if owner != os.geteuid():
-        raise Failure(f"process {pid} is of another user, by whom a JVM has to be asked: sudo -u '{user_of(owner)}' "
-                      f"cmh-stall jvm {pid}")
+            owner = os.stat(f"/proc/{pid}").st_uid
+            if owner != os.geteuid():  # (a JVM answers its own user and root alone)
+                raise Failure(f"process {pid} is of another user, by whom a JVM has to be asked: "
+                              f"sudo -u '{user_of(owner)}' cmh-stall jvm {pid}")
 
 
 def captures_for(system: str, targets: List[str], may_kill: bool, may_dump: bool) -> List[Capture]:
@@ -196,18 +201,49 @@ def fault_of(system: str, targets: Sequence[str]) -> str:
     if system in SERVERS and any(map(PASSWORD.search, targets)):
         return "a password is on the command line, where all users see it: a file for passwords takes it"
     most = 1 + (system == "postgres")  # (behind the server stands the console of pgbouncer)
-    return "one server is expected" if system in SERVERS and targets[most:] else ""
+    return "one server is expected" if system in NAMELESS and targets[most:] else ""
 
 
 def with_sockets(captures: List[Capture]) -> List[Capture]:
-    """Returns captures with what Linux sees of the clients of a server, whose connections it alone knows."""
+    """Returns captures with what Linux sees of the clients of a server, and of a program of Go's beside any other
+    system: it alone knows whose connection is whose."""
     systems = [capture.system for capture in captures]
-    clients = [pid for capture in captures if capture.system in ("jvm", "python") for pid in capture.targets
-               if pid.isdigit()]
-    if clients and "linux" not in systems and not {*SERVERS, "rabbitmq"}.isdisjoint(systems):
-        return [*captures, Capture("linux", list(dict.fromkeys(clients)), "its connections are read as the kernel "
-                                   "sees them, which stops nothing")]
-    return captures
+    has_server = not {*SERVERS, "erlang", "rabbitmq"}.isdisjoint(systems)
+    clients = [pid for capture in captures if capture.system in ("jvm", "python") and has_server
+               for pid in capture.targets if pid.isdigit()]
+    clients += [pid for capture in captures if capture.system == "go" and captures[1:]
+                for pid in listeners_at(capture.targets[0])]
+    if not clients:
+        return captures
+    if "linux" not in systems:
+        return [*captures, Capture("linux", list(dict.fromkeys(clients)), "its connections are read as the kernel sees "
+                                   "them, which stops nothing")]
+    first = captures[systems.index("linux")]
+    more = replace(first, targets=list(dict.fromkeys([*first.targets, *clients])))
+    return [more if capture is first else capture for capture in captures]
+
+
+def listeners_at(address: str) -> List[str]:
+    """Returns the processes that listen at a port of this machine, as far as this user may see that."""
+    host, _, port = address.rpartition(":")
+    if not LOCAL.fullmatch(host):
+        return []
+    rows = [line.split() for name in ("tcp", "tcp6") for line in text_of(f"/proc/net/{name}").splitlines()[1:]]
+    sockets = {f"socket:[{row[9]}]" for row in rows if row[3] == LISTENS and port == str(int(row[1].split(":")[1], 16))}
+    return [pid for pid in filter(str.isdigit, os.listdir("/proc")) if not sockets.isdisjoint(files_of(pid))]
+
+
+def files_of(pid: str) -> List[str]:
+    """Returns what the descriptors of a process are, as far as this user may see that."""
+    with contextlib.suppress(OSError):
+        return [link_of(f"/proc/{pid}/fd/{fd}") for fd in os.listdir(f"/proc/{pid}/fd")]
+    return []
+
+
+def text_of(path: str) -> str:
+    with contextlib.suppress(OSError), open(path, encoding="ascii", errors="replace") as file:
+        return file.read()
+    return ""
 
 
 def with_stacks(capture: Capture) -> Capture:
@@ -215,7 +251,7 @@ def with_stacks(capture: Capture) -> Capture:
     """
     if capture.system != "linux":
         return capture
-    tool = next((it for it in STACKS if shutil.which(it)), "")
+    tool = next((command for command in STACKS if shutil.which(command)), "")
     if not tool:
         raise Failure("eu-stack or gdb is needed for --stacks, and neither is there (Debian: apt-get install elfutils)")
     says = "; ".join(filter(None, [capture.how, STACKS[tool]]))
@@ -252,7 +288,7 @@ def capture_for(system: str, targets: List[str], may_kill: bool, may_dump: bool)
     if system == "jvm" and may_dump:
         return Capture(system, ["--heap", *targets], HEAP)
     if system == "mpi":
-        return capture_of_ranks([os.path.basename(it) for it in targets])
+        return capture_of_ranks([os.path.basename(target) for target in targets])
     if system == "python" and not all(map(answers, targets)):
         return Capture("linux", targets, "a process hasn't loaded cmh_state, so it is read as the kernel sees it, "
                        "which shows no locks of Python's")
@@ -264,15 +300,8 @@ def capture_for(system: str, targets: List[str], may_kill: bool, may_dump: bool)
 
 def children_that_answer(pids: Sequence[str]) -> List[str]:
     """Returns the other Python processes below some that answer a signal too."""
-    parents: Dict[str, List[str]] = {}
-    for pid in filter(str.isdigit, os.listdir("/proc")):
-        parents.setdefault(stat_of(pid, 1), []).append(pid)
-    left, found = list(pids), set()
-    while left:
-        some = parents.get(left.pop(), [])
-        left += [it for it in some if it not in found]
-        found.update(some)
-    return sorted((it for it in found.difference(pids) if answers(it)), key=int)
+    below = {process.pid for pid in pids for process in descendants(int(pid))} - {*map(int, pids)}
+    return [str(pid) for pid in sorted(below) if answers(str(pid))]
 
 
 def answers(pid: str) -> bool:
@@ -287,10 +316,7 @@ def has_record(target: str) -> bool:
 
 def has_in_memory(pid: str, name: str) -> bool:
     """Whether a process has a file in memory of this name open."""
-    with contextlib.suppress(OSError):
-        folder = f"/proc/{pid}/fd"
-        return any(link_of(f"{folder}/{fd}").startswith(f"/memfd:{name} ") for fd in os.listdir(folder))
-    return False
+    return any(target.startswith(f"/memfd:{name} ") for target in files_of(pid))
 
 
 def pids_of(target: str) -> List[str]:
@@ -301,10 +327,10 @@ def pids_of(target: str) -> List[str]:
             if os.path.basename(link_of(f"/proc/{pid}/exe")) == target]
 
 
-def stat_of(pid: str, at: int) -> str:
+def stat_of(pid: str, place: int) -> str:
     """A number that the kernel keeps of a process, by its place behind the name."""
     with contextlib.suppress(OSError, IndexError), open(f"/proc/{pid}/stat", "rb") as file:
-        return file.read().rpartition(b")")[2].split()[at].decode()
+        return file.read().rpartition(b")")[2].split()[place].decode()
     return "?"
 
 
@@ -312,33 +338,6 @@ def link_of(path: str) -> str:
     with contextlib.suppress(OSError):
         return os.readlink(path)
     return ""
-
-
-def standstill(pid: str) -> str:
-    """How a process stands still: "traced" if a debugger has a thread, "stopped" if a signal has stopped one or will,
-    or nothing."""
-    found = ""
-    for path in glob.glob(f"/proc/{pid}/task/*/status"):
-        with contextlib.suppress(OSError), open(path, encoding="utf-8", errors="replace") as file:
-            rows = dict(line.rstrip("\n").split(":\t", 1) for line in file if ":\t" in line)
-            if rows["TracerPid"] != "0":
-                return "traced"
-            if rows["State"].startswith("T") or int(rows["SigPnd"], 16) & STOP:
-                found = "stopped"
-    return found
-
-
-def let_go(pids: Sequence[str]) -> None:
-    """Has processes go on whose debugger has been ended. It stops a process by SIGSTOP, and where it ends before it has
-    seen that done, the process stays stopped."""
-    last = time.monotonic() + REST
-    left = set(pids)
-    while left and time.monotonic() < last:
-        for pid in [it for it in left if standstill(it) == "stopped"]:
-            left.remove(pid)
-            with contextlib.suppress(OSError):
-                os.kill(int(pid), signal.SIGCONT)
-        time.sleep(0.02)
 
 
 class Running:

@@ -53,35 +53,35 @@ class Text:
         self.text = text
         self.start = self.skip(0)
 
-    def skip(self, at: int) -> int:
+    def skip(self, place: int) -> int:
         """Returns the first place from `at` on that is no white space."""
-        return SPACE.match(self.text, at).end()  # type: ignore[union-attr]
+        return SPACE.match(self.text, place).end()  # type: ignore[union-attr]
 
-    def parts(self, at: int) -> Iterator[Part]:
+    def parts(self, place: int) -> Iterator[Part]:
         """Yields what an object or an array has that begins at `at`."""
-        is_object, number = self.text[at] == "{", 0
-        at = self.skip(at + 1)
-        while self.text[at] not in "]}":
-            key, key_at = number, at
+        is_object, number = self.text[place] == "{", 0
+        place = self.skip(place + 1)
+        while self.text[place] not in "]}":
+            key, key_at = number, place
             if is_object:
-                key, at = DECODER.raw_decode(self.text, at)
-                at = self.skip(self.skip(at) + 1)
-            value, end = DECODER.raw_decode(self.text, at)
-            yield Part(key, key_at, value, at)
-            at, number = self.skip(end), number + 1
-            if self.text[at] == ",":
-                at = self.skip(at + 1)
+                key, place = DECODER.raw_decode(self.text, place)
+                place = self.skip(self.skip(place) + 1)
+            value, end = DECODER.raw_decode(self.text, place)
+            yield Part(key, key_at, value, place)
+            place, number = self.skip(end), number + 1
+            if self.text[place] == ",":
+                place = self.skip(place + 1)
 
-    def keys(self, at: int) -> Dict[str, Part]:
+    def keys(self, place: int) -> Dict[str, Part]:
         """Returns what an object has, by key. Of a repeated one the last counts."""
-        return {part.key: part for part in self.parts(at)}
+        return {part.key: part for part in self.parts(place)}
 
     def top(self, key: str) -> Part:
         return self.keys(self.start)[key]
 
-    def entry(self, at: int, number: int) -> Part:
+    def entry(self, place: int, number: int) -> Part:
         """Returns an entry of an array, counted from 0."""
-        return next(islice(self.parts(at), number, None))
+        return next(islice(self.parts(place), number, None))
 
     def row(self, number: int) -> Part:
         return self.entry(self.top("processes").at, number)
@@ -120,15 +120,15 @@ def name_fault(value: Any) -> str:
 # By kind of fault
 
 
-def bad_keys(text: Text, at: int, allowed: Tuple[str, ...], needed: Tuple[str, ...]) -> Iterator[Found]:
+def bad_keys(text: Text, place: int, allowed: Tuple[str, ...], needed: Tuple[str, ...]) -> Iterator[Found]:
     """Yields the keys of an object that aren't known, and those that it lacks."""
-    keys = text.keys(at)
+    keys = text.keys(place)
     for key, part in keys.items():
         if key not in allowed:
             yield Found(part.key_at, f"the key {quote(key)} isn't known{near_name(key, allowed)}")
     for key in needed:
         if key not in keys:
-            yield Found(at, f"the key '{key}' is missing")
+            yield Found(place, f"the key '{key}' is missing")
 
 
 def bad_top(text: Text) -> Iterator[Found]:
@@ -163,8 +163,8 @@ def bad_process(text: Text, number: int) -> Iterator[Found]:
         return
     keys = text.keys(row.at)
     needed = ROW if row.value.get("state") == "idle" else ROW[:3]
-    for found in (*bad_keys(text, row.at, ROW, needed), *bad_values(text, keys)):
-        yield found._replace(words=process_words(row.value) + found.words)
+    for fault in (*bad_keys(text, row.at, ROW, needed), *bad_values(text, keys)):
+        yield fault._replace(words=process_words(row.value) + fault.words)
 
 
 def bad_values(text: Text, keys: Dict[str, Part]) -> Iterator[Found]:
@@ -202,10 +202,10 @@ def missing_name(name: str, text: Text) -> str:
 
 def find_repeated(text: Text, parts: Iterator[Part], number: int, words: str) -> Iterator[Found]:
     """Yields the second of two parts that are the same."""
-    some = list(islice(parts, number + 1))
-    first = next(it for it in some if it.value == some[number].value)
+    those = list(islice(parts, number + 1))
+    first = next(part for part in those if part.value == those[number].value)
     line, column = position(text.text, first.at)
-    yield Found(some[number].at, f"{words}{quote(some[number].value)} stands in line {line}, column {column} too")
+    yield Found(those[number].at, f"{words}{quote(those[number].value)} stands in line {line}, column {column} too")
 
 
 def repeated_site(text: Text, number: int) -> Iterator[Found]:
@@ -291,17 +291,17 @@ def json_fault(data: bytes) -> Tuple[str, Found]:
 
 def syntax_error(text: str) -> Found:
     """Returns where Python finds that a text is no JSON, or its end."""
-    at, words = len(text), "it is no JSON"
+    place, words = len(text), "it is no JSON"
     try:
         json.loads(text)
     except json.JSONDecodeError as error:
         words = re.sub(" (starting )?at$", "", error.msg)
-        at, words = error.pos, words[:1].lower() + words[1:]
+        place, words = error.pos, words[:1].lower() + words[1:]
     except (RecursionError, ValueError):
         pass  # (nested too deep, or a number of very many digits: that is found in the other way)
     if not text.strip():
         return Found(0, "it is empty")
-    return Found(at, words if text[at:].strip() else "it ends too early")
+    return Found(place, words if text[place:].strip() else "it ends too early")
 
 
 def find_unreadable(text: str, end: int) -> Iterator[Found]:
@@ -329,9 +329,9 @@ def is_text(word: str) -> bool:
 # The whole
 
 
-def position(text: str, at: int) -> Tuple[int, int]:
+def position(text: str, place: int) -> Tuple[int, int]:
     """Returns the line and the column of a place, both from 1, as editors count them: a column is a character."""
-    return text.count("\n", 0, at) + 1, at - text.rfind("\n", 0, at)
+    return text.count("\n", 0, place) + 1, place - text.rfind("\n", 0, place)
 
 
 def find(fault: str, data: bytes) -> Tuple[str, Found]:
@@ -350,8 +350,8 @@ def describe_fault(path: str, fault: str, data: bytes) -> str:
     """Returns the line for people on a dump that the program refuses: FILE:LINE:COLUMN, its fault, and what is wrong
     there. A fault of a kind that isn't known here has no place."""
     try:
-        text, found = find(fault, data)
+        text, where = find(fault, data)
     except (LookupError, ValueError, TypeError, AttributeError, StopIteration, RecursionError):
         return f"{shown(path)}: {fault}"
-    line, column = position(text, found.at)
-    return f"{shown(path)}:{line}:{column}: {fault}: {found.words}"
+    line, column = position(text, where.at)
+    return f"{shown(path)}:{line}:{column}: {fault}: {where.words}"

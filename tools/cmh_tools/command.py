@@ -76,23 +76,25 @@ def sketch_of_dump(tree: Any, where: str, is_by_hand: bool) -> Sketch:
 
 def read_any(path: str, read: Read = read_text) -> Sketch:
     """Returns the sketch of a file that has a sketch, a dump's notes, or a dump: then of its notes, if it has some."""
-    tree = read_json(read(path), path)
+    text = read(path)
+    tree = read_json(text, path)
     if is_notes(tree):
         return sketch_of(tree["sketch"], path, OLDER)
     if not is_dump(tree):
         return sketch_of(tree, path)
     notes = notes_path(path)
-    return dump_of_notes(tree, path, notes)[0].sketch if os.path.exists(notes) else sketch_of_dump(tree, path, False)
+    return dump_of_notes(text, path, notes)[0].sketch if os.path.exists(notes) else sketch_of_dump(tree, path, False)
 
 
-def dump_of_notes(tree: Any, path: str, notes: str, read: Read = read_text) -> Tuple[Dump, Any]:
-    """Returns a dump, made anew from its notes, and these. Raises Refusal if it is another one."""
+def dump_of_notes(text: str, path: str, notes: str, read: Read = read_text) -> Tuple[Dump, Any]:
+    """Returns the dump of a text, made anew from its notes, and these. Raises Refusal if it is another one."""
     noted = read_json(read(notes), notes)
     if not is_notes(noted):
         raise Refusal(f"{shown(notes)}: it has no 'sketch', so these are no notes of cmh-dump")
     dump = Dump(sketch_of(noted["sketch"], notes, OLDER), known_doubts(noted, notes))
     shown_dump = dump.likely if noted.get("guesses") is True else dump  # (as version 1.1.0 wrote it where it guessed)
-    if tree != shown_dump.tree(shown_dump.low):
+    low = shown_dump.low
+    if text != shown_dump.text(low) and read_json(text, path) != shown_dump.tree(low):
         raise Refusal(f"{shown(path)}: it isn't the dump of {shown(notes)}: one of them was changed. Make both "
                       "again with cmh-dump, or move the notes away")
     return dump, noted
@@ -141,9 +143,9 @@ def place_in(path: str, message: str) -> str:
     """Returns the path of a file, with its first line that has what a message quotes, if one has."""
     quoted = re.search(r"'([^']+)'", message)
     with contextlib.suppress(OSError), open(path, encoding="utf-8", errors="replace") as file:
-        for at, line in enumerate(file if quoted else (), 1):
+        for number, line in enumerate(file if quoted else (), 1):
             if quoted and quoted[1] in line:
-                return f"{shown(path)} (see line {at})"
+                return f"{shown(path)} (see line {number})"
     return shown(path)
 
 

@@ -5,6 +5,7 @@ from __future__ import annotations
 import re
 from typing import Dict, Iterable, Iterator, List, NamedTuple, Tuple
 
+from .arrow_words import broken
 from .explain import number_of
 from .files import MOST_OF_LINE, shown
 from .folding import BEHIND, FREE, MORE, OPEN, OVER, ROOT, RUNNING, SHARED, UNDECIDED
@@ -83,7 +84,8 @@ def dot(picture: Picture, plan: Plan = Plan()) -> str:
              f'  edge [fontname="{FONT}", fontsize=11, color="#222222", arrowsize=0.8];', *legend(picture)]
     for name, boxes in from_below(picture):
         lines += frame(picture, name, boxes, plan)
-    between = (line for at, arrow in enumerate(picture.arrows) for line in arrow_lines(picture, at, arrow, plan))
+    between = (line for number, arrow in enumerate(picture.arrows)
+               for line in arrow_lines(picture, number, arrow, plan))
     return "\n".join([*lines, *between, "}"]) + "\n"
 
 
@@ -104,10 +106,10 @@ def from_below(picture: Picture) -> List[Tuple[str, List[Box]]]:
 
 def frames_of(boxes: Iterable[Box]) -> Frames:
     """Returns the boxes of each frame: a root, those behind roots, which have none, and the others."""
-    found: Frames = {}
+    frames: Frames = {}
     for box in boxes:
-        found.setdefault(f"root_{box.part.root}" if box.part.sort == ROOT else FRAME_OF[box.part.sort], []).append(box)
-    return found
+        frames.setdefault(f"root_{box.part.root}" if box.part.sort == ROOT else FRAME_OF[box.part.sort], []).append(box)
+    return frames
 
 
 def is_root(name: str) -> bool:
@@ -119,7 +121,7 @@ def frame(picture: Picture, name: str, boxes: List[Box], plan: Plan) -> List[str
     is_ring = any(box.number in picture.ring for box in boxes)
     lines = list(site_frames(name, boxes, plan._replace(has_site_frames=plan.has_site_frames and not is_ring)))
     inside = {box.number for box in boxes}
-    lines += [words_line(at, arrow, plan) for at, arrow in enumerate(picture.arrows)
+    lines += [words_line(number, arrow, plan) for number, arrow in enumerate(picture.arrows)
               if arrow.words and inside.issuperset((arrow.start, arrow.end))]
     if is_root(name):
         words = label(picture.root_lines(boxes[0].part.root or 0), HEAD * plan.width // WIDTH, LEFT)
@@ -142,9 +144,9 @@ def site_frames(name: str, boxes: List[Box], plan: Plan) -> Iterator[str]:
         is_said = len(sites) == 1 and is_root(name)
         yield from (box_line(box, not is_said, plan.width) for box in boxes)
         return
-    for number, (site, some) in enumerate(sites.items()):
-        is_framed = site != "" and some[0].is_at_one_site and (len(some) > 1 or is_root(name)) and plan.has_site_frames
-        lines = [box_line(box, not is_framed, plan.width) for box in some]
+    for number, (site, own) in enumerate(sites.items()):
+        is_framed = site != "" and own[0].is_at_one_site and (len(own) > 1 or is_root(name)) and plan.has_site_frames
+        lines = [box_line(box, not is_framed, plan.width) for box in own]
         head = f'graph [label={label(["on " + site], plan.width)}, style=dashed, color="#777777", class=site, ' \
             "fontsize=11];"
         yield from [f"  subgraph cluster_{name}_{number} {{ {head}", *lines, "  }"] if is_framed else lines
@@ -154,8 +156,7 @@ def site_frames(name: str, boxes: List[Box], plan: Plan) -> Iterator[str]:
 
 
 def box_line(box: Box, has_site: bool, width: int) -> str:
-    lines = [box.lines[0], *([f"on {box.site}"] if has_site and box.site else []), *box.lines[1:]]
-    return f"  p{box.number} [label={label(lines, width)}, {look_words(box.part.sort)}];"
+    return f"  p{box.number} [label={label(box.text(has_site), width)}, {look_words(box.part.sort)}];"
 
 
 def look_words(sort: str) -> str:
@@ -163,16 +164,15 @@ def look_words(sort: str) -> str:
     return f'style="{look.style}", fillcolor="{look.fill}", penwidth={look.width}, class={sort}'
 
 
-def words_line(at: int, arrow: Arrow, plan: Plan) -> str:
+def words_line(number: int, arrow: Arrow, plan: Plan) -> str:
     """Returns the line of the words on an arrow, which are broken where boxes are narrow. They are a node of their own,
     for Graphviz drops the label of an arrow when it packs frames."""
-    broken = arrow.words.replace(" → ", " →\\n").replace(" of these", "\\nof these")
-    words = arrow.words if plan.width == WIDTH else broken
+    words = arrow.words if plan.width == WIDTH else "\\n".join(broken(arrow.words))
     look = 'shape=plaintext, height=0.2, margin="0.04,0.01", fontsize=11'
-    return f'  w{at} [label="{words}", {look}, class=a{at}];'
+    return f'  w{number} [label="{words}", {look}, class=a{number}];'
 
 
-def arrow_lines(picture: Picture, at: int, arrow: Arrow, plan: Plan) -> Iterator[str]:
+def arrow_lines(picture: Picture, number: int, arrow: Arrow, plan: Plan) -> Iterator[str]:
     """Yields the lines of an arrow. Graphviz draws from the right to the left. Within a root those who wait stand at
     the left of whom they wait for, as one reads, and all others at the right of the whole root."""
     start, end = picture.boxes[arrow.start].part, picture.boxes[arrow.end].part
@@ -181,15 +181,15 @@ def arrow_lines(picture: Picture, at: int, arrow: Arrow, plan: Plan) -> Iterator
     looks = [ARROWS[arrow.style].look] if ARROWS[arrow.style].look else []
     looks += ["constraint=false"] if arrow.style == MESSAGE or is_within and not turn else []
     is_within = is_within and turn >= 0
-    looks.append(f'class="message a{at}"' if arrow.style == MESSAGE else f"class=a{at}")
+    looks.append(f'class="message a{number}"' if arrow.style == MESSAGE else f"class=a{number}")
     head = ["dir=back"] if is_within else [f"lhead=cluster_root_{end.root}"] if arrow.to_root else []
     if end.sort == ROOT != start.sort:
         length = min(sum(box.part == end for box in picture.boxes), LONG) if plan.width == WIDTH else 1
         head.append(f"minlen={length}")
     if arrow.words:
-        yield words_line(at, arrow, plan)
-        yield line_between(f"p{arrow.start}", f"w{at}", is_within, [*looks, "dir=none"])
-    yield line_between(f"w{at}" if arrow.words else f"p{arrow.start}", f"p{arrow.end}", is_within, [*looks, *head])
+        yield words_line(number, arrow, plan)
+        yield line_between(f"p{arrow.start}", f"w{number}", is_within, [*looks, "dir=none"])
+    yield line_between(f"w{number}" if arrow.words else f"p{arrow.start}", f"p{arrow.end}", is_within, [*looks, *head])
 
 
 def line_between(start: str, end: str, is_turned: bool, looks: List[str]) -> str:
@@ -201,13 +201,13 @@ def legend(picture: Picture) -> List[str]:
     """Returns the lines of a legend of what the picture has: a frame of arrows, and one of boxes."""
     styles = [ARROWS[style] for style in ARROWS if any(arrow.style == style for arrow in picture.arrows)]
     sorts = list({LOOKS[box.part.sort]: box.part.sort for box in picture.boxes}.values())
-    arrows = [f'    a{at} [label="{line.start}", height=0.2]; '
-              f'b{at} [label="{line.end}", shape=plaintext, height=0.2]; '
-              f"a{at} -> b{at} [{line.look}];" for at, line in enumerate(styles)]
+    arrows = [f'    a{number} [label="{line.start}", height=0.2]; '
+              f'b{number} [label="{line.end}", shape=plaintext, height=0.2]; '
+              f"a{number} -> b{number} [{line.look}];" for number, line in enumerate(styles)]
     notes = notes_of(picture)
     arrows += [f"    notes [label={label(notes, HEAD, LEFT)}, shape=plaintext];"] if notes else []
-    boxes = [f'    k{at} [label="{LOOKS[sort].text}", {look_words(sort)}];' for at, sort in enumerate(sorts)]
-    boxes += [f"    k{at + 1} -> k{at} [style=invis];" for at in range(len(sorts) - 1)]
+    boxes = [f'    k{number} [label="{LOOKS[sort].text}", {look_words(sort)}];' for number, sort in enumerate(sorts)]
+    boxes += [f"    k{number + 1} -> k{number} [style=invis];" for number in range(len(sorts) - 1)]
     head = 'style=dotted, color="#777777", fontsize=11, labeljust=r, class=legend'
     frames = ("arrows", "What an arrow is", arrows), ("boxes", "What a box is", boxes)
     return [line for name, words, lines in frames if lines for line in
@@ -216,10 +216,11 @@ def legend(picture: Picture) -> List[str]:
 
 def notes_of(picture: Picture) -> List[str]:
     """Returns what has to be said of arrows, and of what isn't drawn."""
-    notes = ["An arrow to the frame of a root leads to several in it"] * any(it.to_root for it in picture.arrows)
-    notes += [MANY] * any(it.words and not it.is_far for it in picture.arrows)
-    notes += [FAR] * any(it.is_far for it in picture.arrows)
-    notes += [WITHIN] * any(it.words and not it.is_far and it.start in picture.within for it in picture.arrows)
+    notes = ["An arrow to the frame of a root leads to several in it"] * any(arrow.to_root for arrow in picture.arrows)
+    counted = [arrow for arrow in picture.arrows if arrow.words and not arrow.is_far]
+    notes += [MANY] * bool(counted)
+    notes += [FAR] * any(arrow.is_far for arrow in picture.arrows)
+    notes += [WITHIN] * any(arrow.start in picture.within for arrow in counted)
     stand_ins = "1 who only stands for others isn't drawn" if picture.stand_ins == 1 else \
         f"{picture.stand_ins:,} who only stand for others aren't drawn"
     notes += [stand_ins] if picture.stand_ins else []

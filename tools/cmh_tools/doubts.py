@@ -18,20 +18,28 @@ from .stuck import Waits
 # In which order doubts are told: those first that most often hold.
 ORDER = (Sign.POLLS, Sign.TICKS, Sign.SLEEPS, Sign.GOES_ON, Sign.RESTS, Sign.UNKNOWN, None, Sign.BLOCKED)
 UNSEEN = {
-    "unread": "somebody who can't be read",
-    "unshown": "somebody whom the state doesn't show",
-    "left-out": "somebody whom the state leaves out",
+    "unread": "somebody who couldn't be looked at",
+    "unshown": "somebody who can't be seen from here",
+    "left-out": "somebody who wasn't looked at",
     "by-name": "somebody who opens it by its name",
-    "outside": "somebody outside of what was read",
-    "to-come": "somebody who is still to come",
+    "outside": "somebody outside of what was looked at",
+    "to-come": "somebody who comes later",
+}
+STAND_INS = {  # names of those who stand for others, with what these are
+    "other-publishers": "one who publishes to its queue for the first time",
+    "unseen-work": "one that does something by itself",
+    "consumer-timeout": "the broker's limit for a message that isn't acknowledged",
+    "message-limits": "a limit of a message in a queue that nobody reads",
+    "session-limits": "a limit that a session has set for itself, which no view shows",
 }
 UNCOUNTED = "{} went on between the looks, and waits anew, which nothing counts"
 ANEW = "somebody between the looks: nothing counts how often it waits"
-MORE = re.compile(", (?:and|or whom) ")  # before what a clause says besides
+EXPIRES, HANDLES, SIGNAL = "expires", "handles", "signal of "  # hows, and how those are called that stand for signals
+MORE = re.compile(", (?:and|or one) ")  # before what a clause says besides
 SIGNS = {
-    Sign.TICKS: "came back to its loop and freed nobody",
+    Sign.TICKS: "ran its loop between the looks and woke nobody",
     Sign.SLEEPS: "sleeps",
-    Sign.POLLS: "came back to {} and freed nobody",
+    Sign.POLLS: "ran {} again between the looks and woke nobody",
     Sign.GOES_ON: "goes on",
     Sign.UNKNOWN: "isn't understood",
     Sign.BLOCKED: "waits itself",
@@ -64,6 +72,7 @@ class Likely:
     def __init__(self, waits: Waits, known: Sequence[str] = ()) -> None:
         self.waits, self.decision, self.keys = waits, waits.decision, list(known)
         self.processes = {process.name: process for process in waits.processes}
+        self.left: Dict[Tuple[int, int], List[Part]] = {}  # of waits, by the ids of their parts and of those that hold
         self.numbers = {waits.processes[at].name: at for at in sorted(self.decision.likely - self.decision.certain)}
 
     # The sketch without doubts
@@ -75,20 +84,27 @@ class Likely:
 
     def without_doubts(self, process: Process) -> Process:
         """Returns one that is likely to be stuck without the wakers that were set aside."""
-        made = process.copy()
-        holding = set(map(id, self.decision.holding_parts(self.numbers[process.name])))
-        made.parts = [part_left(part, self.decision) if id(part) in holding else part for part in process.parts]
+        made, holding = process.copy(), self.decision.holding_parts(self.numbers[process.name])
+        key = id(process.parts), id(holding)
+        if key not in self.left:
+            parts = set(map(id, holding))
+            self.left[key] = [part_left(part, self.decision) if id(part) in parts else part for part in process.parts]
+        made.parts = self.left[key]
         return made
 
     # The doubts
 
     def doubts(self, members: AbstractSet[str]) -> List[Doubt]:
         """Returns the doubts: those on members of roots first, and of these those that most often hold."""
+        families: Dict[str, List[rule.Doubt]] = {}
         groups: Dict[str, List[rule.Doubt]] = {}
         for aside in self.decision.doubts_of_likely:
-            groups.setdefault(self.key_of(aside), []).append(aside)
-        on_roots = {key for key, asides in groups.items()
-                    if any(not members.isdisjoint(aside.waits) for aside in asides)}
+            families.setdefault(self.key_of(aside), []).append(aside)
+        for key, asides in families.items():
+            groups.setdefault(self.kind_of(key, asides), []).extend(asides)
+        lists = {id(aside.waits): aside.waits for aside in self.decision.doubts_of_likely}
+        of_members = {key for key, waits in lists.items() if not members.isdisjoint(waits)}
+        on_roots = {key for key, asides in groups.items() if any(id(aside.waits) in of_members for aside in asides)}
         order = sorted(groups, key=lambda key: (key not in on_roots, *self.place(groups[key][0])))
         known = set(self.keys)
         self.keys += [key for key in order if key not in known]
@@ -102,9 +118,10 @@ class Likely:
         seen: Set[int] = set()
         while todo:
             parts = self.decision.holding_parts(self.numbers[todo.pop()])
-            lists = {id(wakers.who): wakers.names() for part in parts for wakers in part if id(wakers.who) not in seen}
-            seen.update(lists)
-            new = {name for some in lists.values() for name in some if name in self.numbers} - hinges
+            lists = {id(wakers.who): wakers.names() for part in parts for wakers in part
+                     if id(wakers.who) not in seen} if id(parts) not in seen else {}
+            seen.update((id(parts), *lists))
+            new = {name for row in lists.values() for name in row if name in self.numbers} - hinges
             hinges |= new
             todo += new
         return hinges
@@ -118,6 +135,17 @@ class Likely:
         wait that isn't seen."""
         sign, family = self.sign_of(aside), NUMBER.sub("*", aside.who or "")
         return f"{aside.how} {family}".strip() if sign is None else f"{family} {sign.value}"
+
+    def kind_of(self, key: str, asides: List[rule.Doubt]) -> str:
+        """Returns what families share of whom one sentence is said: of those who go on, sleep or aren't understood each
+        has its own."""
+        sign, how = self.sign_of(asides[0]), asides[0].how
+        if sign is not None and HOWS[how][0] is Strength.AGAINST:
+            return how
+        if sign not in (Sign.RESTS, Sign.TICKS):
+            return key
+        reasons = {told_reason(self.processes[aside.who or ""].reason) for aside in asides if sign is Sign.RESTS}
+        return " ".join([*sorted(reasons), sign.value])
 
     def place(self, aside: rule.Doubt) -> Tuple[bool, int]:
         return aside.strength is Strength.UNSEEN, ORDER.index(self.sign_of(aside))
@@ -173,20 +201,31 @@ def sentence(one: Doubt, who: str, whom: str, reason: str = "") -> str:
     and `reason` why one rests."""
     if one.how == "uncounted":
         return UNCOUNTED.format(whom)
-    comma = "" if one.sign is None else ","
-    return f"{subject(one, who, reason)}{comma} frees {whom}"
+    words = subject(one, who, reason)
+    return f"{words}{',' if ', which ' in words else ''} frees {whom}"
 
 
 def subject(one: Doubt, who: str, reason: str = "") -> str:
     """Returns of whom a doubt says that it frees somebody: 'beat, which sleeps'."""
+    if who in STAND_INS:
+        return STAND_INS[who]
     if one.sign is None:
         is_told = who and one.how != "left-out"  # (the name of those who are left out tells nobody anything)
         return who if is_told else UNSEEN.get(one.how, UNSEEN["unshown"])
+    if one.how == HANDLES and who.startswith(SIGNAL):
+        return f"a signal, which {who.replace(SIGNAL, '')} handles"
+    if one.how == EXPIRES:
+        return f"a limit of the server ({who})"
     if HOWS[one.how][0] is Strength.AGAINST:
         return f"{who}, which {HOWS[one.how][1]}"
     if one.sign in SIGNS:
         return f"{who}, which {SIGNS[one.sign].format(reason or 'its call')}"
-    return f"{who}, which {'has nothing to do' if not reason or ': ' in reason else reason}"
+    return f"{who}, which {told_reason(reason)}"
+
+
+def told_reason(reason: str) -> str:
+    """Returns why one rests, if that tells a reader something."""
+    return "has nothing to do" if not reason or ": " in reason else reason.partition(";")[0]
 
 
 def short_subject(one: Doubt, who: str, reason: str = "") -> str:

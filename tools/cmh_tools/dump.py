@@ -7,7 +7,7 @@ from __future__ import annotations
 
 import json
 import re
-from typing import Any, Dict, List, NamedTuple, Optional, Sequence, Set
+from typing import Any, Dict, List, NamedTuple, Optional, Sequence, Set, Tuple
 
 from .doubts import Doubt, Likely
 from .reduction import Reduction
@@ -24,11 +24,11 @@ HUB, STUCK, RUNNING = "list", "stuck-elsewhere", "runs-elsewhere"
 
 def program_names(names: List[str]) -> Dict[str, str]:
     """Returns for each name, which stands once, a name that the program accepts: itself if it can be."""
-    found = {name: name for name in names if NAME.fullmatch(name)}
-    taken = set(found)
+    named = {name: name for name in names if NAME.fullmatch(name)}
+    taken = set(named)
     numbers: Dict[str, int] = {}
     for name in names:
-        if name in found:
+        if name in named:
             continue
         stem = re.sub(r"[^A-Za-z0-9_.:/-]+", "-", name).strip("-")
         stem = re.sub(r"^[^A-Za-z0-9]+", "", stem)[:LONGEST - 8] or "unnamed"
@@ -36,9 +36,9 @@ def program_names(names: List[str]) -> Dict[str, str]:
         while new in taken:
             numbers[stem] = numbers.get(stem, 1) + 1
             new = f"{stem}.{numbers[stem]}"
-        found[name] = new
+        named[name] = new
         taken.add(new)
-    return found
+    return named
 
 
 class LikelyAnswer(NamedTuple):
@@ -55,13 +55,16 @@ class Dump:
     `left_out` and `folded` say what became of others: a list, and who stands for each. `named` has the names in the
     dump, also of hubs, and `known` the keys of doubts in the order of their numbers."""
 
-    def __init__(self, sketch: Sketch, known: Sequence[str] = (), waits: Optional[Waits] = None) -> None:
+    def __init__(self, sketch: Sketch, known: Sequence[str] = (), certain: Optional[Dump] = None,
+                 waits: Optional[Waits] = None) -> None:
         self.sketch, self.known = sketch, known
         self.waits = waits or Waits(sketch)
         self.kept_likely: Optional[LikelyAnswer] = None
-        self.names = program_names([process.name for process in sketch.processes])
+        self.texts: Dict[Tuple[bool, int], str] = {}  # by whether they are of the high answer, and the number of a part
         sites = dict.fromkeys(process.site for process in sketch.processes if process.site is not None)
-        self.sites = program_names(list(sites))
+        self.names: Dict[str, str] = certain.names if certain else program_names(
+            [process.name for process in sketch.processes])
+        self.sites: Dict[str, str] = certain.sites if certain else program_names(list(sites))
         self.no_site = NO_SITE
         while self.no_site in self.sites.values():
             self.no_site += "-"
@@ -69,10 +72,11 @@ class Dump:
         hubs = len(self.waits.left) - self.waits.number
         self.named = [*(self.names[process.name] for process in sketch.processes),
                       *(self.added(f"{HUB}-{number}") for number in range(1, hubs + 1))]
-        self.low, self.high = self.waits.low(), self.waits.high()
+        self.low = self.waits.low()
+        self.high = self.waits.high(self.low)
         self.cut = Reduction(self.waits)
         self.kept, self.left_out = self.cut.kept, self.cut.left_out
-        self.folded = {at: self.cut.stands_for(at) for at in self.cut.over if at < self.waits.number}
+        self.folded = {index: self.cut.stands_for(index) for index in self.cut.over if index < self.waits.number}
         self.parts = self.cut.parts([self.low, self.high])
 
     # The likely answer
@@ -84,9 +88,9 @@ class Dump:
             self.kept_likely = LikelyAnswer(self, [], likely)
             if likely.numbers:
                 sketch = likely.sketch(self.sketch)
-                dump = Dump(sketch, (), self.waits.without_doubts(sketch, likely.numbers.values()))
+                dump = Dump(sketch, (), self, self.waits.without_doubts(sketch, likely.numbers.values()))
                 members = Roots(dump.waits, dump.low.members()).root_of
-                doubts = likely.doubts({self.waits.processes[at].name for at in members})
+                doubts = likely.doubts({self.waits.processes[index].name for index in members})
                 self.kept_likely = LikelyAnswer(dump, doubts, likely)
         return self.kept_likely
 
@@ -106,9 +110,9 @@ class Dump:
             name += "-"
         return name
 
-    def site(self, at: int) -> str:
+    def site(self, index: int) -> str:
         """Returns the site of one in the dump. That of a hub is the site of one that waits for it."""
-        site = self.waits.processes[at if at < self.waits.number else self.waits.waiters[at][0]].site
+        site = self.waits.processes[index if index < self.waits.number else self.waits.waiters[index][0]].site
         return self.no_site if site is None else self.sites[site]
 
     def tree(self, answer: Answer, part: int = 0) -> Dict[str, Any]:
@@ -118,58 +122,62 @@ class Dump:
                 **({"in_transit": pairs} if pairs else {})}
 
     def text(self, answer: Answer, part: int = 0) -> str:
-        """Returns the text of this tree, with a line for each process."""
-        tree = self.tree(answer, part)
-        lines = text_of_rows(tree["processes"])
-        more = f',\n"in_transit":{json.dumps(tree["in_transit"])}' if "in_transit" in tree else ""
-        return f'{{"version":{tree["version"]},"sites":{json.dumps(tree["sites"])},"processes":[\n  {lines}]{more}}}\n'
+        """Returns the text of this tree, with a line for each process, made once."""
+        key = answer is self.high, part
+        if key not in self.texts:
+            tree = self.tree(answer, part)
+            lines, sites = text_of_rows(tree["processes"]), json.dumps(tree["sites"])
+            more = f',\n"in_transit":{json.dumps(tree["in_transit"])}' if "in_transit" in tree else ""
+            self.texts[key] = \
+                f'{{"version":{tree["version"]},"sites":{sites},"processes":[\n  {lines}]{more}}}\n'
+        return self.texts[key]
 
     def rows(self, answer: Answer, part: int) -> List[Dict[str, Any]]:
         """Returns the rows of a part, with those that stand for other parts at the end."""
         kept = self.parts[part]
         there = set(kept)
-        rows = [self.row(at, answer, there) for at in kept]
+        rows = [self.row(index, answer, there) for index in kept]
         known = {name for row in rows for name in row.get("dependents", ())}
         added = {"site": self.site(kept[0])} if kept else {}
         stuck, running = self.added(STUCK), self.added(RUNNING)
         rows += [{"name": stuck, **added, "state": "idle", "dependents": []}] if stuck in known else []
         return rows + ([{"name": running, **added, "state": "active"}] if running in known else [])
 
-    def row(self, at: int, answer: Answer, there: Set[int]) -> Dict[str, Any]:
+    def row(self, index: int, answer: Answer, there: Set[int]) -> Dict[str, Any]:
         """Returns the row of a process. One row stands for those of its list that are in other parts."""
-        row: Dict[str, Any] = {"name": self.named[at], "site": self.site(at)}
-        others = self.cut.dependents(at, answer)
+        row: Dict[str, Any] = {"name": self.named[index], "site": self.site(index)}
+        others = self.cut.dependents(index, answer)
         if others is None:
             return {**row, "state": "active"}
         names = [self.named[other] for other in others if other in there]
-        elsewhere = [other for other in others if other not in there]
+        elsewhere = [other for other in others if other not in there] if len(names) < len(others) else []
         if elsewhere:
-            runs = not all(answer.inside[it] for it in elsewhere) or not there.issuperset(self.senders(at))
+            runs = not all(answer.inside[other] for other in elsewhere) or not there.issuperset(self.senders(index))
             names.append(self.added(RUNNING if runs else STUCK))
         return {**row, "state": "idle", "dependents": names}
 
-    def senders(self, at: int) -> Set[int]:
+    def senders(self, index: int) -> Set[int]:
         """Returns who stands for those whose message unblocks one."""
-        return {self.cut.stands_for(it) for it in self.waits.senders[at]}
+        return {self.cut.stands_for(sender) for sender in self.waits.senders[index]}
 
     def pairs(self, answer: Answer, part: int) -> List[List[str]]:
         """Returns the messages that unblock their receiver: all, or if that is too many one for each receiver."""
-        found, there = [], set(self.parts[part])
-        for at in filter(self.waits.senders.__getitem__, self.parts[part]):
-            senders = self.senders(at) & there & set(self.cut.dependents(at, answer) or ())
-            found.append([[self.named[sender], self.named[at]] for sender in sorted(senders)])
-        pairs = [pair for some in found for pair in some]
-        return pairs if len(pairs) <= MESSAGES else [some[0] for some in found if some]
+        rows, there = [], set(self.parts[part])
+        for index in filter(self.waits.senders.__getitem__, self.parts[part]):
+            senders = self.senders(index) & there & set(self.cut.dependents(index, answer) or ())
+            rows.append([[self.named[sender], self.named[index]] for sender in sorted(senders)])
+        pairs = [pair for row in rows for pair in row]
+        return pairs if len(pairs) <= MESSAGES else [row[0] for row in rows if row]
 
     def stuck_names(self, answer: Answer, part: int) -> Set[str]:
         """Returns whom the program has to call deadlocked in the dump of a part."""
-        names = {self.named[at] for at in self.parts[part] if answer.is_stuck(at)}
+        names = {self.named[index] for index in self.parts[part] if answer.is_stuck(index)}
         is_cut = len(self.parts) > 1
         return names | ({self.added(STUCK)} & {row["name"] for row in self.rows(answer, part)} if is_cut else set())
 
     def cut_lines(self) -> List[str]:
         """Returns in words what became of those that the dump hasn't as they are."""
-        alike, hubs = len(self.folded) - self.cut.twins, sum(at >= self.waits.number for at in self.kept)
+        alike, hubs = len(self.folded) - self.cut.twins, sum(index >= self.waits.number for index in self.kept)
         rows = [(len(self.left_out), "process", "processes", "that nobody waits for {} not in it"),
                 (self.cut.twins, "process", "processes", "{} folded into a twin"),
                 (alike, "process", "processes", "{} folded into one that is stuck just if it is"),
@@ -185,8 +193,8 @@ class Dump:
         more: Dict[str, object] = {
             "names": {name: new for name, new in self.names.items() if name != new},
             "sites": {site: new for site, new in self.sites.items() if site != new},
-            "left_out": [named[at] for at in self.left_out],
-            "folded": {named[at]: named[one] for at, one in self.folded.items()},
+            "left_out": [named[index] for index in self.left_out],
+            "folded": {named[index]: named[one] for index, one in self.folded.items()},
             **({"doubts": keys} if keys else {}),
             **about,
         }

@@ -1,7 +1,6 @@
 """The command `cmh-dump`: from the raw state of a system, or from a sketch, to a dump that `cmh` accepts."""
 from __future__ import annotations
 
-import importlib
 from argparse import SUPPRESS
 from collections import Counter
 from typing import Any, Dict, Iterator, List, Sequence, Tuple
@@ -35,7 +34,7 @@ STALLS.md, in the documents of cmh, leads to the commands that print the state o
 status: 0 the dump is written or accepted, 1 the input is refused, 2 the command line is, 4 out of memory or an I/O
 error"""
 SKETCH = "a sketch, written by hand as JSON"
-LIVE = {"linux": "cmh_linux"}  # systems whose processes may be read at once, and what reads them
+LIVE = "linux"  # the system whose processes may be read at once
 BOTH = "two sketches, notes or dumps, one after the other: what has moved runs"
 JOIN = "notes of several systems of one machine, read at one time: what one knows counts where another doesn't"
 CHECK = "a dump: whether cmh accepts it, or where its fault is"
@@ -43,39 +42,36 @@ CHECK = "a dump: whether cmh accepts it, or where its fault is"
 
 def parser(words: Sequence[str]) -> Parser:
     """Returns the parser of a command line. What reads a live system is loaded only if its name stands there."""
-    it = Parser("cmh-dump", usage=USAGE, description=ABOUT, epilog=MORE)
-    it.add_version()
-    systems = it.add_subparsers(title="SYSTEM is one of", metavar="SYSTEM", dest="system", required=True, prog=it.prog)
+    made = Parser("cmh-dump", usage=USAGE, description=ABOUT, epilog=MORE)
+    made.add_version()
+    systems = made.add_subparsers(title="SYSTEM is one of", metavar="SYSTEM", dest="system", required=True,
+                                  prog=made.prog)
     states = {"metavar": "STATE", "nargs": "+", "help": "a file with the state; - is standard input"}
-    for system, (_, _, printed) in MODULES.items():
-        is_live = system in LIVE and system in words
+    for system, printed in MODULES.items():
+        is_live = system == LIVE and LIVE in words
         more = add_system(systems, system, printed, {**states, "nargs": "*"} if is_live else states)
         if is_live:
             more.add_argument("--save", metavar="FILE", help="keep the state that is read, to be given as STATE")
-            collector(system).add_options(more, False)
+            from cmh_linux import add_options
+            add_options(more, False)
     add_system(systems, "sketch", SKETCH, {"metavar": "FILE", "nargs": 1, "help": "the sketch"})
     add_system(systems, "both", BOTH, {"metavar": "FILE", "nargs": 2, "help": "the two, the earlier one first"})
     add_system(systems, "join", JOIN, {"metavar": "NOTES", "nargs": "+", "help": "the notes of each, or its dump"})
     checked = systems.add_parser("check", help=CHECK, description=f"Reads {CHECK}.")
     checked.add_argument("dump", metavar="FILE", help="the dump; - is standard input")
-    return it
-
-
-def collector(system: str) -> Any:
-    """Returns the module that reads the processes of a system, a file of its own that also serves without the tools."""
-    return importlib.import_module(LIVE[system])
+    return made
 
 
 def add_system(systems: Any, name: str, summary: str, states: Dict[str, Any]) -> Any:
-    it = systems.add_parser(name, help=summary, description=f"Makes a dump of {summary}.")
-    it.add_argument("states", **states)
+    made = systems.add_parser(name, help=summary, description=f"Makes a dump of {summary}.")
+    made.add_argument("states", **states)
     if name == "join":  # (facts are about the state of one system)
-        it.set_defaults(facts=None, guesses=False)
+        made.set_defaults(facts=None, guesses=False)
     else:
-        it.add_argument("--facts", metavar="FILE", help=FACTS)
-        it.add_argument("--guesses", action="store_true", help=SUPPRESS)
-    it.add_argument("-o", "--output", metavar="DUMP", required=True, help=OUTPUT)
-    return it
+        made.add_argument("--facts", metavar="FILE", help=FACTS)
+        made.add_argument("--guesses", action="store_true", help=SUPPRESS)
+    made.add_argument("-o", "--output", metavar="DUMP", required=True, help=OUTPUT)
+    return made
 
 
 def summary(dump: Dump, path: str, asked: List[Proposal]) -> Iterator[str]:
@@ -94,18 +90,13 @@ def summary(dump: Dump, path: str, asked: List[Proposal]) -> Iterator[str]:
         yield f"unknown: {short_name(process.name)}: {shown(process.why_unknown())}"
     if unknown[SHOWN:]:
         yield f"unknown: {len(unknown) - SHOWN:,} more"
-    yield from fact_lines(dump.sketch)
+    yield from map(fact_line, dump.sketch.facts, number_decided(dump.sketch))
     if asked:
         yield "Facts that would decide them, for you to complete:"
-        yield from (f"  {shown(it.text(), MOST_OF_LINE)}" for it in asked[:SHOWN])
+        yield from (f"  {shown(fact.text(), MOST_OF_LINE)}" for fact in asked[:SHOWN])
     if asked[SHOWN:]:
         yield f"  # and {len(asked) - SHOWN:,} lines more, in {shown(notes_path(path))}"
     yield from (f"  {shown(line, MOST_OF_LINE)}" for line in legend(asked, dump.waits.processes))
-
-
-def fact_lines(sketch: Sketch) -> Iterator[str]:
-    """Returns a line for each fact."""
-    yield from (fact_line(*row) for row in zip(sketch.facts, number_decided(sketch)))
 
 
 def number_decided(sketch: Sketch) -> List[int]:
@@ -117,8 +108,8 @@ def number_decided(sketch: Sketch) -> List[int]:
 def fact_line(row: FactRow, number: int) -> str:
     """Returns the line on what a fact did: how many it decided, and the names that each of its patterns took."""
     did = next((words for mark, words in DID.items() if mark in row["text"]), "took")
-    some = [f"; {short_name(word)} {did} {some_names(names)}" for word, names in row["took"].items() if names != [word]]
-    return f"{shown(row['at'])}: {shown(row['text'], MOST_OF_LINE)}: decided {number:,}{''.join(some)}"
+    took = [f"; {short_name(word)} {did} {some_names(names)}" for word, names in row["took"].items() if names != [word]]
+    return f"{shown(row['at'])}: {shown(row['text'], MOST_OF_LINE)}: decided {number:,}{''.join(took)}"
 
 
 def some_names(names: List[str]) -> str:
@@ -126,7 +117,7 @@ def some_names(names: List[str]) -> str:
     return (", ".join(map(short_name, names[:NAMES])) or "nobody") + more
 
 
-def check_outputs(it: Parser, asked: Any) -> None:
+def check_outputs(parser: Parser, asked: Any) -> None:
     """Ends the command where it would write to what is no file for that."""
     taken = [*asked.states, *([asked.facts] if asked.facts else [])]
     taken += map(notes_path, asked.states if asked.system in ("both", "join") else [])
@@ -135,8 +126,8 @@ def check_outputs(it: Parser, asked: Any) -> None:
         why = "the notes are put beside it" if path == "-" else hindrance(path, taken)
         if why:
             what = "the state" if path in kept else "the dump"
-            it.error(f"{what} goes to a file of its own, and the notes of the dump and the likely answer beside it; "
-                     f"{path}: {why}")
+            parser.error(f"{what} goes to a file of its own, and the notes of the dump and the likely answer beside "
+                         f"it; {path}: {why}")
         taken.append(path)
 
 
@@ -150,27 +141,27 @@ def program_notes() -> Dict[str, Any]:
 
 def collected(asked: Any) -> str:
     """Returns the state of live processes. Raises Refusal if one isn't there."""
+    from cmh_linux import collect
     try:
-        text: str = collector(asked.system).collect(asked.pid, asked.seconds, asked.stacks)
+        return collect(asked.pid, asked.seconds, asked.stacks)
     except LookupError as error:
         raise Refusal(str(error.args[0])) from None
     except OSError as error:
         raise Failure(f"the processes can't be read: {error}") from error
-    return text
 
 
-def check_live(it: Parser, asked: Any) -> None:
+def check_live(parser: Parser, asked: Any) -> None:
     """Ends the command where a state and processes are both named, or neither."""
     is_live = bool(getattr(asked, "pid", None))
     if is_live == bool(asked.states):
-        it.error("either STATE or --pid PID is needed")
-    if asked.system in LIVE and asked.save and not is_live:
-        it.error(f"--save keeps what --pid reads; {asked.save}: nothing is read")
+        parser.error("either STATE or --pid PID is needed")
+    if asked.system == LIVE and asked.save and not is_live:
+        parser.error(f"--save keeps what --pid reads; {asked.save}: nothing is read")
 
 
 def texts_of(dump: Dump, path: str, asked: List[Proposal]) -> List[Tuple[str, str]]:
     """Returns the texts of a dump and its notes, each behind its path. `asked` has the facts that are asked for."""
-    notes = dump.notes(**({"proposals": [it.text() for it in asked]} if asked else {}), **program_notes())
+    notes = dump.notes(**({"proposals": [fact.text() for fact in asked]} if asked else {}), **program_notes())
     text, likely = dump.text(dump.low), dump.likely
     likely_text = text if likely is dump else likely.text(likely.low)
     return [(path, text), (likely_path(path), likely_text), (notes_path(path), notes)]
@@ -186,9 +177,9 @@ def make(asked: Any) -> int:
         kept = [(asked.save, text)] if asked.save else []
     sketch = sketch_for(asked.system, paths, facts, read)
     dump = Dump(sketch)
-    found = propose(dump.waits)
-    said = [*summary(dump, asked.output, found)]
-    write_texts([*kept, *texts_of(dump, asked.output, found)])
+    proposals = propose(dump.waits)
+    said = [*summary(dump, asked.output, proposals)]
+    write_texts([*kept, *texts_of(dump, asked.output, proposals)])
     for line in sketch.warnings:
         say(f"warning: {line}")
     if asked.guesses:
@@ -210,12 +201,12 @@ def check(path: str) -> int:
 
 
 def main(words: Sequence[str]) -> int:
-    it = parser(words)
-    asked = it.parse_args(words)
+    made = parser(words)
+    asked = made.parse_args(words)
     if asked.system == "check":
         return check(asked.dump)
-    check_live(it, asked)
-    check_outputs(it, asked)
+    check_live(made, asked)
+    check_outputs(made, asked)
     return make(asked)
 
 

@@ -1,6 +1,7 @@
 """Says in words who is stuck, who isn't, and who is undecided; where it has to be broken; and what is known of that."""
 from __future__ import annotations
 
+import re
 from collections import Counter
 from functools import cached_property
 from typing import Callable, Dict, Iterable, Iterator, List, Optional, Sequence, Tuple
@@ -8,7 +9,7 @@ from typing import Callable, Dict, Iterable, Iterator, List, Optional, Sequence,
 from .cures import Cures, words_of
 from .dump import Dump
 from .files import MOST_OF_LINE, short_name, shown
-from .doubts import Doubt, sentence, short_subject
+from .doubts import EXPIRES, Doubt, sentence, short_subject
 from .findings import COME, LIKELY, MESSAGE, NOT_STUCK, STUCK, UNDECIDED, Findings, Waiters
 from .model import Sign
 from .proposals import legend
@@ -18,11 +19,27 @@ from .terminal import PLAIN, AsItIs, Painted, Style, fill, laid_out, painted
 
 LINES, NAMES = 8, 5  # as many lines and names are shown; the others are counted
 UNSAID = "it isn't said why"
+LAST_NUMBER, RUN = re.compile(r"(.*?)(0|[1-9]\d{0,8})"), 3  # so many that follow each other are told as one
 GOES_ON = {MESSAGE: "has a message in transit to it", COME: "no longer waits for any process"}
 
 
 def number_of(number: int, one: str = "process", many: str = "processes") -> str:
     return f"{number:,} {one if number == 1 else many}"
+
+
+def runs_of(names: Sequence[str]) -> List[str]:
+    """Returns names, of which those that differ in numbers that follow each other are one: 'worker-3 to 9'."""
+    alike: Dict[Tuple[str, bool], List[str]] = {}
+    for name in names:
+        numbered = LAST_NUMBER.fullmatch(name)
+        stem, end = (numbered[1], numbered[2]) if numbered else (name, "")
+        alike.setdefault((stem, bool(numbered)), []).append(end)
+    texts: List[str] = []
+    for (stem, is_numbered), ends in alike.items():
+        numbers = sorted(map(int, ends)) if is_numbered else []
+        is_run = len(numbers) >= RUN and numbers == list(range(numbers[0], numbers[-1] + 1))
+        texts += [f"{stem}{numbers[0]} to {numbers[-1]}"] if is_run else [stem + end for end in ends]
+    return texts
 
 
 class Explanation(Findings):
@@ -208,23 +225,25 @@ class Explanation(Findings):
         lines = [f"  {doubt.number}: {self.doubt_words(doubt, members)}" for doubt in self.doubts_of(members)]
         return ["Unless", *self.first(lines, ("doubt", "doubts"))] if lines else []
 
-    def doubt_words(self, doubt: Doubt, members: List[int], several: str = "") -> str:
-        """Returns in words what a doubt about some says, who are called `several` if they are."""
+    def doubt_words(self, doubt: Doubt, members: List[int]) -> str:
+        """Returns in words what a doubt about some says."""
         waits = set(doubt.waits)
         whom = [self.name(at) for at in members if self.waits.processes[at].name in waits] or \
             list(map(short_name, doubt.waits))
         who = self.some([short_name(name) for name in doubt.who], " or ")
-        several = several or f"one of {self.some(whom, ' and ')}"
-        return sentence(doubt, who, whom[0] if len(whom) == 1 else several, self.reason_of_doubt(doubt))
+        freed = whom[0] if len(whom) == 1 else f"one of {self.some(whom, ' and ')}"
+        return sentence(doubt, who, freed, self.reason_of_doubt(doubt))
 
     def doubter_words(self, doubt: Doubt, called: Callable[[str], str], most: int) -> str:
         """Returns in words of whom a doubt says that it frees somebody, by what each is `called`: by the first name
         alone where that makes more than so many letters."""
         names, reason = [shown(called(name)) for name in doubt.who], self.reason_of_doubt(doubt)
-        words = short_subject(doubt, self.some(names, " or "), reason)
+        runs = runs_of(names)
+        words = short_subject(doubt, self.some(names if runs[NAMES:] else runs, " or "), reason)
         if len(words) <= most or not names[1:]:
             return words
-        return short_subject(doubt, f"{names[0]} or {len(names) - 1:,} more", reason)
+        comma = "," if doubt.how == EXPIRES else ""  # (behind the name of a limit stands a time)
+        return short_subject(doubt, f"{names[0]}{comma} or {len(doubt.who) - 1:,} more", reason)
 
     def reason_of_doubt(self, doubt: Doubt) -> str:
         """Returns why all of those rest of whom a doubt is, or in which function they poll, or nothing."""
@@ -271,7 +290,7 @@ class Explanation(Findings):
 
     def restart(self, number: int) -> str:
         """Returns what breaks a root."""
-        return words_of(self.cures, self.cures.of[number])
+        return ". ".join(filter(None, [words_of(self.cures, self.cures.of[number]), self.cures.enough_words(number)]))
 
     def undecided_lines(self) -> List[str]:
         """The undecided ones, by the unknown ones that they depend on."""

@@ -22,27 +22,27 @@ MORE = """status: 0 no process is stuck, 3 some process is stuck, 5 none is stuc
 
 
 def parser() -> Parser:
-    it = Parser("cmh-explain", description=ABOUT, epilog=MORE)
-    it.add_argument("dump", metavar="DUMP", help="a dump; its notes are read from DUMP.notes.json")
-    it.add_argument("newer", metavar="NEW", nargs="?",
-                    help="a newer dump of the same system, for a page of both: --html FILE DUMP NEW")
-    it.add_argument("--all", action="store_true", help="show all that is known, in place of the first screen")
-    it.add_argument("--why", metavar="NAME", help="show the chain from one process to what its answer rests on")
-    how = it.add_mutually_exclusive_group()
+    made = Parser("cmh-explain", description=ABOUT, epilog=MORE)
+    add = made.add_argument
+    add("dump", metavar="DUMP", help="a dump; its notes are read from DUMP.notes.json")
+    add("newer", metavar="NEW", nargs="?",
+        help="a newer dump of the same system, for a page of both: --html FILE DUMP NEW")
+    add("--all", action="store_true", help="show all that is known, in place of the first screen")
+    add("--why", metavar="NAME", help="show the chain from one process to what its answer rests on")
+    how = made.add_mutually_exclusive_group()
     how.add_argument("--summary", action="store_true", help="print the first line alone")
     how.add_argument("--quiet", action="store_true", help="print nothing: the status is the answer")
     how.add_argument("--json", action="store_true", help="print all of it as JSON; with --why, that chain too")
     how.add_argument("--dot", action="store_true", help="print a graph for Graphviz; with --why, of that chain alone")
     how.add_argument("--svg", action="store_true", help="print that graph as SVG, laid out by Graphviz")
     how.add_argument("--html", metavar="FILE", help="write all of it as a page, with that picture")
-    it.add_argument("--state", metavar="FILE", action="append", default=[],
-                    help="put the lines of a state into the page too")
-    it.add_argument("--color", choices=("auto", "always", "never"), default="auto", metavar="WHEN",
-                    help="always, never, or auto: on a terminal, unless NO_COLOR is set (auto)")
-    it.add_argument("--pager", action="store_true", help="show a long answer on a terminal through $PAGER (less)")
-    it.add_argument("--without-notes", action="store_true", help="the dump was written by hand: who is active runs")
-    it.add_version()
-    return it
+    add("--state", metavar="FILE", action="append", default=[], help="put the lines of a state into the page too")
+    add("--color", choices=("auto", "always", "never"), default="auto", metavar="WHEN",
+        help="always, never, or auto: on a terminal, unless NO_COLOR is set (auto)")
+    add("--pager", action="store_true", help="show a long answer on a terminal through $PAGER (less)")
+    add("--without-notes", action="store_true", help="the dump was written by hand: who is active runs")
+    made.add_version()
+    return made
 
 
 def load(path: str, is_by_hand: bool) -> Tuple[Dump, Optional[str]]:
@@ -56,7 +56,7 @@ def load(path: str, is_by_hand: bool) -> Tuple[Dump, Optional[str]]:
 
 def load_noted(data: bytes, path: str, notes: str, read: Read = read_text) -> Tuple[Dump, Optional[str]]:
     """Returns a dump with its notes."""
-    dump, noted = dump_of_notes(read_json(text_of_bytes(data, path), path), path, notes, read)
+    dump, noted = dump_of_notes(text_of_bytes(data, path), path, notes, read)
     named = compare_programs(noted.get("program"))
     confirm(dump)
     if dump.likely is not dump:
@@ -79,14 +79,14 @@ def load_bare(data: bytes, path: str, is_by_hand: bool) -> Dump:
     """Returns the dump of a file without notes."""
     refuse_other(data, path)
     try:
-        found = deadlocked_names(data)
+        deadlocked = deadlocked_names(data)
     except Refusal as fault:
         from .check import describe_fault
         raise Refusal(describe_fault(path, str(fault), data)) from None
     dump = Dump(sketch_of_dump(read_json(data.decode(), path), path, is_by_hand))
-    compare(dump, dump.low, found, "low")
+    compare(dump, dump.low, deadlocked, "low")
     if is_by_hand:
-        compare(dump, dump.high, found, "high")
+        compare(dump, dump.high, deadlocked, "high")
     else:
         compare(dump, dump.high, deadlocked_names(dump.text(dump.high).encode()), "high")
         dump.sketch.warnings.append(ASK_NOTES)
@@ -106,10 +106,14 @@ def refuse_other(data: bytes, path: str) -> None:
 
 
 def index_of(dump: Dump, name: str) -> int:
-    """Returns the index of a name, or of a name as the dump has it. Raises Failure if nobody has it."""
-    for at, process in enumerate(dump.sketch.processes):
+    """Returns the index of a name, or of a name as the dump has it, or of the one thread that a screen calls so. Raises
+    Failure if nobody has it."""
+    for index, process in enumerate(dump.sketch.processes):
         if name in (process.name, dump.names[process.name]):
-            return at
+            return index
+    threads = [index for index, process in enumerate(dump.sketch.processes) if process.name.endswith(f"/{name}")]
+    if len(threads) == 1:
+        return threads[0]
     raise Failure(f"nobody is called {quote(name)}{near_name(name, list(dump.waits.index))}", 2)
 
 
@@ -137,14 +141,14 @@ def main(words: Sequence[str]) -> int:
     old = None if asked.newer is None else Explanation(load(asked.dump, asked.without_notes)[0], asked.all, style)
     dump, noted = load(asked.dump if asked.newer is None else asked.newer, asked.without_notes)
     explanation = Explanation(dump, asked.all, style)
-    at, status = None if asked.why is None else index_of(dump, asked.why), explanation.status()
+    index, status = None if asked.why is None else index_of(dump, asked.why), explanation.status()
     if is_form:
-        write_form(asked, explanation, noted, at, old)
+        write_form(asked, explanation, noted, index, old)
     elif asked.summary:
-        write_out(explanation.summary(at))
+        write_out(explanation.summary(index))
     elif not asked.quiet:
         text = explanation.text() if asked.all else screen(explanation)
-        show(text if at is None else explanation.why(at), asked.pager)
+        show(text if index is None else explanation.why(index), asked.pager)
     return status
 
 

@@ -72,7 +72,7 @@ BARE = ("runs", "ended", "holds", "also")  # kinds that need no arrow before the
 # Words for relatives of the one that waits, unless a process has that name.
 RELATIVES = {"creator": "{creator}", "children": "children:{self}"}
 OTHERS = "others"  # a word for all others, unless a process has that name
-OR_NOBODY, IF_ENDED = ["or", "nobody"], ["if", "all", "have", "ended"]
+OR_NOBODY = ["or", "nobody"]
 TO_COMPLETE = f"'{COMPLETE}' stands for what you have to complete"
 TOKEN = re.compile(r'"((?:[^"\\]|\\.)*)"|(\S+)')
 Word = Tuple[str, bool]  # of a line, with whether it stood in quotes
@@ -98,9 +98,9 @@ class Fact:
 
     def values(self, process: Process) -> Values:
         """Returns the values of all variables for a process at its place."""
-        arguments = dict(it.split("=", 1) for it in process.objects if "=" in it)
-        found = self.place.values(process, self.kind in ANYWHERE) or {}
-        return {"self": process.name, **arguments, **found}
+        arguments = dict(argument.split("=", 1) for argument in process.objects if "=" in argument)
+        values = self.place.values(process, self.kind in ANYWHERE) or {}
+        return {"self": process.name, **arguments, **values}
 
     def has_variables(self) -> bool:
         """Whether its names may be others for each one that waits."""
@@ -126,13 +126,9 @@ def is_others(word: str) -> bool:
     return word.split(":")[0] == OTHERS
 
 
-def has_others(words: Iterable[str]) -> bool:
-    return any(map(is_others, words))
-
-
 def fill_in(word: str, values: Values) -> str:
     """Returns a word with the values of its variables in their places."""
-    return VARIABLE.sub(lambda found: values.get(found[1], found[0]), word)
+    return VARIABLE.sub(lambda match: values.get(match[1], match[0]), word)
 
 
 @dataclass
@@ -153,50 +149,44 @@ class Facts:
         """Returns the first fact on the wait of a process, or None."""
         return self.first(WAITS, process)
 
-    def also(self, process: Process) -> Optional[Fact]:
-        """Returns the first fact on who else may answer a process, or None."""
-        return self.first((ALSO,), process)
-
     def holdings(self, process: Process) -> List[Tuple[Fact, str]]:
         """Returns all that a process holds, each with its fact. What has a variable without a value is nothing."""
-        found = [(fact, fill_in(fact.words[0], fact.values(process))) for fact in self.facts
+        holdings = [(fact, fill_in(fact.words[0], fact.values(process))) for fact in self.facts
                  if fact.kind == HOLDS and fact.place.values(process, True) is not None]
-        for fact, what in found:
+        for fact, what in holdings:
             fact.used, fact.lacks = True, fact.lacks or VARIABLE.search(what) is not None
-        return [(fact, what) for fact, what in found if not VARIABLE.search(what)]
+        return [(fact, what) for fact, what in holdings if not VARIABLE.search(what)]
 
     def find_bystanders(self, sketch: Sketch) -> None:
         """Finds who ends nobody's wait, or not that of some."""
-        some = [fact for fact in self.facts if fact.kind in (FREES, FREES_NONE)]
-        found = [(process, fact) for process in (sketch.processes if some else ()) for fact in some
+        freeing = [fact for fact in self.facts if fact.kind in (FREES, FREES_NONE)]
+        bystanders = [(process, fact) for process in (sketch.processes if freeing else ()) for fact in freeing
                  if fact.place.values(process, True) is not None]
-        for process, fact in found:
+        for process, fact in bystanders:
             if fact.kind == FREES:
                 fact.used = True
                 fact.took.setdefault("nobody", {})[process.name] = None
                 self.bystanders.setdefault(process.name, fact)
-        for process, fact in found:
+        for process, fact in bystanders:
             for name in self.spared_by(fact, process, sketch) if fact.kind == FREES_NONE else ():
                 fact.used = True
                 self.bystanders_at.setdefault(name, {**self.bystanders}).setdefault(process.name, fact)
 
     def spared_by(self, fact: Fact, process: Process, sketch: Sketch) -> List[str]:
         """Returns whose waits a process doesn't end by a fact: of nobody, if one of its names fits nobody."""
-        values, found = fact.values(process), {}
+        values, names_of = fact.values(process), {}
         for word in fact.words:
             pattern = fill_in(word, values)
             patterns = self.groups.get(pattern, [pattern])
-            found[word] = [it.name for it in sketch.processes if any(is_like(each, it.name) for each in patterns)]
-            fact.took.setdefault(word, {}).update(dict.fromkeys(found[word]))
-        return [name for names in found.values() for name in names] if all(found.values()) else []
-
-    def bystanders_of(self, process: Process) -> Dict[str, Fact]:
-        """Returns who doesn't end the wait of a process, by their names."""
-        return self.bystanders_at.get(process.name, self.bystanders)
+            names_of[word] = [waiting.name for waiting in sketch.processes
+                              if any(is_like(like, waiting.name) for like in patterns)]
+            fact.took.setdefault(word, {}).update(dict.fromkeys(names_of[word]))
+        return [name for names in names_of.values() for name in names] if all(names_of.values()) else []
 
     def first(self, kinds: Tuple[str, ...], process: Process) -> Optional[Fact]:
+        """Returns the first fact of some kinds that a process matches, or None."""
         for fact in self.at_frame(process.frames[0] if process.frames else ""):
-            is_meant = process.is_there() or not has_others(fact.words)
+            is_meant = process.is_there() or not any(map(is_others, fact.words))
             if is_meant and fact.kind in kinds and fact.place.values(process) is not None:
                 fact.used = True
                 return fact
@@ -205,7 +195,8 @@ class Facts:
     def at_frame(self, text: str) -> List[Fact]:
         """Returns the facts on a topmost frame, in their order. Many processes stand at one frame, so it is kept."""
         if text not in self.by_frame:
-            self.by_frame[text] = [it for it in self.facts if values_of_frame(it.place.frames[0], text) is not None]
+            self.by_frame[text] = [fact for fact in self.facts
+                                   if values_of_frame(fact.place.frames[0], text) is not None]
         return self.by_frame[text]
 
     def unused_lines(self, sketch: Sketch) -> List[str]:
@@ -224,20 +215,22 @@ def why_unused(fact: Fact, sketch: Sketch) -> str:
     there, anywhere = fact.place, fact.kind in ANYWHERE
     if fact.kind == FREES_NONE and fact.took:
         lost = next(word for word in fact.words if not fact.took[word])
-        return f"nobody's wait: {fact.text}{near_name(lost, [it.name for it in sketch.processes])}"
-    if any(there.values(it, anywhere) is not None for it in sketch.processes):
+        return f"nobody's wait: {fact.text}{near_name(lost, [process.name for process in sketch.processes])}"
+    if any(there.values(process, anywhere) is not None for process in sketch.processes):
         return f"no unknown process: {fact.text}"
-    open_ones = [it for it in sketch.processes if it.kind == UNKNOWN and not it.is_garbled and it.is_there()]
-    at_frame = [it for it in open_ones if Place(there.frames).values(it, anywhere) is not None]
-    named = [it for it in at_frame if Place(there.frames, there.names).values(it, anywhere) is not None]
-    pattern, texts = there.frames[0].split(":")[0], {each.split(" (")[0] for it in open_ones for each in it.frames}
-    is_name = any(Place(["*"], there.frames[:1]).values(it) is not None for it in sketch.processes)
-    if is_name and not any(Place(there.frames).values(it, True) is not None for it in sketch.processes):
+    open_ones = [process for process in sketch.processes
+                 if process.kind == UNKNOWN and not process.is_garbled and process.is_there()]
+    at_frame = [process for process in open_ones if Place(there.frames).values(process, anywhere) is not None]
+    named = [process for process in at_frame if Place(there.frames, there.names).values(process, anywhere) is not None]
+    pattern = there.frames[0].split(":")[0]
+    texts = {frame.split(" (")[0] for process in open_ones for frame in process.frames}
+    is_name = any(Place(["*"], there.frames[:1]).values(process) is not None for process in sketch.processes)
+    if is_name and not any(Place(there.frames).values(process, True) is not None for process in sketch.processes):
         return f"nothing: {fact.text}; a name stands behind 'of', as in * of {word_of(there.frames[0])}"
     if at_frame and not named:
-        pattern, texts = there.names[0], set(families(it.name for it in at_frame))
+        pattern, texts = there.names[0], set(families(process.name for process in at_frame))
     elif named:
-        pattern, texts = there.operation, {it.operation for it in named}
+        pattern, texts = there.operation, {process.operation for process in named}
     return f"nothing: {fact.text}{near_name(pattern, sorted(texts))}"
 
 
@@ -252,18 +245,18 @@ def families(names: Iterable[str]) -> Dict[str, None]:
 def read_facts(text: str, path: str) -> Facts:
     """Returns the facts of a text. Raises Refusal with the line of the first that is none."""
     facts = Facts(path=shown(os.path.basename(path)))
-    for at, line in enumerate(text.split("\n"), 1):
+    for number, line in enumerate(text.split("\n"), 1):
         try:
             line = without_comment(line)
             words, text = list(words_of(line)), " ".join(line.split())
             if words == [(STILL, False)]:
-                facts.still = Fact(at, STILL, Place([]), STILL, [])
+                facts.still = Fact(number, STILL, Place([]), STILL, [])
             elif words[:1] == [(GROUP, False)] and ("=", False) in words[1:3]:
                 add_group(facts, [word for word, _ in words])
             elif words:
-                facts.facts.append(fact_of(words, at, text))
+                facts.facts.append(fact_of(words, number, text))
         except Refusal as refusal:
-            raise Refusal(f"{shown(path)}:{at}: {refusal}") from None
+            raise Refusal(f"{shown(path)}:{number}: {refusal}") from None
     use_groups(facts, path)
     return facts
 
@@ -284,24 +277,24 @@ def use_groups(facts: Facts, path: str) -> None:
         if fact.group and fact.group not in facts.groups:
             raise Refusal(f"{shown(path)}:{fact.at}: no line 'group {shown(fact.group)} = NAME ..' names this group"
                           f"{near_name(fact.group, facts.groups)}")
-        fact.place.names = [each for name in fact.place.names for each in (name, *facts.groups.get(name, []))]
+        fact.place.names = [member for name in fact.place.names for member in (name, *facts.groups.get(name, []))]
 
 
 def without_comment(line: str) -> str:
     """Returns a line up to a comment. A key such as '#.stop' is none."""
     before = ""
-    for found in TOKEN.finditer(line):
-        if found[0].startswith("#") and not (before == HOLDS and found[0].startswith("#.")):
-            return line[:found.start()]
-        before = found[0]
+    for match in TOKEN.finditer(line):
+        if match[0].startswith("#") and not (before == HOLDS and match[0].startswith("#.")):
+            return line[:match.start()]
+        before = match[0]
     return line
 
 
 def words_of(line: str) -> Iterator[Word]:
     """The words of a line without a comment, each with whether it stood in quotes."""
-    for found in TOKEN.finditer(line):
-        quoted = found[1]
-        yield (found[2], False) if quoted is None else (re.sub(r"\\(.)", r"\1", quoted), True)
+    for match in TOKEN.finditer(line):
+        quoted = match[1]
+        yield (match[2], False) if quoted is None else (re.sub(r"\\(.)", r"\1", quoted), True)
 
 
 def word_of(text: str) -> str:
@@ -310,7 +303,7 @@ def word_of(text: str) -> str:
     return text if plain else '"' + text.replace("\\", r"\\").replace('"', r'\"') + '"'
 
 
-def fact_of(words: List[Word], at: int, text: str) -> Fact:
+def fact_of(words: List[Word], number: int, text: str) -> Fact:
     """Returns the fact of the words of a line."""
     arrow = next((i for i, word in enumerate(words) if word == ("->", False)), None)
     bare = next((i for i, word in enumerate(words) if i and not word[1] and word[0] in BARE), None)
@@ -325,7 +318,7 @@ def fact_of(words: List[Word], at: int, text: str) -> Fact:
         kind, rest = ALSO, rest[2:]
     if kind == FREES and rest[:2] == ["none", "of"]:
         kind, rest = FREES_NONE, rest[2:]
-    fact = Fact(at, escaped(text), place, kind, without_nobody(kind, rest))
+    fact = Fact(number, escaped(text), place, kind, without_nobody(kind, rest))
     fact.or_nobody = len(fact.words) < len(rest)
     if kind == "all" and rest[:1] == ["of"]:
         if len(rest) != 2:
@@ -336,13 +329,12 @@ def fact_of(words: List[Word], at: int, text: str) -> Fact:
 
 
 def without_nobody(kind: str, words: List[str]) -> List[str]:
-    """Returns the names before 'or nobody', which may be followed by 'if all have ended'."""
-    rest = words[:-4] if words[-4:] == IF_ENDED else words
-    if rest[-2:] != OR_NOBODY:
+    """Returns the names before 'or nobody'."""
+    if words[-2:] != OR_NOBODY:
         return words
     if kind != "any":
         raise Refusal("'or nobody' stands after 'any NAME ..' alone")
-    return [word.rstrip(",") for word in rest[:-2]]
+    return words[:-2]
 
 
 def place_of(words: List[Word]) -> Place:

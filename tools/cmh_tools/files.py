@@ -48,7 +48,8 @@ def escaped(text: str) -> str:
     """Returns a text with what a terminal would obey, what nobody sees, and lone surrogates, as escapes."""
     if text.isprintable():
         return text
-    return "".join(it.encode("unicode_escape").decode() if unicodedata.category(it) in UNSEEN else it for it in text)
+    return "".join(letter.encode("unicode_escape").decode() if unicodedata.category(letter) in UNSEEN else letter
+                   for letter in text)
 
 
 def say(text: str) -> None:
@@ -122,7 +123,7 @@ def hindrance(path: str, others: Sequence[str]) -> str:
     others, which are read or written too, or of the standard streams."""
     if not os.path.basename(path):
         return "it names no file"
-    if os.path.realpath(path) in [os.path.realpath(it) for it in others]:
+    if os.path.realpath(path) in [os.path.realpath(other) for other in others]:
         return TAKEN
     try:
         there = os.stat(path)

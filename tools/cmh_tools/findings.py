@@ -1,10 +1,12 @@
 """What is known of a dump with both its answers, by index: the text, the JSON and the pictures are all made of this."""
 from __future__ import annotations
 
+import re
 from typing import Dict, Iterable, Iterator, List, NamedTuple, Optional, Tuple
 
 from .dump import Dump
-from .model import Sign
+from .files import shown
+from .model import Sign, Strength
 from .proposals import Line, Proposal, Words, lines_of, propose
 from .reasons import Reason, Rests, counts_of
 from .doubts import Doubt
@@ -21,6 +23,10 @@ RUNNING, MESSAGE, COME = "runs", "message_in_transit", "all_have_come"  # why on
 WHOLE = {"mpi": "the MPI job"}
 # Systems whose processes can be restarted by themselves: a site is a machine, which others may share.
 ALONE = {BARE, "rabbitmq"}
+
+
+END_OF_WHAT = re.compile(r"; | at | in |: | \[|, which | \(descriptor")
+ADDRESS = re.compile(r"0x0*([0-9a-f]{6,})")
 
 
 class Waiters(NamedTuple):
@@ -96,6 +102,8 @@ class Findings(Verdicts):
 
     def doubts_of(self, members: Iterable[int]) -> List[Doubt]:
         """Returns the doubts on which it hangs that some are stuck."""
+        if not self.original.doubts:
+            return []
         likely = self.original.likely_answer().likely
         names = likely.with_hinges(self.waits.processes[at].name for at in members)
         return [doubt for doubt, waits in zip(self.original.doubts, self.doubted) if not waits.isdisjoint(names)]
@@ -119,6 +127,14 @@ class Findings(Verdicts):
         """Returns what is known of its place: the note, or else its topmost frame with the operation."""
         process = self.waits.processes[at]
         return process.note or " ".join(filter(None, [*process.frames[:1], process.operation]))
+
+    def what(self, at: int, has_address: bool = True) -> str:
+        """Returns at what one waits."""
+        process = self.waits.processes[at]
+        what = END_OF_WHAT.split(shown(process.note or process.operation), 1)[0]
+        address = next((text for text in process.objects if ADDRESS.fullmatch(text)), "")
+        short = ADDRESS.sub(r"0x\1", address)
+        return what + (f" {short}" if address and address not in what and has_address else "")
 
     def goes_on(self, at: int) -> Optional[str]:
         """Returns why one goes on by itself, if it does whatever unknown ones do."""
@@ -172,10 +188,18 @@ class Findings(Verdicts):
 
     def unknown_ones(self, most: int) -> Iterator[Tuple[int, Waiters]]:
         """Yields the unknown ones that others hang on, with at most `most` of these. The first has most."""
-        starts = [at for at in self.undecided if self.waits.kinds[at] == UNKNOWN]
+        yield from self.with_waiters([at for at in self.undecided if self.waits.kinds[at] == UNKNOWN], most)
+
+    def idle_ones(self, most: int) -> Iterator[Tuple[int, Waiters]]:
+        """Yields those who have nothing to do and whose act undecided ones need, with at most `most` of these."""
+        needed = {name for at in self.undecided for part in self.process(at).parts for wakers in part
+                  if wakers.strength is Strength.NAMED for name in wakers.names()}
+        starts = [at for at in sorted(self.quiet) if self.process(at).name in needed]
+        yield from ((at, others) for at, others in self.with_waiters(starts, most) if others.number)
+
+    def with_waiters(self, starts: List[int], most: int) -> Iterator[Tuple[int, Waiters]]:
         counts = count_waiters(self.waits, self.open, starts, most)
-        starts.sort(key=lambda at: -counts[at][0])
-        for at in starts:
+        for at in sorted(starts, key=lambda at: -counts[at][0]):
             yield at, Waiters(*counts[at])
 
     def proposals(self) -> List[Proposal]:

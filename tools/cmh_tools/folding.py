@@ -37,50 +37,50 @@ class Folding:
     """The rows of each part, at most `most`. `alone` are those that share no box, as they are asked for; if `is_whole`,
     nobody does."""
 
-    def __init__(self, explanation: Explanation, some: Iterable[int], alone: Collection[int], is_whole: bool,
+    def __init__(self, explanation: Explanation, indices: Iterable[int], alone: Collection[int], is_whole: bool,
                  most: int = MOST) -> None:
         self.this, self.waits, self.alone, self.is_whole = explanation, explanation.waits, alone, is_whole
         self.small, self.few, self.most = min(SMALL, most), min(FEW, most), most
-        self.senders = {it for some in self.waits.senders for it in some}
+        self.senders = {sender for senders in self.waits.senders for sender in senders}
         self.apart = set(range(len(explanation.roots.roots)) if is_whole else roots_apart(explanation, most))
         self.parts: Dict[Part, Row] = {}
-        some = list(some)
-        for at in some:
-            self.parts.setdefault(self.part_of(at), []).append(at)
-        self.whom, self.waiters = known_by(self.waits.left, some), known_by(self.waits.waiters, some)
+        indices = list(indices)
+        for index in indices:
+            self.parts.setdefault(self.part_of(index), []).append(index)
+        self.whom, self.waiters = known_by(self.waits.left, indices), known_by(self.waits.waiters, indices)
 
-    def part_of(self, at: int) -> Part:
+    def part_of(self, index: int) -> Part:
         roots = self.this.roots
-        if at in roots.above:
-            number, *others = roots.above[at]
+        if index in roots.above:
+            number, *others = roots.above[index]
             if others:
                 return Part(SHARED)
-            return Part(ROOT if at in roots.root_of else BEHIND, number) if number in self.apart else Part(MORE)
-        kind = self.waits.kinds[at]
+            return Part(ROOT if index in roots.root_of else BEHIND, number) if number in self.apart else Part(MORE)
+        kind = self.waits.kinds[index]
         if kind == ENDED:
             return Part(OVER)
-        if at in self.this.open:
+        if index in self.this.open:
             return Part(OPEN if kind == UNKNOWN else UNDECIDED)
-        return Part(RUNNING if kind == RUNS or at in self.this.quiet else FREE)
+        return Part(RUNNING if kind == RUNS or index in self.this.quiet else FREE)
 
     def rows(self) -> List[Tuple[Part, Row]]:
         """Returns the rows with their parts, those of roots first."""
-        found = self.folded()
-        order = sorted(found, key=lambda part: (SORTS.index(part.sort), part.root or 0))
-        return [(part, row) for part in order for row in found[part]]
+        rows = self.folded()
+        order = sorted(rows, key=lambda part: (SORTS.index(part.sort), part.root or 0))
+        return [(part, row) for part in order for row in rows[part]]
 
     def folded(self) -> Dict[Part, List[Row]]:
         """Returns the rows of each part: if they are too many, as many as are ample for it, and then one for each part
         that has most, those of roots last."""
         if self.is_whole:
-            return {part: [[at] for at in some] for part, some in self.parts.items()}
+            return {part: [[index] for index in indices] for part, indices in self.parts.items()}
         rows = {part: self.groups(part, ONE if part.sort == MORE else ALIKE) for part in self.parts}
         if count(rows) > self.small:
             rows = {part: self.groups(part, self.first_step(part)) for part in self.parts}
         by_size = sorted(rows, key=lambda part: len(rows[part]))
-        for most, some in ((self.few, [part for part in by_size if part.sort != ROOT]), (self.most, by_size)):
-            while count(rows) > most and some:
-                part = some.pop()
+        for most, parts in ((self.few, [part for part in by_size if part.sort != ROOT]), (self.most, by_size)):
+            while count(rows) > most and parts:
+                part = parts.pop()
                 rows[part] = self.groups(part, ONE)
         return rows
 
@@ -99,39 +99,39 @@ class Folding:
 
     def groups(self, part: Part, step: int) -> List[Row]:
         """Returns the rows of a part after a step."""
-        found: Dict[object, Row] = {}
-        for at in self.parts[part]:
-            found.setdefault(at if at in self.alone else self.key(at, step), []).append(at)
-        rows = sorted(found.values(), key=lambda row: row[0] not in self.alone)
+        by_key: Dict[object, Row] = {}
+        for index in self.parts[part]:
+            by_key.setdefault(index if index in self.alone else self.key(index, step), []).append(index)
+        rows = sorted(by_key.values(), key=lambda row: row[0] not in self.alone)
         if step < LARGEST:
             return rows
         kept = sum(row[0] in self.alone for row in rows)
         if step == LARGEST:
             rows[kept:] = sorted(rows[kept:], key=lambda row: (-len(row), not self.is_next_to_root(row[0])))
             kept = max(kept, self.ample(part) - 1)
-        rest = [at for row in rows[kept:] for at in row]
+        rest = [index for row in rows[kept:] for index in row]
         return rows[:kept] + ([rest] if rest else [])
 
-    def is_next_to_root(self, at: int) -> bool:
-        return any(it in self.this.roots.root_of for it in self.waits.left[at])
+    def is_next_to_root(self, index: int) -> bool:
+        return any(other in self.this.roots.root_of for other in self.waits.left[index])
 
-    def key(self, at: int, step: int) -> object:
+    def key(self, index: int, step: int) -> object:
         """Returns what those have in common that share a row after a step. One whose place isn't known shares none."""
-        process = self.waits.processes[at]
-        place, sort = self.this.note(at) or shown(process.reason), (process.kind, self.this.goes_on(at))
+        process = self.waits.processes[index]
+        place, sort = self.this.note(index) or shown(process.reason), (process.kind, self.this.goes_on(index))
         if step == ALIKE:
-            return sort, place, process.site, self.whom[at], self.waiters[at], at in self.senders
+            return sort, place, process.site, self.whom[index], self.waiters[index], index in self.senders
         if process.frames:
             place = f"{process.operation} {process.frames[0]}"
-        return (sort, place, process.site if step == LINE_OF_SITE else None) if place else at
+        return (sort, place, process.site if step == LINE_OF_SITE else None) if place else index
 
 
 def roots_apart(this: Explanation, most: int) -> List[int]:
     """Returns the roots that are drawn: one of those that are alike, and at most a few, fewer where boxes are few."""
-    found: Dict[object, List[int]] = {}
+    alike: Dict[object, List[int]] = {}
     for number, members in enumerate(this.roots.roots):
-        found.setdefault(tuple(sorted(map(this.note, members))), []).append(number)
-    drawn = (number for some in found.values() for number in some[:1 if len(some) >= ALIKE_ROOTS else None])
+        alike.setdefault(tuple(sorted(map(this.note, members))), []).append(number)
+    drawn = (number for numbers in alike.values() for number in numbers[:1 if len(numbers) >= ALIKE_ROOTS else None])
     return sorted(drawn)[:min(ROOTS, max(most // PARTS, 1))]
 
 
@@ -155,12 +155,13 @@ def is_without_place(process: Process) -> bool:
     return is_bare and not (process.parts or process.site or process.operation or process.thread)
 
 
-def known_by(lists: List[List[int]], some: Iterable[int]) -> Dict[int, Tuple[int, ...]]:
+def known_by(lists: List[List[int]], indices: Iterable[int]) -> Dict[int, Tuple[int, ...]]:
     """Returns for some processes what those have in common whose lists are equal. Where three or more have each the
     others in their lists, or all of them, these are equal too."""
-    closed = {at: tuple(sorted({*lists[at], at})) for at in some if len(lists[at]) > 1}
+    closed = {index: tuple(sorted({*lists[index], index})) for index in indices if len(lists[index]) > 1}
     counts = Counter(closed.values())
-    return {at: closed[at] if at in closed and counts[closed[at]] > 2 else tuple(lists[at]) for at in some}
+    return {index: closed[index] if index in closed and counts[closed[index]] > 2 else tuple(lists[index])
+            for index in indices}
 
 
 def count(rows: Dict[Part, List[Row]]) -> int:

@@ -13,7 +13,7 @@ from .dot import dot
 from .drawing import drawings
 from .explain import Explanation
 from .files import Failure, Refusal, read_text, write_out, write_texts
-from .page import Older, page
+from .page import Older, Page
 from .picture import Picture
 from .svg import check_graphviz, svg
 
@@ -27,31 +27,31 @@ def check_form(asked: Any) -> None:
             check_graphviz()
 
 
-def write_form(asked: Any, explanation: Explanation, noted: Optional[str], at: Optional[int],
+def write_form(asked: Any, explanation: Explanation, noted: Optional[str], index: Optional[int],
                old: Optional[Explanation]) -> None:
     """Writes an answer in the form that is asked for."""
     if asked.json:
-        write_out(text_of_answer(answer(explanation, noted, at)))
+        write_out(text_of_answer(answer(explanation, noted, index)))
     elif asked.dot:
-        write_out(dot(Picture(explanation, at, asked.all)))
+        write_out(dot(Picture(explanation, index, asked.all)))
     elif asked.svg:
         with words_for_picture():
-            picture = svg(Picture(explanation, at, asked.all))
+            picture = svg(Picture(explanation, index, asked.all))
         write_out(picture)
     else:
-        write_page(asked, explanation, answer(explanation, noted, at), at, old)
+        write_page(asked, explanation, answer(explanation, noted, index), index, old)
 
 
-def write_page(asked: Any, explanation: Explanation, tree: Tree, at: Optional[int],
+def write_page(asked: Any, explanation: Explanation, tree: Tree, index: Optional[int],
                old: Optional[Explanation]) -> None:
     """Writes the page of an answer, with an older one beside it, if there is one, and prints its first line."""
     states = [(os.path.basename(path), read_text(path)) for path in asked.state]
     if sum(len(lines) for _, lines in states) > MOST_OF_STATES:
         raise Refusal(f"--state: a page takes states of at most {MOST_OF_STATES:,} characters")
-    summary = explanation.summary(at)
-    drawn, *beside = drawings([(explanation, at), *([] if old is None else [(old, None)])])
+    summary = explanation.summary(index)
+    drawn, *beside = drawings([(explanation, index), *([] if old is None else [(old, None)])])
     older = None if old is None else Older(Comparison(old, explanation), beside[0].beside())
-    write_texts([(asked.html, page(explanation, tree, drawn, states, older))])
+    write_texts([(asked.html, Page(explanation, tree, drawn, states, older).html())])
     write_out(summary)
 
 

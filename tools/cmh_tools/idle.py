@@ -33,8 +33,8 @@ def leave_out(sketch: Sketch, what: str) -> None:
 
 def is_stand_in(process: Process) -> bool:
     """Whether it is nobody of the system, but stands for others who may not be there."""
-    is_named = process.frames == [process.name] and process.name != REST and process.site is None
-    return process.sign is Sign.UNKNOWN and is_named
+    return process.sign is Sign.UNKNOWN and process.frames == [process.name] and process.name != REST \
+        and process.site is None
 
 
 def has_fact(process: Process) -> bool:
@@ -44,4 +44,6 @@ def has_fact(process: Process) -> bool:
 def plural(way: str) -> str:
     """'waits for work' as 'wait for work'."""
     verb, *rest = way.split(" ")
-    return " ".join([{"carries": "carry", "has": "have", "it": "they"}.get(verb, verb.rstrip("s")), *rest])
+    if verb == "it":
+        return f"they {plural(' '.join(rest))}"
+    return " ".join([{"carries": "carry", "has": "have", "is": "are"}.get(verb, verb.rstrip("s")), *rest])

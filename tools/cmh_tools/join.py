@@ -7,16 +7,19 @@ waits lasted that were the same in both: a wait has to show by a count that it w
 from __future__ import annotations
 
 import functools
+import itertools
+import math
 import re
 from dataclasses import replace
 from typing import Dict, List, Optional, Sequence
 
 from .connections import join_connections, merged, on_machine, renamed, servers_first, serves
 from .files import Refusal, shown
-from .model import ANYBODY, Anybody, Part, Sign, Strength, Wakers, Who
-from .sketch import (ALL, ANY, DONE, ENDED, INNER, RUNS, SYSTEM, UNKNOWN, WAITING, Process, Sketch, premise, quote,
-                     reason_of)
-from .snapshots import UNCOUNTED, doubt_wait
+from .insides import insides
+from .model import ANYBODY, Anybody, Part, Sign, Strength, Wakers, Who, once
+from .sketch import (ALL, ANY, DONE, ENDED, INNER, RUNS, SYSTEM, UNKNOWN, UNREADABLE, WAITING, Process, Sketch, premise,
+                     quote, reason_of)
+from .snapshots import COME_BACK, UNCOUNTED, doubt_waits
 
 
 LINE = re.compile(r" \(.+:\d+\)$")  # the end of a frame in a file of source
@@ -30,9 +33,9 @@ def join_sketches(sketches: Sequence[Sketch], paths: Sequence[str]) -> Sketch:
     check_times(sketches, paths)
     joined = functools.reduce(join_two, [on_machine(sketch, sketches[-1].machine) for sketch in sketches])
     join_connections(joined)
-    for process in joined.processes:
-        if process.count is None:
-            doubt_wait(process, UNCOUNTED)
+    inside = insides(joined)
+    doubt_waits([process for process in joined.processes if process.count is None and process.name not in inside],
+                UNCOUNTED)
     return joined
 
 
@@ -53,8 +56,10 @@ def check_times(sketches: Sequence[Sketch], paths: Sequence[str]) -> None:
     last = max(range(len(paths)), key=lambda at: sketches[at].times[0][1])
     early = min(range(len(paths)), key=lambda at: sketches[at].times[1][0])
     if sketches[last].times[0][1] >= sketches[early].times[1][0]:
+        enough = 2 * math.ceil(sketches[last].times[0][1] - sketches[early].times[0][1])
         raise Refusal(f"the second reading of {shown(paths[early])} began before the first one of {shown(paths[last])} "
-                      "had ended, so they show no one time: take both at once, with more time between the readings")
+                      "had ended, so they show no one time: take both at once, with more time between: "
+                      f"--seconds {enough}")
 
 
 def join_two(first: Sketch, second: Sketch) -> Sketch:
@@ -123,12 +128,20 @@ def without_bystanders(process: Process, free: Dict[str, str]) -> Process:
 
 
 def new_names(first: Sketch, second: Sketch) -> Dict[str, str]:
-    """Returns for each process of the second sketch what it is called: as in the first if that has its thread, or else
-    by its own name, with its system where another one has that."""
+    """Returns for each process of the second sketch what it is called: as in the first if that has its thread, or it
+    can't be read in both, or else by its own name, with its system, its site or a number where another has that."""
     by_thread = {process.thread: process.name for process in first.processes if process.thread}
-    taken = {process.name for process in first.processes}
-    return {it.name: by_thread[it.thread] if it.thread in by_thread else
-            it.name if it.name not in taken else f"{it.name} ({second.system})" for it in second.processes}
+    mine = {process.name for process in first.processes}
+    unread = {process.name for process in first.processes if process.frames == [UNREADABLE]}
+    names = {process.name: process.name for process in second.processes}
+    for name, process in ((process.name, process) for process in second.processes):
+        own = process.site if second.system in first.system else second.system, process.site, process.thread
+        forms = (f"{name} ({more})" for more in itertools.chain(filter(None, own), itertools.count(2)))
+        if process.thread in by_thread:
+            names[name] = by_thread[process.thread]
+        elif name in mine and not (name in unread and process.frames == [UNREADABLE]):
+            names[name] = next(form for form in forms if form not in mine and form not in names)
+    return names
 
 
 def new_premises(first: Sketch, second: Sketch) -> Dict[str, str]:
@@ -147,7 +160,8 @@ def rename(sketch: Sketch, names: Dict[str, str], premises: Dict[str, str]) -> S
             lists[id(some.who)] = [names[name] for name in some.names()]
         return some._replace(who=lists[id(some.who)], because=tuple(reasons.get(it, it) for it in some.because))
 
-    processes = [replace(it, name=names[it.name], parts=[tuple(map(of, part)) for part in it.parts],
+    parts_of = once(lambda parts: [tuple(map(of, part)) for part in parts])
+    processes = [replace(it, name=names[it.name], parts=parts_of(it.parts),
                          because=[reasons.get(reason, reason) for reason in it.because]) for it in sketch.processes]
     return replace(sketch, processes=processes, in_transit=[(names[a], names[b]) for a, b in sketch.in_transit],
                    premises={premises.get(name, name): text for name, text in sketch.premises.items()},
@@ -167,6 +181,8 @@ def join_process(one: Process, other: Process) -> Process:
     understood."""
     odd = next((it for it in (one, other) if it.is_garbled), None)
     known, less = (one, other) if one.kind != UNKNOWN else (other, one)
+    if one.sign is Sign.SLEEPS and other.sign in COME_BACK:  # (only the other one counts that it has come back)
+        known, less = other, one
     counts = [reason for reason in less.because if reason.startswith("premise ")]  # (others may last as it does)
     made = replace(known, name=one.name, site=one.site, thread=one.thread, frames=frames_of(known, less),
                    because=list(dict.fromkeys([*known.because, *counts])),
@@ -182,14 +198,14 @@ def join_process(one: Process, other: Process) -> Process:
     elif one.kind == other.kind == ANY and is_within(other, one):
         made.parts = [(*other.parts[0], *against_in(one))]
         made.because = list(dict.fromkeys([*one.because, *other.because]))
-    elif one.kind == other.kind == ANY and not {*one.whom}.isdisjoint(other.whom):  # (each may see one more)
-        made.parts = [(*one.parts[0], *other.parts[0])]
+    elif one.kind == other.kind and {*one.whom} == {*other.whom}:
         made.because = list(dict.fromkeys([*one.because, *other.because]))
-    elif one.kind != other.kind or {*one.whom} != {*other.whom}:
+    elif {one.kind, other.kind} <= {ANY, ALL} and not {*one.whom}.isdisjoint(other.whom):  # (each may see one more)
+        made.parts = [tuple(group for process in (one, other) for part in process.parts for group in part)]
+        made.because = list(dict.fromkeys([*one.because, *other.because]))
+    else:
         made.become_unknown(f"the two differ: by one it {words_for(one)}, by the other it {words_for(other)}")
         made.is_garbled = True
-    else:
-        made.because = list(dict.fromkeys([*one.because, *other.because]))
     return made
 
 

@@ -6,9 +6,11 @@ from __future__ import annotations
 import math
 from typing import Dict, FrozenSet, Iterable, List, NamedTuple, Optional, Set, Tuple
 
+from .arrow_words import broken
 from .dot import HEAD, wrap
 from .folding import ROOT
 from .picture import MESSAGE, Arrow, Picture
+from .titles import Point
 
 WIDTHS = 26, 18  # letters of a line in a box, of which the first is tried that fits
 LETTER, LINE = 6.7, 14.0  # the room of a letter, and of a line
@@ -16,7 +18,6 @@ ROW, COLUMN, MARGIN = 18.0, 44.0, 16.0  # between boxes below each other, betwee
 LANE = 14.0  # between arrows that run side by side
 TALL = 10.0  # of the place by which an arrow goes through a layer
 SWEEPS = 6
-Point = Tuple[float, float]
 Unit = int  # a block: that of a root is below 0, and a box by itself has its number
 
 
@@ -58,18 +59,6 @@ class Path(NamedTuple):
     corners: List[Point]
 
 
-def lines_of(picture: Picture, number: int, letters: int) -> List[str]:
-    """Returns the lines of a box."""
-    box = picture.boxes[number]
-    texts = [box.lines[0], *([f"on {box.site}"] if box.site else []), *box.lines[1:]]
-    return [line for text in texts for line in wrap(text, letters)]
-
-
-def broken(words: str) -> List[str]:
-    """Returns the words on an arrow in lines."""
-    return words.replace(" → ", " →\n").replace(" of these", "\nof these").split("\n") if words else []
-
-
 def width_of_words(words: str) -> float:
     return LETTER * max([0, *map(len, broken(words))])
 
@@ -100,7 +89,7 @@ class Layers:
         self.paths = [Path(number, self.path(number)) for number in self.links]
 
     def lines(self, number: int) -> List[str]:
-        return lines_of(self.picture, number, self.letters)
+        return [line for text in self.picture.boxes[number].text() for line in wrap(text, self.letters)]
 
     # Blocks
 
@@ -219,12 +208,12 @@ class Layers:
                 places = {key: place for place, key in enumerate(beside)}
                 middles = {}
                 for place, key in enumerate(columns[layer]):
-                    near = [places[other] for other in self.joined(key, layer, places)]
+                    near = [places[other] for other in self.joined(key, places)]
                     middles[key] = sum(near) / len(near) if near else place
                 columns[layer] = sorted(columns[layer], key=lambda key: middles[key])
         return columns
 
-    def joined(self, key: Tuple[int, int], layer: int, places: Dict[Tuple[int, int], int]) -> Set[Tuple[int, int]]:
+    def joined(self, key: Tuple[int, int], places: Dict[Tuple[int, int], int]) -> Set[Tuple[int, int]]:
         """Returns what of a layer beside a block, or the place of an arrow, is joined to it."""
         joined = set()
         for number, link in self.links.items():

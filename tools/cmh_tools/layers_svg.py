@@ -4,15 +4,15 @@ from __future__ import annotations
 import xml.etree.ElementTree as ElementTree
 from typing import Iterator, List, Tuple
 
+from .arrow_words import broken
 from .dot import ARROWS, CAPTION, FONT, LOOKS, notes_of, wrap
-from .layers import LETTER, LINE, MARGIN, WIDTHS, Layers, Point, Spot, broken
+from .layers import LETTER, LINE, MARGIN, WIDTHS, Layers, Spot
 from .picture import MESSAGE, Picture
-from .titles import FIT, SPACE
+from .titles import FIT, SPACE, Element, Point
 
 HEADLINE = 19.0  # the room of a line of the caption
 KEY = 16.0  # of a form in the legend
 ROOT_FILL, ROOT_EDGE = "#fff4f2", "#b3261e"
-Element = ElementTree.Element
 
 
 def element(parent: Element, name: str, **attributes: object) -> Element:

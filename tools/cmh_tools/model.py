@@ -8,7 +8,7 @@ wakers is one that nobody can end.
 from __future__ import annotations
 
 from enum import Enum
-from typing import Dict, Iterable, List, NamedTuple, Sequence, Tuple, Union
+from typing import Callable, Dict, Iterable, List, NamedTuple, Sequence, Tuple, TypeVar, Union
 
 
 class Sign(Enum):
@@ -66,15 +66,16 @@ HOWS: Dict[str, Tuple[Strength, str]] = {
     "inside": (Strength.ABLE, "stands inside of what it waits at"),
     "subscribes": (Strength.ABLE, "may send what it waits for"),
     "guess": (Strength.ABLE, "is likely to be the one, by the form of the state"),
-    "cancels": (Strength.AGAINST, "may cancel or fail its wait"),
-    "kills": (Strength.AGAINST, "may end it, or whom it waits for"),
-    "closes": (Strength.AGAINST, "may close what it waits at"),
+    "cancels": (Strength.AGAINST, "may cancel or fail a wait"),
+    "kills": (Strength.AGAINST, "may kill one that waits"),
+    "closes": (Strength.AGAINST, "may close what one waits at"),
     "releases": (Strength.AGAINST, "may give back what another one has"),
     "handles": (Strength.AGAINST, "handles a signal, and may end the wait there"),
     "finalizes": (Strength.AGAINST, "finalizes objects, and may end the wait there"),
     "repeats": (Strength.AGAINST, "is a timer that is repeated, and may end the wait"),
     "breaks": (Strength.AGAINST, "looks for waits in a circle, and breaks one off"),
     "expires": (Strength.AGAINST, "is a limit of the server's, and breaks the wait off"),
+    "own-limit": (Strength.AGAINST, "stands for limits that sessions set for themselves, which no view shows"),
     "limit": (Strength.AGAINST, "is a limit far away that ends the wait"),
     "returns": (Strength.AGAINST, "may give back a message that it has"),
     "begins": (Strength.ABLE, "may begin to send what it waits for"),
@@ -84,6 +85,7 @@ HOWS: Dict[str, Tuple[Strength, str]] = {
     "left-out": (Strength.UNSEEN, "isn't in the state"),
     "by-name": (Strength.UNSEEN, "may open it by its name"),
     "client": (Strength.UNSEEN, "is its client, and isn't in the state"),
+    "peer": (Strength.UNSEEN, "has the other end of its connection, and isn't in the state"),
     "outside": (Strength.UNSEEN, "is outside of what was read"),
     "to-come": (Strength.UNSEEN, "may still come"),
     "uncounted": (Strength.UNSEEN, "may have ended the wait between the looks: nothing counts that"),
@@ -116,6 +118,25 @@ class Wakers(NamedTuple):
 
 
 Part = Tuple[Wakers, ...]
+
+
+Answer = TypeVar("Answer")
+
+
+def once(find: Callable[[Sequence[Part]], Answer], most: int = 1 << 62) -> Callable[[Sequence[Part]], Answer]:
+    """Returns a function that finds something of the parts of each wait, once for all that share several. It keeps
+    these, at most so many, so that the id of each stays its own."""
+    known: Dict[int, Tuple[Sequence[Part], Answer]] = {}
+
+    def find_once(parts: Sequence[Part]) -> Answer:
+        if len(parts) < 2:
+            return find(parts)
+        if id(parts) not in known:
+            if len(known) >= most:
+                known.clear()
+            known[id(parts)] = parts, find(parts)
+        return known[id(parts)][1]
+    return find_once
 
 
 def wakers(how: str, who: Who, *because: str) -> Wakers:

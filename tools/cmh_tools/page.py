@@ -5,7 +5,7 @@ from __future__ import annotations
 import base64
 import hashlib
 import html
-from typing import Dict, Iterable, Iterator, List, NamedTuple, Optional, Sequence, Tuple
+from typing import Collection, Dict, Iterable, Iterator, List, NamedTuple, Optional, Sequence, Tuple
 
 from . import VERSION
 from .answer import Tree
@@ -65,29 +65,29 @@ def listed(items: Iterable[str]) -> List[str]:
 
 
 class Page:
-    """The page of an answer, which is `tree`. `states` are texts with their names."""
+    """The page of an answer, which is `tree`. `states` are texts with their names. An older answer may stand beside."""
 
     def __init__(self, this: Explanation, tree: Tree, picture: Optional[Drawing], states: States,
-                 older: Optional[Older] = None) -> None:
+                 older: Optional[Older]) -> None:
         self.this, self.tree, self.picture, self.states, self.older = this, tree, picture, states, older
         self.rows: List[Tree] = tree["processes"]
         self.index, self.restarts = this.waits.index, restarts(this)
         self.steps = next_steps(this)
         self.ways = ways_of(self.steps)
         order = sorted(range(len(self.rows)), key=self.place)
-        self.order = order if this.everything else order[:ROWS]
+        self.order = order[:self.most(order, ROWS)]
         self.on_paper = self.order[:PAPER]
         self.in_table = {*self.on_paper}
-        self.reasons = {f"{kind} {row[key]}": at for kind, key, row, at in self.all_reasons()}
+        self.reasons = {f"{kind} {row[key]}": number for kind, key, row, number in self.all_reasons()}
 
     def all_reasons(self) -> Iterator[Tuple[str, str, Tree, int]]:
         rows = [("premise", "name", row) for row in self.tree["premises"]]
         rows += [("fact", "at", row) for row in self.tree["facts"]]
-        yield from ((*row, at) for at, row in enumerate(rows))
+        yield from ((*row, number) for number, row in enumerate(rows))
 
-    def place(self, at: int) -> Tuple[int, int]:
+    def place(self, index: int) -> Tuple[int, int]:
         """Returns where a process stands in the table: in or behind which root, and then by its verdict."""
-        row = self.rows[at]
+        row = self.rows[index]
         if row["verdict"] in ("stuck", "likely"):
             return 0 if row["root"] else 1, row["root"] or row["behind"][0]
         return {"undecided": 2, "not_stuck": 3}.get(row["verdict"], 4), row["kind"] != UNKNOWN
@@ -137,12 +137,12 @@ class Page:
         yield f'<div class="beside"><div><h3>Older</h3>{heads[0]}</div><div><h3>Newer</h3>{heads[1]}</div></div>'
         rows = [f"<tr><td>{self.cell(compared.old, change.old)}</td><td>{self.cell(compared.new, change.new)}</td>"
                 f"<td>{self.root_words(change)}</td></tr>"
-                for change in compared.roots[:None if self.this.everything else ROOTS]]
+                for change in compared.roots[:self.most(compared.roots, ROOTS)]]
         if rows:
             yield '<table class="roots"><thead><tr><th scope="col">Older</th><th scope="col">Newer</th>' \
                 '<th scope="col">Which is</th></tr></thead><tbody>'
             yield from (*rows, "</tbody></table>")
-        yield from listed(f"{number_of(len(names))} {several(change, len(names))}: {self.links_or_names(names)}"
+        yield from listed(f"{number_of(len(names))} {several(change, len(names))}: {self.links(names)}"
                           for change, names in ((change, compared.names(change)) for change in CHANGES) if names)
         yield f"<details><summary>The older picture</summary>{self.older.picture}</details>"
 
@@ -150,24 +150,18 @@ class Page:
         """Returns a root of an answer with its first members, or nothing where it isn't in it."""
         members = explanation.roots.roots[root - 1] if root else []
         names = [explanation.process(index).name for index in members]
-        return f"Root {root}: {self.links_or_names(names)}" if root else ""
+        return f"Root {root}: {self.links(names)}" if root else ""
 
     def root_words(self, change: RootChange) -> str:
-        came, left = (f"; {word} {self.links_or_names(names)}" if names else ""
+        came, left = (f"; {word} {self.links(names)}" if names else ""
                       for word, names in (("more:", change.came), ("no more:", change.left)))
         return f"{change.word}{came}{left}"
-
-    def links_or_names(self, names: Sequence[str]) -> str:
-        """Returns the first few names, with links to those that are there."""
-        most = len(names) if self.this.everything else NAMES
-        words = [self.link(name) if name in self.index else self.short(shown(name), LONG_LINK) for name in names[:most]]
-        return ", ".join(words) + (f" and {len(names) - most:,} more" if names[most:] else "")
 
     # Roots
 
     def roots(self) -> Iterator[str]:
         rows = self.tree["roots"]
-        most = len(rows) if self.this.everything else ROOTS
+        most = self.most(rows, ROOTS)
         yield from map(self.root, rows[:most])
         if rows[most:]:
             yield f"<p>And {number_of(len(rows) - most, 'root', 'roots')} more, in the table below.</p>"
@@ -182,7 +176,7 @@ class Page:
         several = self.links(members, " → ") + f" → {self.link(members[0])}" if row["is_cycle"] and \
             len(members) <= NAMES else self.links(members)
         behind = [f"<p>{number_of(len(row['behind']))} stuck behind it alone.</p>"] if row["behind"] else []
-        rests = [f"{text(it['text'])} ({self.reason_link(it)}{number_of(it['processes'])})" for it in row["rests_on"]]
+        rests = list(map(self.rest_words, row["rests_on"]))
         rests = [f"<p>It rests on {rests[0]}.</p>"] if len(rests) == 1 else ["<p>It rests on:</p>", *listed(rests)]
         return "\n".join([f'<div class="root" id="root{number}">', f"<h3>Root {number}: {words}</h3>",
                           f'<p class="restart">{text(restart[:1].upper() + restart[1:])}</p>', f"<p>{several}</p>",
@@ -191,24 +185,31 @@ class Page:
     def doubts(self, row: Tree) -> List[str]:
         """Returns the doubts of a root, and the words that say that they are none."""
         members = [self.index[name] for name in row["members"]]
-        found = self.this.doubts_of(members)
-        if not found:
+        doubts = self.this.doubts_of(members)
+        if not doubts:
             return []
-        items = [f"{doubt.number}: {text(self.this.doubt_words(doubt, members))}" for doubt in found]
-        numbers = ",".join(str(doubt.number) for doubt in found)
+        items = [f"{doubt.number}: {text(self.this.doubt_words(doubt, members))}" for doubt in doubts]
+        numbers = ",".join(str(doubt.number) for doubt in doubts)
         return ["<p>Unless</p>", *listed(items),
                 f"<p>If none of them is so: <code>cmh-stall FOLDER --true {numbers}</code></p>"]
 
-    def reason_link(self, row: Tree) -> str:
-        """Returns the link to a fact or a premise, with a comma behind it, or nothing."""
-        at = self.reasons.get(f"{row['kind']} {row['name']}")
-        return "" if at is None else f'<a href="#r{at}">{text(row["name"])}</a>, '
+    def rest_words(self, row: Tree) -> str:
+        """Returns on what a root rests, with the fact or the premise if it is one, and for how many."""
+        name = self.to_reason(f"{row['kind']} {row['name']}", text(row["name"])) if row["name"] else ""
+        return f"{text(row['text'])} ({', '.join(filter(None, [name, number_of(row['processes'])]))})"
+
+    def to_reason(self, reason: str, words: str) -> str:
+        """Returns words with the link to a fact or a premise, if it is one."""
+        number = self.reasons.get(reason)
+        return words if number is None else f'<a href="#r{number}">{words}</a>'
 
     def link(self, name: str) -> str:
-        """Returns a name with the link to its row, if that is there."""
-        at = self.index[name]
-        words = self.short(self.this.name(at), LONG_LINK)
-        return f'<a href="#p{at}">{words}</a>' if at in self.in_table else words
+        """Returns a name with the link to its row, if that is there. One of an older answer may have none."""
+        if name not in self.index:
+            return self.short(shown(name), LONG_LINK)
+        index = self.index[name]
+        words = self.short(self.this.name(index), LONG_LINK)
+        return f'<a href="#p{index}">{words}</a>' if index in self.in_table else words
 
     def short(self, words: str, most: int = LONG) -> str:
         """Returns a text, at most its beginning."""
@@ -216,9 +217,13 @@ class Page:
 
     def links(self, names: Sequence[str], between: str = ", ") -> str:
         """Returns the links of some names, at most the first few and how many more there are."""
-        most = len(names) if self.this.everything else NAMES
+        most = self.most(names, NAMES)
         more = f" and {len(names) - most:,} more" if names[most:] else ""
         return between.join(map(self.link, names[:most])) + more
+
+    def most(self, rows: Collection[object], number: int) -> int:
+        """Returns how many of some rows are shown: so many at most, unless all are asked for."""
+        return len(rows) if self.this.everything else number
 
     # Undecided, and not stuck
 
@@ -231,7 +236,7 @@ class Page:
         yield from self.unknown_ones(rows)
         facts = self.this.proposals()
         if facts:
-            lines = [*(it.text() for it in facts[:LINES]), *legend(facts, self.this.waits.processes)]
+            lines = [*(fact.text() for fact in facts[:LINES]), *legend(facts, self.this.waits.processes)]
             yield "<p>Facts that would decide them, to be completed:</p>"
             yield f"<pre>{text_of_lines(lines)}</pre>"
 
@@ -240,7 +245,7 @@ class Page:
         groups: Dict[str, List[Tree]] = {}
         for row in rows:
             groups.setdefault(self.wait(self.index[row["name"]]), []).append(row)
-        most = len(groups) if self.this.everything else LINES
+        most = self.most(groups, LINES)
         items = []
         for reason, (first, *others) in list(groups.items())[:most]:
             names = self.links([row["name"] for row in (first, *others)])
@@ -257,17 +262,16 @@ class Page:
 
     def supposed(self) -> Iterator[str]:
         """Yields those that run on a premise, and do the same."""
-        for name, some in self.this.supposed(with_limits=True).items():
+        for name, indices in self.this.supposed(with_limits=True).items():
             groups: Dict[str, List[str]] = {}
-            for at in some:
-                groups.setdefault(self.rows[at]["reason"] or "runs", []).append(self.rows[at]["name"])
+            for index in indices:
+                groups.setdefault(self.rows[index]["reason"] or "runs", []).append(self.rows[index]["name"])
             for reason, names in groups.items():
                 yield f"{self.links(names)}: {text(reason)}, on the {self.premise_link(name)}"
 
     def premise_link(self, name: str) -> str:
-        at, sentence = self.reasons.get(f"premise {name}"), self.this.dump.sketch.premises.get(name, name)
-        words = f"premise that {text(sentence)}"
-        return words if at is None else f'<a href="#r{at}">{words}</a>'
+        sentence = self.this.dump.sketch.premises.get(name, name)
+        return self.to_reason(f"premise {name}", f"premise that {text(sentence)}")
 
     def limits(self) -> List[str]:
         limits = [f"{row['fact']}  # {', '.join(row['names'][:NAMES])}" for row in self.tree["limits"]]
@@ -303,23 +307,23 @@ class Page:
                 *(f'<th scope="col">{head}</th>' for head in HEADS), "</tr></thead>\n<tbody>",
                 *map(self.row, self.on_paper), "</tbody>\n</table>\n</div>"]
 
-    def row(self, at: int) -> str:
-        row = self.rows[at]
+    def row(self, index: int) -> str:
+        row = self.rows[index]
         sort = f"{row['verdict']} inroot" if row["root"] else row["verdict"]
-        cells = (self.answer(row, at), self.short(row["site"] or ""), self.short(row["note"]), self.wait(at),
-                 self.way(at), self.rests(row))
+        cells = (self.answer(row, index), self.short(row["site"] or ""), self.short(row["note"]), self.wait(index),
+                 self.way(index), self.rests(row))
         body = "".join(f"<td>{cell}</td>" for cell in cells)
-        return f'<tr id="p{at}" class="{sort}"><th scope="row">{self.short(self.this.name(at))}</th>{body}</tr>'
+        return f'<tr id="p{index}" class="{sort}"><th scope="row">{self.short(self.this.name(index))}</th>{body}</tr>'
 
-    def answer(self, row: Tree, at: int) -> str:
-        words = text(self.this.answer(at))
+    def answer(self, row: Tree, index: int) -> str:
+        words = text(self.this.answer(index))
         root = row["root"] or next(iter(row["behind"]), None)
         has_part = root is not None and (self.this.everything or root <= ROOTS)
         return f'<a href="#root{root}">{words}</a>' if has_part else words
 
-    def wait(self, at: int) -> str:
+    def wait(self, index: int) -> str:
         """Returns whom one waits for, with links, or why it doesn't."""
-        row, lists = self.rows[at], self.tree["lists"]
+        row, lists = self.rows[index], self.tree["lists"]
         names = row["waits_for"] or lists.get(row["waits_for_list"], [])
         if row["kind"] not in (ANY, ALL) or not names:
             return text(said_of(self.this, row, self.tree))
@@ -327,45 +331,43 @@ class Page:
         sent = f"; a message is in transit from {self.links(row['in_transit_from'])}" if row["in_transit_from"] else ""
         return f"{several}{self.links(names)}{sent}"
 
-    def way(self, at: int) -> str:
+    def way(self, index: int) -> str:
         """Returns the way from one to what its answer rests on: the first few steps, and the last one."""
-        if at not in self.ways:
-            return text(end_words(self.this, self.rows[at], at))
-        length, end = self.ways[at]
-        steps, last = [], at
+        if index not in self.ways:
+            return text(end_words(self.this, self.rows[index], index))
+        length, end = self.ways[index]
+        steps, last = [], index
         for _ in range(min(length, STEPS)):
             last = self.steps[last]
             steps.append(last)
         steps += [] if last == end else [end]
-        links = [self.link(self.rows[it]["name"]) for it in steps]
+        links = [self.link(self.rows[step]["name"]) for step in steps]
         if length > len(steps):
             links.insert(-1, f"{length - len(steps):,} more")
         return f"→ {' → '.join(links)}, {text(end_words(self.this, self.rows[end], end))}"
 
     def rests(self, row: Tree) -> str:
-        return ", ".join(self.rest(it) for it in row["rests_on"]) or text(row["reason"])
+        return ", ".join(self.rest(reason) for reason in row["rests_on"]) or text(row["reason"])
 
     def rest(self, reason: str) -> str:
-        at = self.reasons.get(reason)
-        kind, _, name = reason.partition(" ")
-        words = text(WORDS.get(reason) or name)
-        return words if at is None else f'<a href="#r{at}">{words}</a>'
+        return self.to_reason(reason, text(WORDS.get(reason) or reason.partition(" ")[2]))
 
     # Reasons, and the state
 
     def reason_parts(self) -> List[str]:
         items = []
-        for kind, key, row, at in self.all_reasons():
+        for kind, key, row, number in self.all_reasons():
             words = text(row["text"])
             words = f"the premise that {words}" if kind == "premise" else f"<code>{words}</code>"
             name = text(row[key])
-            items.append(f'<span id="r{at}">{name}</span>: {words} ({number_of(row["processes"])})')
+            items.append(f'<span id="r{number}">{name}</span>: {words} ({number_of(row["processes"])})')
         return listed(items)
 
     def state_parts(self) -> Iterator[str]:
-        for name, lines in self.states:
+        for name, state in self.states:
+            lines = html.escape("\n".join(map(escaped, state.splitlines())))
             yield f'<details class="lines" data-name="{text(name)}"><summary><h3>{text(name)}</h3></summary>\n' \
-                f"<pre>{html.escape(escaped_lines(lines))}</pre></details>"
+                f"<pre>{lines}</pre></details>"
 
 
 def hang(number: int, before: str, behind: str) -> str:
@@ -385,16 +387,5 @@ def text_of_section(section: Section) -> str:
     return f'<section aria-labelledby="{section.name}" id="{section.name}part">\n{head}\n{body}\n</section>\n'
 
 
-def escaped_lines(lines: str) -> str:
-    """Returns the lines of a state, which stand there whole."""
-    return "\n".join(map(escaped, lines.splitlines()))
-
-
 def text_of_lines(lines: Iterable[str]) -> str:
     return "\n".join(map(text, lines))
-
-
-def page(this: Explanation, tree: Tree, picture: Optional[Drawing], states: States = (),
-         older: Optional[Older] = None) -> str:
-    """Returns the text of the page of an answer, beside which an older one may stand."""
-    return Page(this, tree, picture, states, older).html()

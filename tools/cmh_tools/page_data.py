@@ -116,12 +116,11 @@ class Data:
     def picture_columns(self, picture: Optional[Picture]) -> Tree:
         if picture is None:
             return {"box": [-1] * len(self.order), "boxes": [], "arrows": []}
-        boxes = [[*box.lines[:1], *([f"on {box.site}"] if box.site else []), *box.lines[1:]] for box in picture.boxes]
         arrows = [[arrow.start, [arrow.end] if not arrow.to_root else
                    [box.number for box in picture.boxes if box.part == picture.boxes[arrow.end].part]]
                   for arrow in picture.arrows]
         return {"box": [picture.box_of.get(index, -1) for index in self.order], "arrows": arrows,
-                "boxes": [[shown(line, MOST_OF_LINE) for line in lines] for lines in boxes]}
+                "boxes": [[shown(line, MOST_OF_LINE) for line in box.text()] for box in picture.boxes]}
 
 
 def said_of(this: Explanation, row: Tree, tree: Tree) -> str:

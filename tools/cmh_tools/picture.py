@@ -34,6 +34,10 @@ class Box(NamedTuple):
     site: str
     is_at_one_site: bool
 
+    def text(self, has_site: bool = True) -> List[str]:
+        """Returns its lines with its site, if that is told, behind its name."""
+        return [*self.lines[:1], *([f"on {self.site}"] if has_site and self.site else []), *self.lines[1:]]
+
 
 class Arrow(NamedTuple):
     """From a box to one that it waits for, or, if `to_root`, to several of the root that this is in, also through
@@ -53,23 +57,24 @@ class Picture:
     `is_whole`, nothing is folded or left out; else there are at most `most` boxes, and who only stands for others has
     none."""
 
-    def __init__(self, explanation: Explanation, at: Optional[int] = None, is_whole: bool = False,
+    def __init__(self, explanation: Explanation, index: Optional[int] = None, is_whole: bool = False,
                  most: int = MOST) -> None:
-        self.this, self.waits, self.at, self.is_whole = explanation, explanation.waits, at, is_whole
-        chain = [] if at is None else explanation.chain(at)
-        drawn = list(range(self.waits.number)) if at is None else self.with_root(chain)
+        self.this, self.waits, self.at, self.is_whole = explanation, explanation.waits, index, is_whole
+        chain = [] if index is None else explanation.chain(index)
+        drawn = list(range(self.waits.number)) if index is None else self.with_root(chain)
         others = set() if is_whole else stand_for_others(explanation).difference(chain)
         self.stand_ins = len(others.intersection(drawn)) if not others.issuperset(drawn) else 0
         drawn = [number for number in drawn if number not in others] if self.stand_ins else drawn
         self.has_sites = len({process.site for process in self.waits.processes}) > 1
         rows = Folding(explanation, drawn, {*chain[:ENDS], *chain[-ENDS:]}, is_whole, most).rows()
         self.boxes = [self.box(number, part, row) for number, (part, row) in enumerate(rows)]
-        self.box_of = {it: box.number for box in self.boxes for it in box.members}
+        self.box_of = {member: box.number for box in self.boxes for member in box.members}
         self.restarts = restarts(explanation)
         self.pairs = list(self.in_transit())
         self.left_out = 0  # arrows that aren't drawn
         self.within: Set[int] = set()  # boxes of which some wait for others in them, with no arrow for that
-        self.arrows = [it._replace(words=self.words_of(it)) for it in (*self.waits_of_boxes(), *self.messages())]
+        self.arrows = [arrow._replace(words=self.words_of(arrow))
+                       for arrow in (*self.waits_of_boxes(), *self.messages())]
         self.ring = self.places_in_rings()
 
     def places_in_rings(self) -> Dict[int, Tuple[int, int]]:
@@ -107,7 +112,7 @@ class Picture:
             return ""
         if self.restarts:
             return restart_of_all(self.this, self.restarts)
-        unknown = [at for at, _ in self.this.unknown_ones(1)]
+        unknown = [index for index, _ in self.this.unknown_ones(1)]
         if not unknown:
             return ""
         reason = shown(self.waits.processes[unknown[0]].reason)
@@ -128,34 +133,34 @@ class Picture:
     def around(self, number: int) -> str:
         """Returns who waits for whom in a root, each with its line of source: all of it if it is one cycle."""
         members = self.this.roots.roots[number]
-        found = self.this.cycle(number) or self.this.shortest_cycle(number)
-        names = [self.placed(at) for at in found[:AROUND]]
+        cycle = self.this.cycle(number) or self.this.shortest_cycle(number)
+        names = [self.placed(index) for index in cycle[:AROUND]]
         if not names[1:]:
             return f"{names[0]} waits for itself" if names else ""
-        names += [f"{len(found) - AROUND:,} more"] if found[AROUND:] else []
-        return f"{'' if len(found) == len(members) else 'in it: '}{' → '.join([*names, self.this.name(found[0])])}"
+        names += [f"{len(cycle) - AROUND:,} more"] if cycle[AROUND:] else []
+        return f"{'' if len(cycle) == len(members) else 'in it: '}{' → '.join([*names, self.this.name(cycle[0])])}"
 
-    def placed(self, at: int) -> str:
+    def placed(self, index: int) -> str:
         """Returns the name of one with its line of source, if that is known."""
-        process = self.waits.processes[at]
-        found = PLACE.search(process.frames[0] if process.frames else process.note)
-        return f"{self.this.name(at)} ({shown(found[1])})" if found else self.this.name(at)
+        process = self.waits.processes[index]
+        place = PLACE.search(process.frames[0] if process.frames else process.note)
+        return f"{self.this.name(index)} ({shown(place[1])})" if place else self.this.name(index)
 
     # Boxes
 
     def box(self, number: int, part: Part, members: Row) -> Box:
         lines = self.lines_of_one(part, members[0]) if len(members) == 1 else self.lines_of_many(part, members)
-        sites = {self.waits.processes[at].site for at in members}
+        sites = {self.waits.processes[member].site for member in members}
         named = [called_site(site) for site in sites if site is not None] if self.has_sites else []
         site = f"{len(named):,} sites" if named[1:] else "".join(named if len(sites) == 1 else [])
         return Box(number, part, members, [line for line in lines if line], site, len(sites) == 1)
 
-    def lines_of_one(self, part: Part, at: int) -> List[str]:
-        reason = shown(self.waits.processes[at].reason)
-        state = {OPEN: f"unknown: {reason}" if reason else "unknown", OVER: self.this.answer(at),
+    def lines_of_one(self, part: Part, index: int) -> List[str]:
+        reason = shown(self.waits.processes[index].reason)
+        state = {OPEN: f"unknown: {reason}" if reason else "unknown", OVER: self.this.answer(index),
                  RUNNING: f"runs: {reason}" if reason else "runs",
-                 FREE: self.this.goes_on_words(at) if self.waits.is_awake(at) else ""}
-        return [self.this.name(at), self.this.note(at), state.get(part.sort, "")]
+                 FREE: self.this.goes_on_words(index) if self.waits.is_awake(index) else ""}
+        return [self.this.name(index), self.this.note(index), state.get(part.sort, "")]
 
     def lines_of_many(self, part: Part, members: Row) -> List[str]:
         if part.sort == MORE:
@@ -173,11 +178,11 @@ class Picture:
         return [head, self.place_of(members), f"{names} and {len(members) - len(shown_ones):,} more"]
 
     def has_one_unknown(self) -> bool:
-        return sum(self.waits.kinds[at] == UNKNOWN for at in self.this.undecided) == 1
+        return sum(self.waits.kinds[index] == UNKNOWN for index in self.this.undecided) == 1
 
     def lines_of_more(self, members: Row) -> List[str]:
-        inside = sum(at in self.this.roots.root_of for at in members)
-        numbers = {self.this.roots.above[at][0] for at in members}
+        inside = sum(member in self.this.roots.root_of for member in members)
+        numbers = {self.this.roots.above[member][0] for member in members}
         notes = {number: sorted(map(self.this.note, self.this.roots.roots[number])) for number in (0, *numbers)}
         like = " like root 1" if all(notes[number] == notes[0] for number in numbers) else ""
         return [f"{number_of(len(numbers), 'root', 'roots')} more{like}", f"{number_of(inside)} in them",
@@ -185,38 +190,40 @@ class Picture:
 
     def examples(self, members: Row) -> Row:
         """Returns a few of a box that are named: of those that stand where most do, if that is said."""
-        notes = [self.this.note(at) for at in members]
+        notes = [self.this.note(member) for member in members]
         (often, _), = Counter(notes).most_common(1)
-        return [at for at, note in zip(members, notes) if note == often][:NAMES]
+        return [member for member, note in zip(members, notes) if note == often][:NAMES]
 
     def place_of(self, members: Row) -> str:
         """Returns where those of a box stand: what all or many have as their note, or as their line, or how many
         places."""
-        notes = [self.this.note(at) for at in members]
+        notes = [self.this.note(member) for member in members]
         if not any(notes):
-            return most_of([shown(self.waits.processes[at].reason) for at in members], "for {:,} reasons", "reason")
-        lines = {shown(frame) for at in members for frame in self.waits.processes[at].frames[:1]}
+            reasons = [shown(self.waits.processes[member].reason) for member in members]
+            return most_of(reasons, "for {:,} reasons", "reason")
+        lines = {shown(frame) for member in members for frame in self.waits.processes[member].frames[:1]}
         is_one_line = len(lines) == 1 and len(set(notes)) > 1
         return f"at {lines.pop()}" if is_one_line else most_of(notes, "at {:,} places", "place")
 
     # Arrows
 
     def waits_of_boxes(self) -> List[Arrow]:
-        found: Dict[Tuple[int, str], Dict[int, None]] = {}
+        by_kind: Dict[Tuple[int, str], Dict[int, None]] = {}
         hubs: Dict[int, List[int]] = {}
         for box in self.boxes:
-            for at in box.members if box.part.sort != MORE else ():
-                ends = found.setdefault((box.number, self.waits.kinds[at]), {})
-                ends.update(dict.fromkeys(self.ends_of(at, hubs)))
-        return [arrow for (start, style), ends in found.items() for arrow in self.arrows_of(start, style, list(ends))]
+            for member in box.members if box.part.sort != MORE else ():
+                ends = by_kind.setdefault((box.number, self.waits.kinds[member]), {})
+                ends.update(dict.fromkeys(self.ends_of(member, hubs)))
+        return [arrow for (start, style), ends in by_kind.items() for arrow in self.arrows_of(start, style, list(ends))]
 
-    def ends_of(self, at: int, hubs: Dict[int, List[int]]) -> List[int]:
+    def ends_of(self, index: int, hubs: Dict[int, List[int]]) -> List[int]:
         """Returns the boxes of those that one waits for. `hubs` keeps those of the lists that several share."""
-        if not self.waits.has_hub(at):
-            return [self.box_of[it] for it in self.waits.left[at] if it in self.box_of]
-        hub = self.waits.left[at][0]
+        if not self.waits.has_hub(index):
+            return [self.box_of[other] for other in self.waits.left[index] if other in self.box_of]
+        hub = self.waits.left[index][0]
         if hub not in hubs:
-            hubs[hub] = list(dict.fromkeys(self.box_of[it] for it in self.waits.left[hub] if it in self.box_of))
+            others = (other for other in self.waits.left[hub] if other in self.box_of)
+            hubs[hub] = list(dict.fromkeys(self.box_of[other] for other in others))
         return hubs[hub]
 
     def arrows_of(self, start: int, style: str, ends: List[int]) -> List[Arrow]:
@@ -254,15 +261,15 @@ class Picture:
 
     def kept(self, start: int, arrows: List[Arrow]) -> List[Arrow]:
         """Returns the arrows from a box that a large picture has."""
-        kept = [it for it in arrows if answer_of(self.boxes[it.end]) == answer_of(self.boxes[start])]
-        kept = sorted(kept, key=lambda it: SORTS.index(self.boxes[it.end].part.sort))[:ARROWS]
+        kept = [arrow for arrow in arrows if answer_of(self.boxes[arrow.end]) == answer_of(self.boxes[start])]
+        kept = sorted(kept, key=lambda arrow: SORTS.index(self.boxes[arrow.end].part.sort))[:ARROWS]
         self.left_out += len(arrows) - len(kept)
         return kept
 
     def messages(self) -> List[Arrow]:
         """Returns the messages in transit that end a wait."""
-        found = dict.fromkeys((self.box_of[sender], self.box_of[receiver]) for sender, receiver in self.pairs)
-        return [Arrow(start, end, MESSAGE) for start, end in found]
+        pairs = dict.fromkeys((self.box_of[sender], self.box_of[receiver]) for sender, receiver in self.pairs)
+        return [Arrow(start, end, MESSAGE) for start, end in pairs]
 
     def in_transit(self) -> Iterator[Tuple[int, int]]:
         """Yields who has sent whom a message that is in transit and ends a wait."""
@@ -294,10 +301,10 @@ class Picture:
         """Returns whom some have, those that share a list once, and whether a list is of one alone."""
         if style == MESSAGE:
             sent = by_first(self.pairs)
-            return [([at], sent.get(at, []), True) for at in members]
-        some = [at for at in members if self.waits.kinds[at] == style]
-        hubs = by_first((self.waits.left[at][0], at) for at in some if self.waits.has_hub(at))
-        own = [([at], self.waits.left[at], True) for at in some if not self.waits.has_hub(at)]
+            return [([member], sent.get(member, []), True) for member in members]
+        waiting = [member for member in members if self.waits.kinds[member] == style]
+        hubs = by_first((self.waits.left[member][0], member) for member in waiting if self.waits.has_hub(member))
+        own = [([member], self.waits.left[member], True) for member in waiting if not self.waits.has_hub(member)]
         return [*own, *((row, self.waits.left[hub], False) for hub, row in hubs.items())]
 
     def sentences(self) -> Iterator[str]:
@@ -324,12 +331,12 @@ def called_site(site: str) -> str:
 
 def restarts(this: Explanation) -> List[str]:
     """Returns for each root what breaks it. Of those that the same breaks, the first one says so."""
-    found: Dict[FrozenSet[str], List[int]] = {}
+    roots_by_cure: Dict[FrozenSet[str], List[int]] = {}
     words = list(map(this.restart, range(len(this.roots.roots))))
     for number, cure in enumerate(this.cures.of):
         if cure.units:
-            found.setdefault(frozenset(cure.units), []).append(number)
-    for first, *others in found.values():
+            roots_by_cure.setdefault(frozenset(cure.units), []).append(number)
+    for first, *others in roots_by_cure.values():
         words[first] += breaks_words(this, [first, *others]) if others else ""
         for number in others:
             words[number] = f"{TOGETHER}{first + 1} breaks it too"
@@ -338,14 +345,14 @@ def restarts(this: Explanation) -> List[str]:
 
 def restart_of_all(this: Explanation, words: List[str]) -> str:
     """Returns in a sentence what breaks all roots: one restart, or one for each if there is one of each."""
-    if all(it == f"{TOGETHER}1 breaks it too" for it in words[1:]):
+    if all(line == f"{TOGETHER}1 breaks it too" for line in words[1:]):
         return f"{words[0][:1].upper()}{words[0][1:]}."
     units = [cure.units for cure in this.cures.of]
     if any(len(alone) != 1 or alone[0] in this.cures.remedies for alone in units):
         return ""
     names = list(dict.fromkeys(this.cures.called(alone[0]) for alone in units))
-    each = "each breaks one root" if len(names) == len(units) else "each breaks those in it"
-    return f"Restart {this.some(names, ' and ')}: {each}."
+    words_of_each = "each breaks one root" if len(names) == len(units) else "each breaks those in it"
+    return f"Restart {this.some(names, ' and ')}: {words_of_each}."
 
 
 def breaks_words(this: Explanation, numbers: List[int]) -> str:
@@ -367,7 +374,7 @@ def most_of(texts: List[str], several: str, one: str) -> str:
 
 def answer_of(box: Box) -> int:
     """Returns which answer a box has: stuck, undecided, or not stuck."""
-    return next(at for at, sorts in enumerate(ANSWERS) if box.part.sort in sorts)
+    return next(place for place, sorts in enumerate(ANSWERS) if box.part.sort in sorts)
 
 
 def headline(this: Explanation) -> str:
@@ -393,7 +400,7 @@ def stuck_words(this: Explanation) -> str:
 
 def undecided_words(this: Explanation) -> str:
     """Returns in a sentence how many are undecided: unknown themselves, or as they hang on these."""
-    unknown = sum(this.waits.kinds[at] == UNKNOWN for at in this.undecided)
+    unknown = sum(this.waits.kinds[index] == UNKNOWN for index in this.undecided)
     hang, whom = len(this.undecided) - unknown, "it" if unknown == 1 else "them"
     head = f"{len(this.undecided):,}{' more' if this.stuck else ''} {are(this.undecided)}"
     if not hang or not unknown:
@@ -401,5 +408,5 @@ def undecided_words(this: Explanation) -> str:
     return f"{head} undecided: {unknown:,} unknown, {number_of(hang, 'hangs', 'hang')} on {whom}."
 
 
-def are(some: Row) -> str:
-    return "is" if len(some) == 1 else "are"
+def are(indices: Row) -> str:
+    return "is" if len(indices) == 1 else "are"

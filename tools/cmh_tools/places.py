@@ -32,21 +32,21 @@ class Place:
         return together(
             first(values_of_frames(self.frames, frames, start) for start in starts),
             first(values_of(name, process.name) for name in self.names) if self.names else {},
-            first(values_of(self.operation, it) for it in operations(process)) if self.operation else {})
+            first(values_of(self.operation, operation) for operation in operations(process)) if self.operation else {})
 
 
-def first(some: Iterable[Optional[Values]]) -> Optional[Values]:
-    return next((it for it in some if it is not None), None)
+def first(matches: Iterable[Optional[Values]]) -> Optional[Values]:
+    return next((match for match in matches if match is not None), None)
 
 
-def together(*some: Optional[Values]) -> Optional[Values]:
+def together(*matches: Optional[Values]) -> Optional[Values]:
     """Returns the values of all parts, or None if a part doesn't match, or two have another value for one variable."""
-    found: Values = {}
-    for values in some:
-        if values is None or any(found.get(name, value) != value for name, value in values.items()):
+    values_of_all: Values = {}
+    for values in matches:
+        if values is None or any(values_of_all.get(name, value) != value for name, value in values.items()):
             return None
-        found.update(values)
-    return found
+        values_of_all.update(values)
+    return values_of_all
 
 
 @functools.lru_cache(maxsize=None)
@@ -71,8 +71,8 @@ def expression_of(part: str, names: Set[str]) -> str:
 @functools.lru_cache(maxsize=65536)
 def values_of(pattern: str, text: str) -> Optional[Values]:
     """Returns the values of the variables of a pattern if a text is like it, or None."""
-    found = pattern_of(pattern).fullmatch(text)
-    return found.groupdict() if found else {} if text == pattern else None
+    match = pattern_of(pattern).fullmatch(text)
+    return match.groupdict() if match else {} if text == pattern else None
 
 
 def is_like(pattern: str, text: str) -> bool:
@@ -82,31 +82,31 @@ def is_like(pattern: str, text: str) -> bool:
 @functools.lru_cache(maxsize=65536)
 def values_of_frame(pattern: str, text: str) -> Optional[Values]:
     """Returns the values if a frame matches: its function, with its line, its file and line, or the whole."""
-    found = FRAME.match(text)
+    match = FRAME.match(text)
     texts = [text]
-    if found:
-        function, file, line = found.group("function", "file", "line")
+    if match:
+        function, file, line = match.group("function", "file", "line")
         texts += [function, f"{function}:{line}", f"{file}:{line}", f"{file.split('/')[-1]}:{line}"]
-    return first(values_of(pattern, it) for it in texts)
+    return first(values_of(pattern, form) for form in texts)
 
 
 def values_of_frames(patterns: List[str], frames: List[str], start: int) -> Optional[Values]:
     """Returns the values if the frame at `start` matches the first pattern, and frames further out the others in turn.
     """
-    found = values_of_frame(patterns[0], frames[start])
-    at = start + 1
+    values = values_of_frame(patterns[0], frames[start])
+    place = start + 1
     for pattern in patterns[1:]:
-        while at < len(frames) and values_of_frame(pattern, frames[at]) is None:
-            at += 1
-        found = together(found, values_of_frame(pattern, frames[at])) if at < len(frames) else None
-        at += 1
-    return found
+        while place < len(frames) and values_of_frame(pattern, frames[place]) is None:
+            place += 1
+        values = together(values, values_of_frame(pattern, frames[place])) if place < len(frames) else None
+        place += 1
+    return values
 
 
 def operations(process: Process) -> List[str]:
     """Returns what OPERATION is matched with: 'FutureTask.get', 'get', and both with each object."""
     names = dict.fromkeys([process.operation, QUALIFIER.sub("", process.operation)])
-    return [*names, *(f"{name} {it}" for name in names for it in process.objects), *noted(process)]
+    return [*names, *(f"{name} {thing}" for name in names for thing in process.objects), *noted(process)]
 
 
 def noted(process: Process) -> List[str]:

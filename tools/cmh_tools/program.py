@@ -84,13 +84,13 @@ def read_output(words: List[str], read: Callable[[IO[bytes]], Output], stdin: IO
 def deadlocked_names(data: bytes) -> Set[str]:
     """Returns the names that the program calls deadlocked in a dump, of bytes. Raises Refusal with its fault if it
     refuses the dump, and Failure if it fails. A report may have half a gigabyte, so it isn't kept."""
-    (count, found), status, said = ask(["analyse", *plan(data)], data, read_report)
+    (count, names), status, said = ask(["analyse", *plan(data)], data, read_report)
     refuse(status, said)
     if status not in (0, 3):
         raise Failure(shown(said) or f"{shown(program())} ended with status {status}")
-    if count != len(found) or (status == 3) != bool(found):
+    if count != len(names) or (status == 3) != bool(names):
         raise mismatch("report")
-    return found
+    return names
 
 
 def read_report(out: IO[bytes]) -> Tuple[int, Set[str]]:
@@ -127,13 +127,13 @@ def confirm(dump: Dump) -> None:
     it calls others deadlocked than the search found."""
     for part in range(len(dump.parts)):
         low, high = (dump.text(answer, part).encode() for answer in (dump.low, dump.high))
-        found = deadlocked_names(low)
-        compare(dump, dump.low, found, "low", part)
-        compare(dump, dump.high, found if high == low else deadlocked_names(high), "high", part)
+        names = deadlocked_names(low)
+        compare(dump, dump.low, names, "low", part)
+        compare(dump, dump.high, names if high == low else deadlocked_names(high), "high", part)
 
 
-def compare(dump: Dump, answer: Answer, found: Set[str], which: str, part: int = 0) -> None:
+def compare(dump: Dump, answer: Answer, names: Set[str], which: str, part: int = 0) -> None:
     wanted = dump.stuck_names(answer, part)
-    if found != wanted:
-        some = ", ".join(sorted(found ^ wanted)[:5])
-        raise Failure(f"the program doesn't confirm the {which} answer, on {some}: nothing is said")
+    if names != wanted:
+        differing = ", ".join(sorted(names ^ wanted)[:5])
+        raise Failure(f"the program doesn't confirm the {which} answer, on {differing}: nothing is said")

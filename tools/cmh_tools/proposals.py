@@ -11,7 +11,8 @@ from typing import Collection, Dict, Iterable, List, NamedTuple, Sequence, Set, 
 from .facts import FREES, OTHERS, STILL, is_variable, word_of
 from .model import Sign, Strength
 from .places import FRAME, is_like
-from .sketch import COMPLETE, REST, UNKNOWN, UNREADABLE, Process
+from .rule import Doubt
+from .sketch import COMPLETE, REST, UNKNOWN, UNREADABLE, Process, has_how
 from .stuck import Waits
 
 Line = Tuple[str, List[Process]]  # of facts, with those that it would decide
@@ -42,11 +43,6 @@ class Proposal(NamedTuple):
     names: List[str]
 
     @property
-    def is_complete(self) -> bool:
-        """Whether it is a guess that can be taken as it is."""
-        return self.is_guess and not self.line.endswith(f" {COMPLETE}")
-
-    @property
     def is_settled(self) -> bool:
         """Whether it says all by itself, if it is true."""
         return self.line in (LEFT_OUT, STILL) or self.line.endswith(HAS_ENDED)
@@ -58,12 +54,12 @@ class Proposal(NamedTuple):
         return f"{self.line}  # {f'{self.hint}: ' if self.hint else 'a guess, ' if self.is_guess else ''}{number}"
 
 
-def legend(found: Iterable[Proposal], processes: Iterable[Process]) -> List[str]:
+def legend(proposals: Iterable[Proposal], processes: Iterable[Process]) -> List[str]:
     """Returns what the lines that are to be completed mean, as comments of facts."""
-    if all(it.is_settled for it in found):
+    if all(one.is_settled for one in proposals):
         return []
-    families = Counter(NUMBER.sub("*", it.name) for it in processes)
-    name = max(families, key=lambda it: families[it])
+    families = Counter(NUMBER.sub("*", one.name) for one in processes)
+    name = max(families, key=lambda one: families[one])
     return [f"# {COMPLETE} stands for names, with spaces between them, as {word_of(name)}; {OTHERS}: all of them",
             *FORMS]
 
@@ -72,30 +68,32 @@ def propose(waits: Waits, quiet: Collection[str] = ()) -> List[Proposal]:
     """Returns a line of facts for each wait that isn't known, with those that it would decide. What only lacks a count
     of its waits needs one line for all. `quiet` has the names of those that need none."""
     settled = waits.decision.certain | waits.decision.likely | waits.decision.freed.keys()
-    some = [process for number, process in enumerate(waits.processes)
-            if process.name not in quiet and process.sign is not Sign.RESTS
-            and (process.kind == UNKNOWN or number not in settled and is_by_reach(process))]
-    asked = [it for it in some if it.frames and it.frames not in ([REST], [UNREADABLE], [it.name]) and is_asked(it)]
+    undecided = [process for number, process in enumerate(waits.processes)
+                 if process.name not in quiet and process.sign is not Sign.RESTS
+                 and (process.kind == UNKNOWN or number not in settled and is_by_reach(process))]
+    asked = [one for one in undecided
+             if one.frames and one.frames not in ([REST], [UNREADABLE], [one.name]) and is_asked(one)]
     words = Words(waits.processes)
-    found = [Proposal(line, "", not EMPTY.search(line), names_of(them)) for line, them in lines_of(asked, words)]
-    found += [Proposal(f"? holds {word_of(what)}", "whoever publishes that", False, names)
-              for what, names in wanted_of(some).items()]
-    found += [Proposal(f"{word_of(it.name)}{HAS_ENDED}", f"if there is none: it {it.reason}", False, [it.name])
-              for it in some if it.frames == [it.name] and it.site is None and it.frames != [REST]]
-    found += freeing_lines(waits)
-    unread = [process.name for process in some if process.frames == [UNREADABLE]]
+    proposals = [Proposal(line, "", not EMPTY.search(line), names_of(them)) for line, them in lines_of(asked, words)]
+    proposals += [Proposal(f"? holds {word_of(what)}", "whoever publishes that", False, names)
+                  for what, names in wanted_of(undecided).items()]
+    proposals += [Proposal(f"{word_of(one.name)}{HAS_ENDED}", f"if there is none: it {one.reason}", False, [one.name])
+                  for one in undecided if one.frames == [one.name] and one.site is None and one.frames != [REST]]
+    proposals += freeing_lines(waits)
+    unread = [process.name for process in undecided if process.frames == [UNREADABLE]]
     if unread:
         who = "they have" if unread[1:] else "it has"
         hint = f"if {who} nothing of what the others wait at"
-        found.append(Proposal(f"{UNREADABLE}{HAS_ENDED}", hint, False, unread))
-    lacking = [it for it in some if it.frames == [REST]]
+        proposals.append(Proposal(f"{UNREADABLE}{HAS_ENDED}", hint, False, unread))
+    lacking = [one for one in undecided if one.frames == [REST]]
     if lacking:
-        found.append(Proposal(LEFT_OUT, "if none of those that the state may lack matters", False, names_of(lacking)))
-    doubtful = [it for it in some if has_how(it, UNCOUNTED)]
+        hint = "if none of those that the state may lack matters"
+        proposals.append(Proposal(LEFT_OUT, hint, False, names_of(lacking)))
+    doubtful = [one for one in undecided if has_how(one, UNCOUNTED)]
     if doubtful:
-        found.append(Proposal(STILL, "if nothing moves, so that one place in all states is one wait", False,
-                              names_of(doubtful)))
-    return found
+        hint = "if nothing moves, so that one place in all states is one wait"
+        proposals.append(Proposal(STILL, hint, False, names_of(doubtful)))
+    return proposals
 
 
 def is_asked(process: Process) -> bool:
@@ -103,7 +101,7 @@ def is_asked(process: Process) -> bool:
     if process.is_garbled:
         return False
     is_open = has_how(process, "unshown") or has_how(process, "by-name") or is_by_reach(process)
-    return not process.parts or is_open and not any(some.what for part in process.parts for some in part)
+    return not process.parts or is_open and not any(group.what for part in process.parts for group in part)
 
 
 def is_by_reach(process: Process) -> bool:
@@ -111,20 +109,17 @@ def is_by_reach(process: Process) -> bool:
     return process.sign is Sign.BLOCKED and any(has_how(process, how) for how in REACHES)
 
 
-def has_how(process: Process, how: str) -> bool:
-    return any(some.how == how for part in process.parts for some in part)
-
-
 def freeing_lines(waits: Waits) -> List[Proposal]:
     """Returns a line for those who may end the wait of some, likely end none, and alone keep these from being stuck."""
-    decision = waits.decision
-    lists: Dict[Tuple[str, ...], List[str]] = {}
-    for doubt in decision.doubts_of_likely:
-        if doubt.who is not None and doubt.strength is not Strength.UNSEEN:
-            lists.setdefault(tuple(doubt.waits), []).append(doubt.who)
-    kept = {some: list(dict.fromkeys(names)) for some, names in lists.items()}
-    return [Proposal(freeing_nobody(names), "if that is so", False, list(some)) for some, names in kept.items()
-            if len(names) <= MOST]
+    groups: Dict[int, List[Doubt]] = {}  # by the ids of those that wait
+    for doubt in waits.decision.doubts_of_likely:
+        groups.setdefault(id(doubt.waits), []).append(doubt)
+    lists: Dict[Tuple[str, ...], Dict[str, None]] = {}
+    for doubts in groups.values():
+        names = {doubt.who: None for doubt in doubts if doubt.who is not None and doubt.strength is not Strength.UNSEEN}
+        lists.setdefault(tuple(doubts[0].waits), {}).update(names)
+    return [Proposal(freeing_nobody(names), "if that is so", False, list(waiting)) for waiting, names in lists.items()
+            if 0 < len(names) <= MOST]
 
 
 def freeing_nobody(names: Iterable[str], place: str = "*") -> str:
@@ -133,38 +128,39 @@ def freeing_nobody(names: Iterable[str], place: str = "*") -> str:
 
 
 def names_of(processes: Iterable[Process]) -> List[str]:
-    return [it.name for it in processes]
+    return [process.name for process in processes]
 
 
 def wanted_of(processes: Iterable[Process]) -> Dict[str, List[str]]:
     """Returns what facts on holders are asked for, with the names of those that wait for each."""
-    found: Dict[str, List[str]] = {}
-    for it in processes:
-        for what in (some.what for part in it.parts for some in part if some.what):
-            found.setdefault(what, []).append(it.name)
-    return found
+    waiting: Dict[str, List[str]] = {}
+    for process in processes:
+        for what in (group.what for part in process.parts for group in part if group.what):
+            waiting.setdefault(what, []).append(process.name)
+    return waiting
 
 
 def lines_of(processes: Iterable[Process], words: Words) -> List[Line]:
     """Returns the lines of facts that some processes need, most needed first. The first line that matches counts, so
     one without an operation is last."""
     places: Dict[Tuple[str, str], List[Process]] = {}
-    for it in processes:
-        places.setdefault((place_name(it), it.operation), []).append(it)
-    lines = [(not place[1], line) for place, some in places.items() for line in lines_at(some, words)]
-    return [line for _, line in sorted(lines, key=lambda it: (it[0], -len(it[1][1])))]
+    for process in processes:
+        places.setdefault((place_name(process), process.operation), []).append(process)
+    lines = [(not place[1], line) for place, at_place in places.items() for line in lines_at(at_place, words)]
+    return [line for _, line in sorted(lines, key=lambda row: (row[0], -len(row[1][1])))]
 
 
-def lines_at(some: List[Process], words: Words) -> List[Line]:
+def lines_at(processes: List[Process], words: Words) -> List[Line]:
     """Returns the lines for those at one place: one, or one for each wait there."""
-    shared = (partners_of(some, words.names) or words.relatives_of(some)) if len({is_for_all(it) for it in some}) == 1 \
-        else []
+    is_same = len(set(map(is_for_all, processes))) == 1
+    shared = (partners_of(processes, words.names) or words.relatives_of(processes)) if is_same else []
     if shared:
-        return [(line_of(some, shared), some)]
+        return [(line_of(processes, shared), processes)]
     waits: Dict[object, List[Process]] = {}
-    for it in some:
-        at = tuple(what for what in it.objects if "=" not in what and not what.startswith(OF_A_CALL))
-        waits.setdefault((tuple(it.frames), at, tuple(words.of(it)), is_for_all(it)), []).append(it)
+    for process in processes:
+        objects = tuple(what for what in process.objects if "=" not in what and not what.startswith(OF_A_CALL))
+        key = tuple(process.frames), objects, tuple(words.of(process)), is_for_all(process)
+        waits.setdefault(key, []).append(process)
     rows = list(waits.values())
     marks = tell_apart(rows) if len(rows) > 1 else [[]]
     return [(line_of(row, words.of(row[0]), mark), row) for row, mark in zip(rows, marks)]
@@ -175,9 +171,9 @@ def is_for_all(process: Process) -> bool:
     return process.is_collective or bool(process.parts) and process.is_for_all()
 
 
-def line_of(some: List[Process], words: Sequence[str], mark: Sequence[str] = ()) -> str:
+def line_of(alike: List[Process], words: Sequence[str], mark: Sequence[str] = ()) -> str:
     """Returns the line for some that wait alike. `mark` tells them from others at their place."""
-    one = some[0]
+    one = alike[0]
     operation = [word_of(one.operation)] if one.operation else []
     fact = ["all" if is_for_all(one) else "any", *map(word_of, words or [COMPLETE])]
     return " ".join([word_of(place_name(one)), *mark, *operation, "->", *fact])
@@ -189,8 +185,8 @@ def place_name(process: Process) -> str:
 
 
 def frame_name(text: str) -> str:
-    found = FRAME.match(text)
-    return f"{found['function']}:{found['line']}" if found else text
+    match = FRAME.match(text)
+    return f"{match['function']}:{match['line']}" if match else text
 
 
 # Whom the state suggests
@@ -207,11 +203,11 @@ class Words:
 
     def of(self, process: Process) -> List[str]:
         """Returns the words for the wait of one."""
-        lists = [some.names() for part in process.parts for some in part if some.how in SUGGESTS]
-        names = tuple(dict.fromkeys(name for some in lists for name in some)) if sum(map(len, lists)) <= MANY else ()
+        lists = [group.names() for part in process.parts for group in part if group.how in SUGGESTS]
+        names = tuple(dict.fromkeys(name for group in lists for name in group)) if sum(map(len, lists)) <= MANY else ()
         if names not in self.known:
-            found = self.patterns_for(names)
-            self.known[names] = [*found, COMPLETE] if 0 < len(found) <= MOST else []
+            patterns = self.patterns_for(names)
+            self.known[names] = [*patterns, COMPLETE] if 0 < len(patterns) <= MOST else []
         return self.known[names]
 
     def patterns_for(self, names: Sequence[str]) -> List[str]:
@@ -222,27 +218,27 @@ class Words:
         return list(dict.fromkeys(pattern if families[pattern] == self.taken[pattern] else name
                                   for name, pattern in zip(names, patterns)))
 
-    def relatives_of(self, some: List[Process]) -> List[str]:
+    def relatives_of(self, processes: List[Process]) -> List[str]:
         """Returns the words of some waits, if they are the same for all, and give each its own."""
-        first = self.of(some[0])
-        return first if all(self.of(it) == first for it in some) and all(map(is_variable, first)) else []
+        first = self.of(processes[0])
+        return first if all(self.of(process) == first for process in processes) and all(map(is_variable, first)) else []
 
 
-def partners_of(some: List[Process], names: Set[str]) -> List[str]:
+def partners_of(processes: List[Process], names: Set[str]) -> List[str]:
     """Returns the words for the other sides of some waits that are arguments there: 'rank-{to}'."""
-    if is_for_all(some[0]):
+    if is_for_all(processes[0]):
         return []
-    family = NUMBER.sub("", some[0].name)
-    found = []
-    for key in values_of(some[0]):
-        others = [family + values_of(it).get(key, "") for it in some]
-        if PARTNER.fullmatch(key) and all(other in names and other != it.name for it, other in zip(some, others)):
-            found.append(f"{family}{{{key}}}")
-    return found + [COMPLETE] * (TWO in some[0].operation and len(found) == 1)
+    family = NUMBER.sub("", processes[0].name)
+    patterns = []
+    for key in values_of(processes[0]):
+        others = [(process.name, family + values_of(process).get(key, "")) for process in processes]
+        if PARTNER.fullmatch(key) and all(other in names and other != name for name, other in others):
+            patterns.append(f"{family}{{{key}}}")
+    return patterns + [COMPLETE] * (TWO in processes[0].operation and len(patterns) == 1)
 
 
 def values_of(process: Process) -> Dict[str, str]:
-    return dict(it.split("=", 1) for it in process.objects if "=" in it)
+    return dict(argument.split("=", 1) for argument in process.objects if "=" in argument)
 
 
 # What tells waits apart
@@ -250,18 +246,18 @@ def values_of(process: Process) -> Dict[str, str]:
 
 def tell_apart(rows: List[List[Process]]) -> List[List[str]]:
     """Returns for each wait at one place the words that only its processes match: a caller, or their names."""
-    callers = [{frame_name(each) for each in row[0].frames[1:]} for row in rows]
-    counts = Counter(each for some in callers for each in some)
-    own = [[frame_name(each) for each in row[0].frames[1:] if counts[frame_name(each)] == 1][:1] for row in rows]
+    callers = [{frame_name(caller) for caller in row[0].frames[1:]} for row in rows]
+    counts = Counter(caller for of_row in callers for caller in of_row)
+    own = [[frame_name(caller) for caller in row[0].frames[1:] if counts[frame_name(caller)] == 1][:1] for row in rows]
     if all(own):
-        return [["<", word_of(each[0])] for each in own]
-    return [["of", *names_for([it.name for it in row], rows)] for row in rows]
+        return [["<", word_of(caller[0])] for caller in own]
+    return [["of", *names_for([process.name for process in row], rows)] for row in rows]
 
 
 def names_for(names: List[str], rows: List[List[Process]]) -> List[str]:
     """Returns the words for some names that no other process at their place has: a pattern, or all of them."""
     start = NUMBER.sub("", os.path.commonprefix(names))
-    others = {it.name for row in rows[:FEW] for it in row}.difference(names)
+    others = {process.name for row in rows[:FEW] for process in row}.difference(names)
     if len(names) > 1 and start and len(rows) <= FEW and not any(other.startswith(start) for other in others):
         return [word_of(f"{start}*")]
     return [word for name in names for word in ("or", word_of(name))][1:]

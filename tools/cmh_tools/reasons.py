@@ -5,7 +5,8 @@ from typing import Collection, Dict, Iterable, List, NamedTuple
 
 from .facts import is_variable
 from .files import MOST_OF_LINE, short_name, shown
-from .sketch import (BARE, BY_HAND, ENDED, FACT, OLDER, PREMISE, SYSTEM, Process, Sketch, lists_of_wakers, reason_of)
+from .model import Sign
+from .sketch import BARE, BY_HAND, FACT, OLDER, PREMISE, SYSTEM, Process, Sketch, lists_of_wakers, reason_of
 
 SHOWN = 5
 WORDS = {SYSTEM: "what the system itself keeps", BY_HAND: "what stands in the sketch",
@@ -29,7 +30,7 @@ class Rests:
         self.sketch = sketch
         self.took = {reason_of(row): row["took"] for row in sketch.facts}
         self.facts = {reason_of(row): row["text"] for row in sketch.facts}
-        self.ended = {it.name: it for it in sketch.processes if it.kind == ENDED and it.because != [SYSTEM]}
+        self.ended = {it.name: it for it in sketch.processes if it.sign is Sign.ENDED and it.because != [SYSTEM]}
 
     def of(self, processes: Iterable[Process], known: Collection[Reason] = ()) -> List[Reason]:
         """Returns on what some processes rest, facts first, but for what is known already. Those that they wait for and

@@ -11,7 +11,7 @@ from typing import Any, Dict, Iterator, List, Sequence, Tuple
 
 from .dump import NO_SITE, RUNNING, STUCK, Dump
 from .making import known_premises
-from .model import HOWS, Anybody, Sign, Strength, Wakers, Who
+from .model import HOWS, Anybody, Sign, Strength, Wakers, Who, once
 from .sketch import BARE, BY_HAND, DONE, FACT, NEEDED, OLDER, PREMISE, REST, SYSTEM, WORK, FactRow, Process, Sketch
 from .sketch_json import sketch_of, text_of_sketch, tree_of
 
@@ -96,23 +96,23 @@ class Redaction:
         self.names, self.sites, self.frames, self.objects, self.facts, self.operations, self.premises = map(
             Shorts, ("p", "site", "f", "o", "facts:", "operation-", "premise-"))
         self.lists: Dict[int, Who] = {}  # by their ids, so that waits share them again
+        self.parts = once(lambda parts: [tuple(map(self.wakers, part)) for part in parts])
         self.words = {*WORDS, *words_of_premises()}
         self.words.update([system] if {*system.split(" and ")} <= self.words else [])
 
-    def process(self, it: Process) -> Process:
+    def process(self, process: Process) -> Process:
         """Returns a process with what the parser's own words say of it: what it waits in, for whom, and why."""
-        return replace(it, name=self.names.of(it.name), parts=[tuple(map(self.wakers, part)) for part in it.parts],
-                       note="", thread="", meeting="", effect="",
-                       site=None if it.site is None else self.sites.of(it.site), count=None,
-                       frames=it.frames if it.frames == [REST] else self.frames.all(it.frames),
-                       operation=self.operation(it.operation), objects=self.objects.all(it.objects),
-                       because=list(map(self.because, it.because)))
+        return replace(process, name=self.names.of(process.name), parts=self.parts(process.parts), note="", thread="",
+                       site=None if process.site is None else self.sites.of(process.site), meeting="", effect="",
+                       frames=process.frames if process.frames == [REST] else self.frames.all(process.frames),
+                       operation=self.operation(process.operation), objects=self.objects.all(process.objects),
+                       count=None, because=list(map(self.because, process.because)))
 
-    def wakers(self, some: Wakers) -> Wakers:
+    def wakers(self, group: Wakers) -> Wakers:
         """Returns the wakers by their short names, with the table's own words for how they end a wait."""
-        if id(some.who) not in self.lists:
-            self.lists[id(some.who)] = some.who if isinstance(some.who, Anybody) else self.names.all(some.who)
-        return some._replace(who=self.lists[id(some.who)], because=(), what="")
+        if id(group.who) not in self.lists:
+            self.lists[id(group.who)] = group.who if isinstance(group.who, Anybody) else self.names.all(group.who)
+        return group._replace(who=self.lists[id(group.who)], because=(), what="")
 
     def operation(self, text: str) -> str:
         timed, name = (TIMED, text[len(TIMED):]) if text.startswith(TIMED) else ("", text)
@@ -130,12 +130,12 @@ class Redaction:
     def fact(self, row: FactRow) -> FactRow:
         return {"at": self.facts.of(row["at"]), "text": HIDDEN, "took": {}}
 
-    def sketch(self, it: Sketch) -> Sketch:
+    def sketch(self, sketch: Sketch) -> Sketch:
         """Returns a sketch in which only what is on the lists stands."""
-        premises = {self.premise(name): sentence for name, sentence in it.premises.items()}
-        pairs = [(self.names.of(a), self.names.of(b)) for a, b in it.in_transit]
-        made = Sketch(list(map(self.process, it.processes)), pairs, it.system, it.as_of, [], premises,
-                      list(map(self.fact, it.facts)), it.readings)
+        premises = {self.premise(name): sentence for name, sentence in sketch.premises.items()}
+        pairs = [(self.names.of(a), self.names.of(b)) for a, b in sketch.in_transit]
+        made = Sketch(list(map(self.process, sketch.processes)), pairs, sketch.system, sketch.as_of, [], premises,
+                      list(map(self.fact, sketch.facts)), sketch.readings)
         return sketch_of(self.listed(tree_of(made)), "the copy")
 
     def is_own(self, text: str) -> bool:

@@ -93,7 +93,8 @@ class Reduction:
         """Returns how many dependents it takes."""
         if self.waits.kinds[at] == ALL:
             return 1
-        return len(self.whom(at)) + (self.waits.has_hub(at) and bool(self.waits.senders[at]))
+        names = len(self.whom(at) if self.over else self.waits.left_there(at))
+        return names + (bool(self.waits.senders[at]) and self.waits.has_hub(at))
 
     def fits(self) -> bool:
         return self.processes <= PROCESSES and self.names <= DEPENDENTS
@@ -117,7 +118,7 @@ class Reduction:
     def leave_out(self) -> None:
         """Leaves out those that nobody else waits for, again and again, first those that run."""
         left = self.waits.left
-        counts = [sum(it != at for it in waiters) for at, waiters in enumerate(self.waits.waiters)]
+        counts = [len(waiters) - waiters.count(at) for at, waiters in enumerate(self.waits.waiters)]
         alone = [at for at in self.rest() if counts[at] == 0]
         alone.sort(key=lambda at: self.waits.kinds[at] == RUNS)
         while alone and not self.fits():
@@ -154,7 +155,7 @@ class Reduction:
     def key(self, at: int, receivers: List[int], there: List[bool]) -> object:
         """What twins have in common."""
         process, waits = self.waits.processes[at], self.waits
-        lists = tuple(it for it in waits.waiters[at] if there[it])
+        lists = tuple(filter(there.__getitem__, waits.waiters[at]))
         whom = tuple(sorted(waits.left[at]))
         return process.site, process.kind, whom, tuple(sorted(waits.senders[at])), tuple(sorted(receivers)), lists
 

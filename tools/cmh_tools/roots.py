@@ -1,7 +1,10 @@
 """The roots of a stall: the components of the stuck ones that no edge leaves, and who is stuck behind which of them.
 
 An edge leads from each stuck one to each stuck one of its list, for waits of both kinds, or through a hub, but not to
-those who may end its wait only in another way, as by a timer that nobody has started. So a root isn't made by a pick.
+those who may end its wait only in another way, as by a timer that nobody has started, nor to those who wait for the end
+of others of the list, as a main thread does. From one with a lock that others want, and that anybody of its process may
+free, none leads to those who wait for the same, as for a connection of a pool, and have no such lock. So a root isn't
+made by a pick, and is as small as it may be.
 """
 from __future__ import annotations
 
@@ -16,14 +19,13 @@ Edges = Dict[int, List[int]]  # from each one to others of its list
 
 class Roots:
     """`roots` are lists of members, along their waits: those first that `doubts` gives the least number, and of these
-    with most others behind them alone. `behind[r]` are those
-    stuck behind root r alone, `shared` those behind more than one. `above[p]` are the roots of p, at most MOST_ROOTS,
-    where that of one that is `sure` is a root of such alone,
-    `root_of[p]` is the one that it is a member of, and `among` has who is looked at."""
+    with most others behind them alone. `behind[r]` are those stuck behind root r alone, `shared` those behind
+    more than one. `above[p]` are the roots of p, at most MOST_ROOTS, where that of one that is `sure` is a root of such
+    alone, and `root_of[p]` is the one that it is a member of."""
 
     def __init__(self, waits: Waits, among: List[int], sure: AbstractSet[int] = frozenset(),
                  doubts: Callable[[List[int]], int] = lambda members: 0) -> None:
-        self.waits, self.among, self.doubts = waits, set(among), doubts
+        self.waits, self.doubts = waits, doubts
         self.edges = edges_among(waits, among)
         for at in sure if len(sure) < len(among) else ():
             self.edges[at] = self.sure_edges(at, sure)

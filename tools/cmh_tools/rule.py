@@ -13,14 +13,14 @@ lists, each once.
 """
 from __future__ import annotations
 
-from collections import deque
+from collections import defaultdict
 from enum import Enum
 from functools import cached_property
 from itertools import chain
-from typing import AbstractSet, Callable, Collection, Dict, FrozenSet, Iterable, Iterator, List, NamedTuple, Optional
-from typing import Sequence, Set, Tuple
+from typing import AbstractSet, Collection, DefaultDict, Dict, FrozenSet, Iterable, Iterator, List, Mapping, NamedTuple
+from typing import Optional, Sequence, Set, Tuple, Union
 
-from .model import Anybody, Part, Sign, Strength, Wakers
+from .model import Anybody, Part, Sign, Strength, Wakers, Who, once
 
 PRESENT = frozenset(Sign)  # whoever is in the state has one of these
 IDLE = frozenset((Sign.RESTS, Sign.TICKS, Sign.POLLS))  # signs of those who have nothing to do, or only come back
@@ -28,8 +28,15 @@ NOT_ASIDE = PRESENT - IDLE - {Sign.UNKNOWN}  # signs of able ones that aren't se
 BESIDE_NAMED = NOT_ASIDE - {Sign.BLOCKED}  # the same where a named one is there
 MOVING = PRESENT - IDLE - {Sign.BLOCKED, Sign.ENDED}  # signs of those who may act by themselves
 FREEING = PRESENT - {Sign.SLEEPS}  # the end of a sleep alone frees nobody, but for named ones
-ASKED = (PRESENT, NOT_ASIDE, BESIDE_NAMED, FREEING, IDLE, MOVING)
-Select = Callable[[str, Part], Optional[List[Sequence[str]]]]
+BESIDE, AT_REST = "beside a named one", "of one at rest"  # how able wakers count there, and all of one at rest
+Way = Union[Strength, str]
+Counts = Mapping[Way, FrozenSet[Optional[Sign]]]  # by the way of a waker, the signs of those who count
+EVERYBODY: Counts = {way: frozenset((*Sign, None)) for way in (*Strength, BESIDE, AT_REST)}
+LEFT: Dict[Way, FrozenSet[Sign]] = {Strength.NAMED: PRESENT, Strength.ABLE: NOT_ASIDE, BESIDE: BESIDE_NAMED}
+FREE: Counts = {Strength.NAMED: PRESENT, Strength.ABLE: FREEING, BESIDE: FREEING}
+FEED: Counts = {**FREE, AT_REST: PRESENT}
+FEW = 4  # wakers of a list that stand for themselves
+Names = Dict[int, Sequence[str]]  # lists by their ids
 
 
 class Headline(Enum):
@@ -74,57 +81,59 @@ class Decision:
         self.subjects = [wake(subject) for subject in subjects]
         self.index = {subject.name: number for number, subject in enumerate(subjects)}
         self.signs = {subject.name: subject.sign for subject in self.subjects}
-        self.named = {signs: {name for name, sign in self.signs.items() if sign in signs} for signs in ASKED}
+        self.blocked, self.resting, self.moving = map(self.numbers_of, (
+            (Sign.BLOCKED,), (Sign.RESTS,), (Sign.GOES_ON, Sign.SLEEPS)))
         self.kept: Dict[Tuple[int, FrozenSet[Sign]], Sequence[str]] = {}
-        self.lists = Lists(len(subjects), self.index)
-        self.blocked, self.resting = self.of_sign(Sign.BLOCKED), self.of_sign(Sign.RESTS)
-        self.moving = self.of_sign(Sign.GOES_ON) | self.of_sign(Sign.SLEEPS)
+        self.waits = waits_of(self.subjects)
+        self.named = {signs: self.names_of(signs) for signs in (PRESENT, NOT_ASIDE, BESIDE_NAMED, IDLE, MOVING)}
+        self.over: Set[int] = set()  # parts of which not all who are left are likely to be stuck, once that is known
+        self.behind_idle = self.those_behind_idle()
         for signs in (NOT_ASIDE, BESIDE_NAMED):
             self.named[signs] -= self.behind_idle
 
-    def of_sign(self, sign: Sign) -> Set[int]:
-        return {number for number, subject in enumerate(self.subjects) if subject.sign is sign}
+    def numbers_of(self, signs: Collection[Sign]) -> Set[int]:
+        return {number for number, subject in enumerate(self.subjects) if subject.sign in signs}
 
-    @cached_property
-    def behind_idle(self) -> Set[str]:
-        """The names of those that wait, in each part, for a named one who is idle, as for the end of a thread that
-        never ends, and for none who moves."""
-        return {self.subjects[number].name for number in self.blocked
-                if all(map(self.is_for_idle, self.subjects[number].parts))}
+    def names_of(self, signs: Collection[Sign]) -> Set[str]:
+        return {name for name, sign in self.signs.items() if sign in signs}
+
+    def those_behind_idle(self) -> Set[str]:
+        """Returns the names of those that wait, in each part, for a named one who is idle, as for the end of a thread
+        that never ends, and for none who moves."""
+        waits = self.waits if self.named[IDLE] else []
+        behind = (wait for wait in waits if wait[0] in self.blocked
+                  and all(map(self.is_for_idle, self.subjects[wait[0]].parts)))
+        return {self.subjects[number].name for wait in behind for number in wait}
 
     def is_for_idle(self, part: Part) -> bool:
         named = [wakers for wakers in part if wakers.strength is Strength.NAMED]
         return any(self.those(wakers, IDLE) for wakers in named) and not any(
             self.those(wakers, MOVING) for wakers in named)
 
-    def graph(self, select: Select) -> Graph:
-        return Graph(self.subjects, self.lists, select)
+    @cached_property
+    def graph(self) -> Graph:
+        return Graph(self)
 
     @cached_property
     def certain(self) -> Set[int]:
-        return self.graph(everybody_in).greatest(self.blocked | self.resting)
-
-    @cached_property
-    def left(self) -> Graph:
-        """The graph of those who aren't set aside."""
-        return self.graph(self.left_in)
+        return self.graph.greatest(self.blocked | self.resting, frozenset(), EVERYBODY, set())
 
     @cached_property
     def likely(self) -> Set[int]:
-        return self.left.greatest(self.blocked, self.certain)
+        waiting = self.blocked - self.certain
+        self.over = {place for place, (wait, part) in enumerate(self.graph.parts) if self.waits[wait][0] in waiting
+                     and not self.is_left(self.subjects[self.waits[wait][0]].name, part)}
+        return self.graph.greatest(self.blocked, self.certain, LEFT, self.over)
 
     @cached_property
     def freed(self) -> Dict[int, Optional[str]]:
-        return self.freeing.freed(self.moving, self.blocked)
-
-    @cached_property
-    def freeing(self) -> Graph:
-        return self.graph(self.freeing_in)
+        """Nobody that is certain to be stuck is freed."""
+        return self.graph.freed(self.moving, self.blocked - self.certain, FREE)
 
     @cached_property
     def freed_beside(self) -> Dict[int, Optional[str]]:
         """Who is freed if nobody frees those who are likely to be stuck."""
-        return self.freeing.freed(self.moving, self.blocked - self.likely)
+        return self.graph.freed(self.moving, self.blocked - self.likely, FREE)
 
     @cached_property
     def doubts_of_likely(self) -> List[Doubt]:
@@ -144,7 +153,8 @@ class Decision:
         # Where nobody goes on, one who is blocked is freed by a named one.
         if self.blocked <= self.freed.keys() and (goes_on or self.blocked) and not self.owed():
             return Headline.NONE
-        is_left = any(self.left.parts[number] for number in self.blocked)
+        is_left = any(self.is_left(self.subjects[number].name, part) for number in self.blocked
+                      for part in self.subjects[number].parts)
         return Headline.NOT_KNOWN if is_left or goes_on else Headline.IDLE
 
     def owed(self) -> Set[int]:
@@ -152,26 +162,24 @@ class Decision:
         named = {number for number in self.resting if any(map(self.has_named, self.subjects[number].parts))}
         if not named:
             return set()
-        return named - self.graph(self.feeding_in).freed(self.moving, self.blocked | self.resting).keys()
+        return named - self.graph.freed(self.moving, self.blocked | self.resting, FEED).keys()
 
-    def feeding_in(self, owner: str, part: Part) -> List[Sequence[str]]:
-        """Returns those of a part who may end it, of one at rest also those that are against."""
-        return [wakers.names() for wakers in part] if self.signs[owner] is Sign.RESTS else self.freeing_in(owner, part)
-
-    def left_in(self, owner: str, part: Part) -> Optional[List[Sequence[str]]]:
-        """Returns those of a part who aren't set aside, or None if nobody is left but the waiter: it may stand in the
-        list that all of its process share, and it wakes nobody while it waits."""
-        lists = [names for names in (self.left_of(wakers, part) for wakers in part) if names]
-        is_alone = all(len(names) == 1 and names[0] == owner for names in lists) and not self.has_named(part)
-        return None if is_alone else lists
+    def is_left(self, owner: str, part: Part) -> bool:
+        """Whether somebody of a part isn't set aside, beside the waiter: it may stand in the list that all of its
+        process share, and it wakes nobody while it waits."""
+        if self.has_named(part):
+            return True
+        lists = [self.left_of(wakers, part) for wakers in part]
+        return any(names and (len(names) > 1 or names[0] != owner) for names in lists)
 
     def left_of(self, wakers: Wakers, part: Part) -> Sequence[str]:
         """Returns those of some wakers of a part who aren't set aside."""
-        if wakers.strength is Strength.NAMED:
-            return self.those(wakers, PRESENT)
-        if wakers.strength is not Strength.ABLE:
-            return ()
-        return self.those(wakers, BESIDE_NAMED if self.has_named(part) else NOT_ASIDE)
+        way = self.way_of(wakers, part)
+        return self.those(wakers, LEFT[way]) if way in LEFT else ()
+
+    def way_of(self, wakers: Wakers, part: Part) -> Way:
+        """Returns in which way the wakers of a part count."""
+        return BESIDE if wakers.strength is Strength.ABLE and self.has_named(part) else wakers.strength
 
     def has_named(self, part: Part) -> bool:
         """Whether a named one of a part is there."""
@@ -180,16 +188,13 @@ class Decision:
                 return True
         return False
 
-    def freeing_in(self, owner: str, part: Part) -> List[Sequence[str]]:
-        """Returns those of a part who end it once they go on."""
-        return [self.those(wakers, PRESENT if wakers.strength is Strength.NAMED else FREEING) for wakers in part
-                if wakers.strength is Strength.NAMED or wakers.strength is Strength.ABLE]
-
     def those(self, wakers: Wakers, signs: FrozenSet[Sign]) -> Sequence[str]:
         """Returns those of some wakers who have one of these signs: one list for all waits that share theirs."""
+        names, named = wakers.names(), self.named[signs]
+        if len(names) == 1:
+            return names if names[0] in named else ()
         key = id(wakers.who), signs
         if key not in self.kept:
-            names, named = wakers.names(), self.named[signs]
             kept = [name for name in names if name in named]
             self.kept[key] = kept if len(kept) < len(names) else names
         return self.kept[key]
@@ -197,30 +202,37 @@ class Decision:
     def doubts(self, root: Collection[int]) -> List[Doubt]:
         """Returns on whom it hangs that the members of a likely root are stuck."""
         members = set(root)
-        waits: Dict[Tuple[Optional[str], str, Strength], List[List[str]]] = {}
+        waits: Dict[Tuple[Optional[str], str, Strength], Names] = {}
         for wakers, left, names in self.holds_on(root):
             for who in self.aside_of(wakers, left, members):
-                waits.setdefault((who, wakers.how, wakers.strength), []).append(names)
-        return [Doubt(*key, lists[0] if len(lists) == 1 else list(dict.fromkeys(chain(*lists))))
-                for key, lists in waits.items()]
+                waits.setdefault((who, wakers.how, wakers.strength), {})[id(names)] = names
+        return [Doubt(*key, joined(lists)) for key, lists in waits.items()]
 
-    def holds_on(self, root: Iterable[int]) -> List[Tuple[Wakers, Sequence[str], List[str]]]:
+    def holds_on(self, root: Iterable[int]) -> List[Tuple[Wakers, Sequence[str], Sequence[str]]]:
         """Returns the wakers of those parts by which members of a root are likely to be stuck, each list with those of
         it who are left and the names of the members that share it."""
-        groups: Dict[Tuple[int, int, str, Strength], Tuple[Wakers, Sequence[str], Dict[str, None]]] = {}
-        for number, wakers, part in self.wakers_on(root):
+        groups: Dict[Tuple[int, int, str, Strength], Tuple[Wakers, Sequence[str], Names]] = {}
+        for names, wakers, part in self.wakers_on(root):
             left = self.left_of(wakers, part)
             key = id(wakers.who), id(left), wakers.how, wakers.strength
-            groups.setdefault(key, (wakers, left, {}))[2][self.subjects[number].name] = None
-        return [(wakers, left, list(names)) for wakers, left, names in groups.values()]
+            groups.setdefault(key, (wakers, left, {}))[2][id(names)] = names
+        return [(wakers, left, joined(lists)) for wakers, left, lists in groups.values()]
 
-    def wakers_on(self, root: Iterable[int]) -> Iterator[Tuple[int, Wakers, Part]]:
-        return ((number, wakers, part) for number in root if number not in self.certain
-                for part in self.holding_parts(number) for wakers in part)
+    def wakers_on(self, root: Iterable[int]) -> Iterator[Tuple[Sequence[str], Wakers, Part]]:
+        """Yields the wakers of these parts, with the names of the members whose wait they end."""
+        names: Dict[int, List[str]] = {}
+        parts: Dict[int, List[Part]] = {}
+        for number in root if self.likely else ():
+            if number not in self.certain:
+                holding = self.holding_parts(number)
+                parts[id(holding)] = holding
+                names.setdefault(id(holding), []).append(self.subjects[number].name)
+        return ((names[key], wakers, part) for key, holding in parts.items() for part in holding for wakers in part)
 
     def holding_parts(self, number: int) -> List[Part]:
-        """Returns the parts by which one is likely to be stuck, and not for certain."""
-        return self.left.whole_parts(number) if self.likely else []
+        """Returns the parts by which one is likely to be stuck, and not for certain: one list for all that share them.
+        """
+        return self.graph.parts_left(number, self.over) if self.likely else []
 
     def aside_of(self, wakers: Wakers, left: Sequence[str], members: Set[int]) -> List[Optional[str]]:
         """Returns those of some wakers who are set aside and may free somebody, or None for anybody."""
@@ -242,104 +254,128 @@ def wake(subject: Subject) -> Subject:
     return subject._replace(sign=Sign.GOES_ON) if is_over else subject
 
 
-def everybody_in(owner: str, part: Part) -> Optional[List[Sequence[str]]]:
-    """Returns all wakers of a part, or None where they may be anybody."""
-    lists = [wakers.who for wakers in part if not isinstance(wakers.who, Anybody)]
-    return lists if len(lists) == len(part) else None
+def waits_of(subjects: Sequence[Subject]) -> List[List[int]]:
+    """Returns each wait of those that are blocked or rest, as the numbers of those that share its parts and have one
+    sign. One of several parts that may end its own wait by reach shares it with nobody, as it is told from others
+    there."""
+    waits: Dict[object, List[int]] = {}
+    able = once(lambda parts: {name for part in parts for wakers in part if wakers.strength is Strength.ABLE
+                               for name in wakers.names()})
+    for number, subject in enumerate(subjects):
+        if subject.parts and subject.sign in (Sign.BLOCKED, Sign.RESTS):
+            is_own = len(subject.parts) < 2 or subject.name in able(subject.parts)
+            waits.setdefault(number if is_own else (id(subject.parts), subject.sign), []).append(number)
+    return list(waits.values())
 
 
-class Lists:
-    """Lists of wakers by numbers, so that waits and graphs may share them. A node is a process, or a list of several,
-    with a number behind those of the processes. `of` has the lists that a process is in, and `lost` those lists with
-    somebody who isn't there."""
-
-    def __init__(self, number: int, index: Dict[str, int]) -> None:
-        self.number, self.index = number, index
-        self.known: Dict[int, Tuple[int, Sequence[str]]] = {}  # by their ids, which are theirs as long as they are kept
-        self.of: Dict[int, List[int]] = {}
-        self.lost: List[int] = []
-
-    def node_of(self, names: Sequence[str]) -> int:
-        """Returns the number of one, or of a list of several."""
-        if len(names) == 1 and names[0] in self.index:
-            return self.index[names[0]]
-        if id(names) not in self.known:
-            self.known[id(names)] = self.number + len(self.known), names
-            self.add_list(self.known[id(names)][0], names)
-        return self.known[id(names)][0]
-
-    def add_list(self, number: int, names: Sequence[str]) -> None:
-        there = [self.index[name] for name in names if name in self.index]
-        for member in there:
-            self.of.setdefault(member, []).append(number)
-        if len(there) < len(names):
-            self.lost.append(number)
+def joined(lists: Names) -> Sequence[str]:
+    """Returns the names of some lists: the list itself of one."""
+    rows = list(lists.values())
+    return rows[0] if len(rows) == 1 else list(dict.fromkeys(chain(*rows)))
 
 
 class Graph:
-    """Who counts of the parts of all waits, by the numbers of `lists`. `select` gives the names that count of a part of
-    the wait of one, or None where the part doesn't."""
+    """Who may end which part of a wait, by numbers. A node is a process, whoever isn't in the state, or a list of many.
+    `waits` has each wait as the numbers of those that share it, and `own` the places of its parts in `parts`. `ends`
+    has the parts that each node ends, and `lists` the lists that it is in, with the way in which it counts there."""
 
-    def __init__(self, subjects: Sequence[Subject], lists: Lists, select: Select) -> None:
-        self.subjects, self.lists = subjects, lists
-        self.waits: List[Tuple[int, Part]] = []  # each part, with whose wait it is of
-        self.nodes: List[Set[int]] = []  # of each part
-        self.users: Dict[int, List[int]] = {}  # the parts that have a node
-        self.parts: List[List[int]] = [[] for _ in subjects]
-        self.outside: Set[int] = set()  # nodes outside of the greatest set, once that is known
-        for number, part in ((number, part) for number, subject in enumerate(subjects) for part in subject.parts):
-            selected = select(subjects[number].name, part)
-            if selected is not None:
-                self.add_part(number, part, {lists.node_of(names) for names in selected if names})
+    def __init__(self, decision: Decision) -> None:
+        self.decision, self.subjects, self.waits = decision, decision.subjects, decision.waits
+        self.nobody = len(self.subjects)
+        self.signs: List[Optional[Sign]] = [Sign.RESTS if subject.name in decision.behind_idle else subject.sign
+                                            for subject in self.subjects] + [None]
+        self.wait = {owner: number for number, owners in enumerate(self.waits) for owner in owners}
+        self.parts: List[Tuple[int, Part]] = []  # each with the number of its wait
+        self.own: List[range] = []
+        self.whole: Dict[int, List[Part]] = {}
+        self.ends: DefaultDict[int, List[Tuple[Way, int]]] = defaultdict(list)
+        self.lists: DefaultDict[int, List[Tuple[Way, int]]] = defaultdict(list)
+        # Lists by their ids, which are theirs as long as they are kept, and the way in which they count.
+        self.known: Dict[Tuple[int, Way], Tuple[int, Sequence[str]]] = {}
+        for owners in self.waits:
+            subject, first = self.subjects[owners[0]], len(self.parts)
+            for part in subject.parts:
+                self.add_part(part, subject.sign is Sign.RESTS)
+            self.own.append(range(first, len(self.parts)))
 
-    def add_part(self, owner: int, part: Part, nodes: Set[int]) -> None:
-        number = len(self.waits)
-        self.waits.append((owner, part))
-        self.nodes.append(nodes)
-        self.parts[owner].append(number)
-        for node in nodes:
-            self.users.setdefault(node, []).append(number)
+    def add_part(self, part: Part, is_at_rest: bool) -> None:
+        place = len(self.parts)
+        self.parts.append((len(self.own), part))
+        for wakers in part:
+            way = AT_REST if is_at_rest else self.decision.way_of(wakers, part)
+            for node in self.nodes_of(wakers.who, way):
+                self.ends[node].append((way, place))
 
-    def greatest(self, candidates: AbstractSet[int], sure: AbstractSet[int] = frozenset()) -> Set[int]:
-        """Returns the greatest set of candidates, and of those that are sure, in which each candidate has a part with
-        all of its wakers in the set. Who has ended frees nobody, and counts as one of the set."""
-        inside = {number for number in candidates if self.parts[number]}.union(sure)
+    def nodes_of(self, who: Who, way: Way) -> List[int]:
+        """Returns the numbers of a few, or that of a list of many."""
+        if isinstance(who, Anybody):
+            return [self.nobody]
+        if len(who) <= FEW:
+            return [self.decision.index.get(name, self.nobody) for name in who]
+        if (id(who), way) not in self.known:
+            number = self.nobody + 1 + len(self.known)
+            self.known[id(who), way] = number, who
+            for name in who:
+                self.lists[self.decision.index.get(name, self.nobody)].append((way, number))
+        return [self.known[id(who), way][0]]
+
+    def parts_of(self, number: int) -> range:
+        """Returns the places of the parts of the wait of one, if it has one."""
+        return self.own[self.wait[number]] if number in self.wait else range(0)
+
+    def parts_left(self, number: int, over: AbstractSet[int]) -> List[Part]:
+        """Returns the parts of a wait that aren't over."""
+        wait = self.wait[number]
+        if wait not in self.whole:
+            self.whole[wait] = [self.parts[place][1] for place in self.own[wait] if place not in over]
+        return self.whole[wait]
+
+    def greatest(self, candidates: AbstractSet[int], sure: AbstractSet[int], counts: Counts,
+                 over: Set[int]) -> Set[int]:
+        """Returns the greatest set of candidates, and of those that are sure, in which each candidate has a part that
+        isn't over with all of its wakers who count in the set. Who has ended frees nobody, and counts as one of the
+        set. Adds the other parts to those that are over."""
+        inside = {number for number in candidates if not over.issuperset(self.parts_of(number))}.union(sure)
         outside = [number for number, subject in enumerate(self.subjects)
                    if number not in inside and subject.sign is not Sign.ENDED]
-        self.outside = set(self.reach([*self.lists.lost, *outside], inside - sure))
-        return inside - self.outside
+        return inside.difference(self.reach([self.nobody, *outside], inside - sure, counts, over))
 
-    def whole_parts(self, number: int) -> List[Part]:
-        """Returns the parts of a wait that have all of their wakers in the greatest set."""
-        return [self.waits[part][1] for part in self.parts[number] if self.nodes[part].isdisjoint(self.outside)]
-
-    def freed(self, moving: Iterable[int], waiting: AbstractSet[int]) -> Dict[int, Optional[str]]:
+    def freed(self, moving: Iterable[int], waiting: AbstractSet[int], counts: Counts) -> Dict[int, Optional[str]]:
         """Returns those that move, and those that wait and are freed by them, each with the waker that did so."""
-        causes = self.reach(moving, waiting)
-        return {number: cause for number, cause in causes.items() if number < len(self.subjects)}
+        causes = self.reach(moving, waiting, counts, set())
+        return {number: cause for number, cause in causes.items() if number < self.nobody}
 
-    def reach(self, starts: Iterable[int], through: AbstractSet[int]) -> Dict[int, Optional[str]]:
-        """Returns the nodes that are reached: the starts, a list with the first of its members, and of `through` each
-        one that has in each part of its wait a node reached before. Told is the last of these, by a process's name."""
+    def reach(self, starts: Iterable[int], through: AbstractSet[int], counts: Counts,
+              over: Set[int]) -> Dict[int, Optional[str]]:
+        """Returns the nodes that are reached: the starts, a list with the first of its members who counts, and of
+        `through` each one that has in each part of its wait one that counts and was reached before. Told is the last of
+        these, by a process's name."""
         causes: Dict[int, Optional[str]] = dict.fromkeys(starts)
-        left = [len(parts) for parts in self.parts]
-        over: Set[int] = set()
-        todo = deque(causes)
-        while todo:
-            node = todo.popleft()
-            cause = self.subjects[node].name if node < len(self.subjects) else causes[node]
-            owners = self.end_parts(node, over, left)
-            reached = [*self.lists.of.get(node, ()), *(owner for owner in owners if owner in through)]
-            new = {other: cause for other in reached if other not in causes}
-            causes.update(new)
-            todo.extend(new)
+        left = list(map(len, self.own))
+        for place in over:
+            left[self.parts[place][0]] -= 1
+        ways_of = {sign: {way for way, signs in counts.items() if sign in signs} for sign in (*Sign, None)}
+        todo = list(causes)
+        for node in todo:
+            ways = ways_of[self.signs[node]] if node <= self.nobody else counts.keys()
+            new = [number for way, number in self.lists[node] if way in ways and number not in causes] \
+                if node in self.lists else []
+            if node in self.ends:
+                new += [owner for owner in self.end_parts(node, ways, over, left) if owner in through
+                        and owner not in causes]
+            if new:
+                cause = self.subjects[node].name if node < self.nobody else causes[node]
+                causes.update(dict.fromkeys(new, cause))
+                todo += new
         return causes
 
-    def end_parts(self, node: int, over: Set[int], left: List[int]) -> List[int]:
-        """Ends the parts that have a node, and returns those of whose waits nothing is left."""
-        parts = [part for part in self.users.get(node, ()) if part not in over]
-        over.update(parts)
-        owners = [self.waits[part][0] for part in parts]
-        for owner in owners:
-            left[owner] -= 1
-        return [owner for owner in owners if left[owner] == 0]
+    def end_parts(self, node: int, ways: AbstractSet[Way], over: Set[int], left: List[int]) -> List[int]:
+        """Ends the parts in which a node counts, and returns those of whose waits nothing is left."""
+        owners: List[int] = []
+        for way, place in self.ends[node]:
+            if way in ways and place not in over:
+                over.add(place)
+                wait = self.parts[place][0]
+                left[wait] -= 1
+                owners += [] if left[wait] else self.waits[wait]
+        return owners

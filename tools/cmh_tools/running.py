@@ -9,14 +9,14 @@ import re
 import time
 from typing import Dict, Iterator, List, NamedTuple, Optional, Tuple
 
+from cmh_linux.limits import Clocks
+
 from .captures import answers, link_of, stat_of, way_to_python
 from .files import shown
 from .folder import user_of
 
 RANK = re.compile(rb"(?:OMPI_COMM_WORLD|PMIX?|MV2_COMM_WORLD)_RANK=|SLURM_PROCID=")
 GO = b"\xff Go buildinf:"
-RAN_AT = re.compile(rb"^se\.exec_start *: *([0-9.]+)", re.M)
-OWN = "/proc/thread-self/sched"
 WIDTH = 120  # of a command line
 UNITS = (86400, "days"), (3600, "hours"), (60, "minutes")
 AT_LEAST = 2  # of a unit, or a smaller one is named
@@ -35,21 +35,22 @@ class Row(NamedTuple):
 def proposals() -> List[str]:
     """Returns for each process that a parser sees inside of some lines: what it is with the command that takes its
     state, and who runs it."""
-    found: Dict[str, Row] = {}
+    by_command: Dict[str, Row] = {}
     for pid in sorted(filter(str.isdigit, os.listdir("/proc")), key=int):
         for row in rows_of(pid):
-            found.setdefault(row.command, row)
-    waits = {row.command: waits_of(row.pid) for row in found.values()}
-    rows = sorted(found.values(), key=lambda row: -(waits[row.command] or 0))
+            by_command.setdefault(row.command, row)
+    clocks = Clocks()
+    waits = {row.command: waits_of(row.pid, clocks) for row in by_command.values()}
+    rows = sorted(by_command.values(), key=lambda row: -(waits[row.command] or 0))
     return [f"{shown(row.what)}: {shown(row.command)}\n    {details(row, waits[row.command])}" for row in rows]
 
 
 def details(row: Row, waited: Optional[float]) -> str:
     """Returns who runs a process, for how long it has been there and stood still, what sees it, and its words."""
-    still = f"no thread of it ran for {in_words(waited)}" if waited is not None and waited >= 1 else "it runs"
+    still = "" if waited is None else ", it runs" if waited < 1 else f", no thread of it ran for {in_words(waited)}"
     line = shown(" ".join(words_of(row.pid)).strip())
     line = line if len(line) <= WIDTH else f"{line[:WIDTH]} .."
-    return f"{user(row.pid)}, begun {in_words(age_of(row.pid))} ago, {still}; {row.inside}: {line}"
+    return f"{user(row.pid)}, begun {in_words(age_of(row.pid))} ago{still}; {row.inside}: {line}"
 
 
 def user(pid: str) -> str:
@@ -71,22 +72,17 @@ def age_of(pid: str) -> float:
         if begun.isdigit() else 0.0
 
 
-def waits_of(pid: str) -> Optional[float]:
+def waits_of(pid: str, clocks: Clocks) -> Optional[float]:
     """Returns for how many seconds no thread of a process has run, or None if the kernel doesn't say that."""
-    now, ran = ran_at(OWN), [ran_at(f"/proc/{pid}/task/{tid}/sched") for tid in threads_of(pid)]
-    last = [time_ran for time_ran in ran if time_ran is not None]
-    return None if now is None or not last or len(last) < len(ran) else max(0.0, now - max(last))
+    waits = [clocks.waited(f"/proc/{pid}/task/{tid}") for tid in threads_of(pid)]
+    known = [seconds for seconds in waits if seconds is not None]
+    return min(known) if known and len(known) == len(waits) else None
 
 
 def threads_of(pid: str) -> List[str]:
     with contextlib.suppress(OSError):
         return os.listdir(f"/proc/{pid}/task")
     return []
-
-
-def ran_at(path: str) -> Optional[float]:
-    ran = RAN_AT.search(bytes_of(path))
-    return float(ran[1]) / 1000 if ran else None
 
 
 def words_of(pid: str) -> List[str]:
@@ -107,7 +103,9 @@ def commands_for(pid: str) -> Iterator[Tuple[str, str, str]]:
         yield ("java", f"cmh-stall jvm {pid}, or with --heap, which shows more and stops it for longer",
                "jvm and linux see inside")
     elif name == "beam.smp" and any("rabbit" in word for word in words):
-        yield "rabbitmq", "cmh-stall rabbitmq", "rabbitmq and erlang see inside"
+        node = next((full_name(node) for option, node in zip(words, words[1:]) if option in ("-sname", "-name")), "")
+        own = "" if node in ("", full_name("rabbit")) else f" {node}"
+        yield "rabbitmq", f"cmh-stall rabbitmq{own}", "rabbitmq and erlang see inside"
     elif name == "beam.smp":
         for option, node in zip(words, words[1:]):
             if option in ("-sname", "-name"):

@@ -7,63 +7,68 @@ import os
 import re
 import shlex
 import textwrap
+from collections import Counter
+from functools import cached_property
 from typing import Dict, Iterable, List, NamedTuple, Optional, Sequence, Set, Tuple
 
 from .cures import unit_words, words_of
-from .explain import Explanation, number_of
+from .doubts import STAND_INS, Doubt
+from .explain import Explanation, number_of, runs_of
 from .files import short_name, shown
 from .model import Sign, Wakers
 from .rule import Headline
-from .sketch import ALL, ANY, ENDED, REST
+from .sketch import ALL, ANY, ENDED, OF_SERVER, REST, UNREADABLE
 from .terminal import AsItIs, Painted, fill, painted
 
 WIDTH = 80
-MEMBERS, ROOTS, DOUBTS, ENDS, CURES = 4, 5, 3, 4, 4  # of each, as many are shown; the others are counted
+MEMBERS, ROOTS, DOUBTS, ENDS, CURES, BUSY = 4, 5, 4, 4, 4, 2  # of each, as many are shown; the others are counted
+KINDS = 2  # of members in one headline
 MOVERS = 64  # of those who may free somebody, as many are looked at
 NAMES = 3  # in one line
 HEAD = 7  # columns of the word before a line
-NAME, LONGEST = 28, 44  # letters of the names in a line, and of what one waits at
-END_OF_WHAT = re.compile(r"; | at | in |: | \[|, which | \(descriptor")
+NAME, LONGEST, SHORT = 38, 44, 26  # letters of the names in a line, and of those for whom one waits, if that is short
+LEAST = 12  # letters of what one waits at
 OTHERS = "of the others"
 ANY_OTHER = f"any {OTHERS}"
-FOR_WHICH = "the state doesn't show for which."
+FOR_WHICH = ": the state doesn't show which."
 NOT_SHOWN = ("listed", "reaches", "same-process", "inside", "subscribes", "guess")  # hows of those who may have it
 LINES = 10  # before what to do, if there is one group
 # Operations of those that wait for the end or the answer of others, and have nothing themselves that others want.
 FOR_OTHERS = re.compile(r"join|WaitGroup|CountDownLatch|HttpClient|http|sync$|invokeAll|awaitTermination", re.I)
-ADDRESS = re.compile(r"0x0*([0-9a-f]{6,})")
-PROCESSES, THREADS = ("process", "processes"), ("thread", "threads")
-NOUNS = {"jvm": THREADS, "go": ("goroutine", "goroutines"), "mpi": ("rank", "ranks"),
-         "rabbitmq": ("service", "services"), "python": ("thread or task", "threads or tasks")}
+UNNAMED = re.compile(r"\S+\+0x[0-9a-f]+")  # a frame of a program without symbols
+# What those of a system are called, and of systems that are joined by the beginning of their site.
+NOUNS = {"jvm": "thread", "go": "goroutine", "mpi": "rank", "rabbitmq": "service"}
+SITES = {"backend ": "backend", "prepared transaction ": "prepared transaction", "connection ": "connection",
+         "JVM ": "thread", "the Go program": "goroutine"}
 COLOURS = {Headline.DEADLOCK: "stuck", Headline.LIKELY: "likely", Headline.NONE: "not_stuck"}
-UNSEEN = "somebody who isn't in the state"
+UNSEEN = "somebody who wasn't looked at"
 SAME = "Nothing in a state tells one with nothing to do from one whose message was lost."
 
 
 class More(NamedTuple):
-    """The commands that say more, as the reader may type them."""
+    """How the reader asks for more: the command, if it isn't the one that was typed, and whether it takes --true."""
 
-    all: str
-    why: str
-    true: Optional[str]
+    command: str = ""
+    has_true: bool = False
 
-
-BESIDE = More("--all", "--why", None)  # of cmh-explain, whose dump the reader has named
+    def asks(self, option: str) -> str:
+        return f"{self.command} {option}".lstrip()
 
 
 class Screen:
     """The first screen of an explanation. `more` has the commands that say more."""
 
-    def __init__(self, this: Explanation, more: More = BESIDE) -> None:
+    def __init__(self, this: Explanation, more: More = More()) -> None:
         self.this, self.more, self.waits = this, more, this.waits
         self.style, self.width = this.style, min(WIDTH, this.style.width)
         self.system = this.dump.sketch.system
         self.cures = this.cures
         self.members = [set(members) for members in this.roots.roots[:ROOTS]]
-        self.names_unit = True
+        self.is_head_long = True
+        self.said: Set[int] = set()  # the numbers of doubts that are told
         self.heads: Dict[bool, Painted] = {}  # by whether they name the unit
         self.known: Dict[Tuple[int, ...], Tuple[Dict[int, None], Optional[int]]] = {}
-        self.prefix = prefix_of([process.name for process in this.waits.processes])
+        self.prefix = prefix_of(self.told_names())
 
     def text(self) -> str:
         body = list(map(self.wrapped, self.body()))
@@ -81,9 +86,9 @@ class Screen:
 
     def head(self) -> List[str]:
         """Returns the headline, made once as it is with the unit or without."""
-        if self.names_unit not in self.heads:
-            self.heads[self.names_unit] = self.head_words()
-        return [self.heads[self.names_unit]]
+        if self.is_head_long not in self.heads:
+            self.heads[self.is_head_long] = self.head_words()
+        return [self.heads[self.is_head_long]]
 
     def head_words(self) -> Painted:
         headline = self.this.headline
@@ -95,19 +100,37 @@ class Screen:
         """Returns how many lines of the screen some take."""
         return len(fill([lines], self.style._replace(width=self.width)).splitlines()) if lines else 0
 
-    def name(self, index: int) -> str:
-        """Returns the name of one, without what all names begin with."""
-        return self.this.name(index)[len(self.prefix):]
+    def told_names(self) -> List[str]:
+        """Returns the names of those who may be told of: of all, or else of all groups and who may free these."""
+        names = [process.name for process in self.waits.processes]
+        members = [index for root in self.this.roots.roots for index in root]
+        doubters = [name for doubt in self.this.doubts_of(members) for name in doubt.who]
+        told = [*(names[index] for index in members), *doubters] if members else names
+        return [name for name in told if "/" in name] or names
 
-    def noun(self, number: int) -> str:
-        return number_of(number, *NOUNS.get(self.system, PROCESSES))
+    def name(self, index: int) -> str:
+        """Returns the name of one, without what all that are told begin with."""
+        name = self.this.name(index)
+        return name[len(self.prefix):] if name.startswith(self.prefix) else name
+
+    def noun(self, index: int) -> str:
+        """Returns what one is, by the word of its system."""
+        process, systems = self.waits.processes[index], self.system.split(" and ")
+        noun = next((noun for start, noun in SITES.items() if (process.site or "").startswith(start)), "")
+        if noun or self.system in NOUNS:
+            return noun or NOUNS[self.system]
+        is_thread = process.thread.partition("/")[2] and (systems == ["python"] or "/" in process.name)
+        return "thread" if is_thread else "task" if systems == ["python"] else "process"
 
     def noun_of(self, members: Sequence[int]) -> str:
-        """Returns how many some are, and what: of Linux they may be threads of one process."""
+        """Returns how many some are, and what, if there is room. Processes of Linux are threads if one has several of
+        them."""
+        counts = Counter(map(self.noun, members))
         owners = {self.waits.processes[index].thread.partition("/")[0] for index in members}
-        if self.system == "linux" and members[1:] and len(owners) == 1 and owners != {""}:
-            return number_of(len(members), *THREADS)
-        return self.noun(len(members))
+        if self.system == "linux" and len(owners) < len(members) and "" not in owners:
+            counts = Counter(["thread"] * len(members))
+        return " and ".join(number_of(number, noun, many(noun)) for noun, number in counts.items()) \
+            if len(counts) <= (KINDS if self.is_head_long else 1) else number_of(len(members))
 
     def roots_words(self) -> str:
         """Returns in a sentence or two who waits for whom, of those who are certain, or else of the likely ones."""
@@ -117,7 +140,8 @@ class Screen:
                   if index not in self.this.roots.root_of and not told.isdisjoint(over)]
         is_certain = self.this.headline is Headline.DEADLOCK
         sure = [index for index in behind if not is_certain or index not in self.this.likely]
-        more = f"; {len(sure):,} more {'waits' if len(sure) == 1 else 'wait'} behind" if sure else ""
+        whom = "these" if len(roots) > 1 else "it" if len(members) == 1 else "them"
+        more = f"; {len(sure):,} more behind{f' {whom}' if self.is_head_long else ''}" if sure else ""
         more += f"{',' if more else ';'} {len(behind) - len(sure):,} more likely" if len(behind) > len(sure) else ""
         others = len(self.this.roots.roots) - len(roots)
         likely = f" {number_of(others, 'more group is', 'more groups are')} likely to." if others else ""
@@ -133,7 +157,7 @@ class Screen:
     def group_words(self, roots: List[int], members: List[int]) -> str:
         """Returns who is meant, and where it is, if there is room for that: what to do names it too."""
         units = self.cures.units_of(members)
-        is_told = self.names_unit and len(units) == 1 and self.system != "rabbitmq"
+        is_told = self.is_head_long and len(units) == 1 and self.system != "rabbitmq"
         where = f" of {self.cures.called(units[0])}" if is_told else ""
         if len(roots) > 1:
             return f"{len(roots):,} groups wait, each for itself: {self.noun_of(members)}{where} in all"
@@ -143,9 +167,11 @@ class Screen:
         return f"{self.noun_of(members)}{where} wait for each other"
 
     def life(self) -> str:
-        """Returns whether anybody computes."""
-        number = sum(self.waits.processes[index].sign is Sign.GOES_ON for index in self.this.well)
-        return f"{number:,} {'goes' if number == 1 else 'go'} on." if number else "Nobody computes."
+        """Returns whether anybody is at work, and who, if they are few."""
+        busy = [index for index in self.this.well if self.waits.processes[index].sign is Sign.GOES_ON]
+        are_told = self.is_head_long and len(busy) <= BUSY
+        names = " and ".join(cut_name(self.name(index), SHORT) for index in busy) if are_told else ""
+        return f"{names or f'{len(busy):,}'} {'is' if len(busy) == 1 else 'are'} busy." if busy else "Nobody is busy."
 
     def free_words(self) -> str:
         blocked = self.blocked()
@@ -153,14 +179,17 @@ class Screen:
             return f"nobody waits for another one. {self.life()}"
         goes_on = any(process.sign is Sign.GOES_ON for process in self.waits.processes)
         return f"{self.noun_of(blocked)} {'waits, and is' if len(blocked) == 1 else 'wait, and all are'} freed by " \
-            f"{'who goes on' if goes_on else 'one that sleeps'}."
+            f"one that {'goes on' if goes_on else 'sleeps'}."
 
     def idle_words(self) -> str:
-        total = len(self.waits.processes) - len(self.this.ended)
-        return f"{f'of {self.noun(total)} ' if total else ''}nobody goes on. {SAME}"
+        ended = {*self.this.ended}
+        there = [index for index in range(len(self.waits.processes)) if index not in ended]
+        return f"{f'of {self.noun_of(there)} ' if there else ''}nobody goes on. {SAME}"
 
     def open_words(self) -> str:
         number = len(self.this.undecided)
+        if not number:
+            return f"some who have nothing to do may lack a message that was lost. {self.life()}"
         whom = "it" if number == 1 else "them"
         return f"of {self.noun_of(self.this.undecided)} it isn't known who frees {whom}. {self.life()}"
 
@@ -172,7 +201,10 @@ class Screen:
     def body(self) -> List[str]:
         if self.this.roots.roots:
             most = ROOTS if len(self.this.roots.roots) > 1 else 1
-            lines = [line for number in range(len(self.this.roots.roots[:most])) for line in self.root(number)]
+            lines: List[str] = []
+            for number, members in enumerate(self.this.roots.roots[:most]):
+                lines += self.root(number)
+                self.said.update(doubt.number for doubt in self.told_doubts(members))
             left = len(self.this.roots.roots) - most
             return lines + ([f"  and {number_of(left, 'group', 'groups')} more"] if left > 0 else [])
         return self.ends()
@@ -181,28 +213,42 @@ class Screen:
         members = self.this.roots.roots[number]
         lines = [f"Group {number + 1}{'' if self.this.is_certain(number) else ', likely'}"] \
             if len(self.this.roots.roots) > 1 else []
-        unless = self.unless(members)
-        wide = self.member_lines(members)
-        self.names_unit = self.names_unit and self.has_room(lines, wide, unless)
-        if self.has_room(lines, wide, unless):
-            return [*lines, *wide, *unless]
-        narrow = self.member_lines(members, False)
-        if narrow[-1].endswith(FOR_WHICH) and not self.has_room(lines, narrow, unless):
-            narrow.pop()
-        return [*lines, *narrow, *unless]
+        behind, short = self.likely_behind(number), self.unless(members)
+        wide, whole = self.member_lines(members), self.unless(members, 2)
+        self.is_head_long = self.is_head_long and self.has_room(lines, wide, behind, short)
+        is_narrow = not any(self.has_room(lines, wide, behind, doubts) for doubts in (whole, short))
+        who = self.member_lines(members, False) if is_narrow else wide
+        for doubts in (whole, short):
+            if self.has_room(lines, who, behind, doubts):
+                return [*lines, *who, *behind, *doubts]
+        return [*lines, *who[:-1 if who[-1].endswith(FOR_WHICH) else None], *behind, *short]
+
+    def likely_behind(self, number: int) -> List[str]:
+        """Returns the line of those who are only likely to be stuck behind a group that is certain."""
+        behind = self.this.roots.behind[number] if self.this.is_certain(number) else []
+        names = [self.name(index) for index in behind if index in self.this.likely]
+        return [f"  Likely behind {'it' if len(self.this.roots.roots[number]) == 1 else 'them'}: "
+                f"{self.some(names)}"] if names else []
 
     def has_room(self, *parts: List[str]) -> bool:
         """Returns whether the headline with some lines below it is as short as it should be."""
         return self.height([*self.head(), *(line for lines in parts for line in lines)]) <= LINES
 
-    def unless(self, members: List[int]) -> List[str]:
-        """Returns the first few doubts on which it hangs that some are stuck."""
+    def unless(self, members: List[int], rows: int = 1) -> List[str]:
+        """Returns the first few doubts on which it hangs that some are stuck, of so many rows each if that helps."""
+        whom, doubts = self.doubted(members), self.told_doubts(members)
+        left, numbers = len(self.this.doubts_of(members)) - len(doubts), [doubt.number for doubt in doubts]
+        if numbers and self.said.issuperset(numbers):
+            return [f"Unless {whom} is freed by {self.some(map(str, numbers), ' or ')}, as above"]
+        lines = [self.numbered(doubt.number, self.this.doubter_words(doubt, self.called, rows * (self.width - HEAD)))
+                 for doubt in doubts]
+        more = [f"  and {left:,} more"] if left else []
+        return [f"Unless {whom} is freed by", *lines, *more] if lines else []
+
+    def told_doubts(self, members: List[int]) -> List[Doubt]:
+        """Returns the doubts that are told: all of a few, or the first of them."""
         doubts = self.this.doubts_of(members)
-        whom = self.doubted(members)
-        lines = [self.numbered(doubt.number, self.this.doubter_words(doubt, self.called, self.width - HEAD))
-                 for doubt in doubts[:DOUBTS]]
-        more = f" any of {len(doubts):,}, such as" if doubts[DOUBTS:] else ""
-        return [f"Unless {whom} is freed by{more}", *lines] if lines else []
+        return doubts[:DOUBTS - bool(doubts[DOUBTS:])]
 
     def doubted(self, members: List[int]) -> str:
         """Returns whose wait it is that somebody may end."""
@@ -226,19 +272,25 @@ class Screen:
         for index in sorted(members, key=self.is_of_others):
             frames, whom = self.frames(index), self.whom(index)
             is_alike = frames and whom.endswith(OTHERS)  # (they stand at one line, each at an object of its own)
-            groups.setdefault((self.what(index, not is_alike), whom, frames), []).append(index)
+            groups.setdefault((self.this.what(index, not is_alike), whom, frames), []).append(index)
+        if len(members) == 2 and len({(what, frames) for what, _, frames in groups}) == 1:
+            groups = {(what, "each other", frames): members for what, _, frames in groups}
         is_of_any = self.is_of_any([index for key, alike in groups.items() if key[1] == ANY_OTHER for index in alike])
         if is_of_any:
             groups = {(what, "" if whom == ANY_OTHER else whom, frames): alike
                       for (what, whom, frames), alike in groups.items()}
-        shown_groups, left = list(groups.items())[:MEMBERS], list(groups.values())[MEMBERS:]
+        rows = list(groups.items())
+        if rows[MEMBERS:]:  # (whose locks others want, isn't left out)
+            rows.sort(key=lambda row: self.waits.wanting.keys().isdisjoint(row[1]))
+        shown_groups, left = rows[:MEMBERS], [alike for _, alike in rows[MEMBERS:]]
         names = [self.names_of(list(map(self.name, alike))) for _, alike in shown_groups]
         wide = max(map(len, names))
-        lines = [self.columns(f"  {name:<{wide}}  ", *columns, is_wide=is_wide)
-                 for name, (columns, _) in zip(names, shown_groups)]
+        lines = [self.columns(f"  {name:<{wide}}  ", *columns, "" if is_wide else self.whom(alike[0], SHORT))
+                 for name, (columns, alike) in zip(names, shown_groups)]
         lines += [f"  and {sum(map(len, left)):,} more"] if left else []
-        who = "Each waits" if all(whom == "" for _, whom, _ in groups) else "The others wait"
-        return lines + ([f"  {who} for any: {FOR_WHICH}"] if is_of_any else [])
+        are_all = all(whom == "" for _, whom, _ in groups)
+        who = "Each waits for another one of them" if are_all else "The others wait for one of them"
+        return lines + ([f"  {who}{FOR_WHICH}"] if is_of_any else [])
 
     def is_of_any(self, waiting: List[int]) -> bool:
         """Whether the state doesn't show who has what some wait for."""
@@ -247,7 +299,8 @@ class Screen:
 
     def names_of(self, names: List[str]) -> str:
         """Returns some names that share a line, or the first of them."""
-        words = self.some(names)
+        runs = runs_of(names)
+        words = self.some(names if runs[NAMES + 1:] else runs)
         more = f" and {len(names) - 1:,} more" if names[1:] else ""
         return words if len(words) <= NAME else f"{cut_name(names[0], NAME - len(more))}{more}"
 
@@ -256,43 +309,46 @@ class Screen:
         process = self.waits.processes[index]
         return FOR_OTHERS.search(process.operation) is not None and self.whom(index).endswith(OTHERS)
 
-    def columns(self, name: str, what: str, whom: str, frames: str, is_wide: bool = True) -> str:
+    def columns(self, name: str, what: str, whom: str, frames: str, brief: str = "") -> str:
         """Returns one line if it fits, or else two: the second has the frames, and also for whom one waits if the first
-        has no room for that. Where they may not be wide there is one, with as much as fits."""
+        has no room for that. With `brief`, for whom it waits in few words, there is one, with as much as fits."""
         arrow, room = f"{self.style.arrow} {whom}" if whom else "", self.width - len(name)
+        what = cut_words(what, room)
         first, second = f"{what} {arrow}".strip(), frames
-        if len(first) + len(frames) + 2 <= room or not is_wide:
-            innermost = frames.split(" < ")[0]
-            shorter = (frames, innermost, innermost.rpartition(" (")[2].rstrip(")"))
-            fitting = next((text for text in shorter if len(first) + len(text) + 2 <= room), "")
-            return AsItIs(cut(f"{name}{first}  {fitting}".rstrip(), self.width))
+        if len(first) + len(frames) + 2 <= room or brief:
+            return self.line_of(name, what, arrow if len(first) <= room else f"{self.style.arrow} {brief}", frames)
         if len(first) > room and what:
             first, second = what, f"{arrow}  {frames}".rstrip()
-        if len(second) > room:
-            second = f"{cut(arrow, room)}" if second.startswith(arrow) else second
+        while len(second) > room and second != arrow:
+            second = second.rpartition(" < ")[0] or arrow
         lines = [f"{name}{first}", f"{'':<{len(name)}}{second}"]
         return AsItIs("\n".join(cut(line, self.width) for line in lines if line.strip()))
 
-    def what(self, index: int, has_address: bool = True) -> str:
-        """Returns at what one waits."""
-        process = self.waits.processes[index]
-        what = END_OF_WHAT.split(shown(process.note or process.operation), 1)[0]
-        address = next((text for text in process.objects if ADDRESS.fullmatch(text)), "")
-        short = ADDRESS.sub(r"0x\1", address)
-        what += f" {short}" if address and address not in what and has_address else ""
-        return cut_name(what, LONGEST)
+    def line_of(self, name: str, what: str, arrow: str, frames: str) -> str:
+        """Returns one line, with as much of what one waits at and of its frames as fits."""
+        room = self.width - len(name)
+        most = max(LEAST, room - len(arrow) - 1) if arrow else room
+        first, innermost = f"{cut_words(what, most)} {arrow}".strip(), frames.split(" < ")[0]
+        shorter = (frames, innermost, innermost.rpartition(" (")[2].rstrip(")"))
+        fitting = next((text for text in shorter if len(first) + len(text) + 2 <= room), "")
+        return AsItIs(cut(f"{name}{first}  {fitting}".rstrip(), self.width))
 
-    def whom(self, index: int) -> str:
+    def whom(self, index: int, most: int = LONGEST) -> str:
         if self.waits.kinds[index] not in (ANY, ALL):
             return "nobody"
-        others, root = self.others_of(tuple(self.waits.left_of(index)))
+        nodes = self.waits.left_of(index)
+        if len(nodes) == 1 and nodes[0] < self.waits.number and self.waits.kinds[nodes[0]] != ENDED:
+            return self.name(nodes[0]) if nodes[0] != index else "itself"
+        others, root = self.others_of(tuple(nodes))
         number, roots = len(others) - (index in others), self.this.roots
         is_same = root is not None and root == roots.root_of.get(index) and number + 1 == len(roots.roots[root])
         if is_same and len(others) > 2:
             return f"{'all' if self.waits.kinds[index] == ALL else 'any'} {OTHERS}"
         first = itertools.islice((other for other in others if other != index), NAMES + 1)
         names = list(map(self.name, first)) or ["itself"] * bool(others)
-        return self.some(names, " and " if self.waits.kinds[index] == ALL else " or ", number) or "nobody"
+        last = " and " if self.waits.kinds[index] == ALL else " or "
+        words = self.some(names, last, number) or "nobody"
+        return words if len(words) <= most or number < 2 else f"{names[0]}{last}{number - 1:,} more"
 
     def others_of(self, nodes: Tuple[int, ...]) -> Tuple[Dict[int, None], Optional[int]]:
         """Returns for whom one waits by some nodes, once for all that share these, and the root that has all of them.
@@ -315,9 +371,12 @@ class Screen:
     def frames(self, index: int) -> str:
         """Returns the innermost frames of the program's own, as many as fit: the first with its line."""
         process = self.waits.processes[index]
-        frames = [text for text in process.frames if text not in (process.operation, process.name)]
+        frames = [text for text in process.frames if text not in (process.operation, process.name)
+                  and not UNNAMED.fullmatch(text)]
         if not frames or process.name.startswith(frames[0]):  # (the name of a program or a service says no more)
             return ""
+        if frames[1:] and frames[-1] == process.name.rpartition("/")[2]:  # (as threads of Linux have theirs)
+            frames.pop()
         names = [frames[0], *(text.split(" (")[0] for text in frames[1:])]
         while len(names) > 1 and len(" < ".join(names)) > self.width - 24:
             names.pop()
@@ -332,34 +391,41 @@ class Screen:
             reason = shown(self.this.process(index).why_unknown())
             name = UNSEEN if self.this.process(index).frames == [REST] else \
                 f"{self.name(index)}{self.place_words(index)}"
-            words = f"{name}{f': {reason}' if reason else ''}"
+            words = STAND_INS.get(name) or f"{name}{f': {reason}' if reason else ''}"
             rows.append((others.number, self.waiting_words(others.number, others.nearest), words))
+        for index, others in self.this.idle_ones(NAMES):
+            rows.append((others.number, self.waiting_words(others.number, others.nearest), f"{self.name(index)}, which "
+                         f"{shown(self.this.process(index).reason) or 'has nothing to do'}"))
         followers: Dict[int, List[int]] = {}
         for index, end in self.this.ends().items():
             followers.setdefault(end, []).append(index)
         rows += [(len(waiting), self.waiting_words(len(waiting), waiting), f"{self.name(end)}, which "
                   f"{self.sign_words(end)}{self.place_words(end)}") for end, waiting in followers.items()]
-        movers = self.movers()
-        rows += [(len(freed), f"{len(freed):,} may be freed by", f"{self.name(index)}, which {self.sign_words(index)}"
-                  f"{self.place_words(index)}") for index, freed in movers.items()]
+        for index, freed in self.movers.items():
+            words = f"{self.name(index)}, which {self.sign_words(index)}{self.place_words(index)}"
+            stands_for = STAND_INS.get(self.this.process(index).name)  # (which is told last)
+            rows.append((0 if stands_for else len(freed), f"{self.freed_words(index)} may be freed by",
+                         stands_for or words))
         rows.sort(key=lambda row: -row[0])
         lines = self.end_lines(rows[:ENDS]) or self.idle_lines()
-        more = [f"  and {len(rows) - ENDS:,} more such"] if rows[ENDS:] else []
-        return [*self.waiting_lines(sorted({index for freed in movers.values() for index in freed})), *lines, *more]
+        more = [f"  and {len(rows) - ENDS:,} more, by --all"] if rows[ENDS:] else []
+        waiting = sorted({index for freed in self.movers.values() for index in freed})
+        return [*self.waiting_lines(waiting), *lines, *more]
 
     def waiting_lines(self, members: List[int]) -> List[str]:
         """Returns at what some wait of whom it isn't known who frees them; those that wait alike share a line."""
         groups: Dict[Tuple[str, str], List[int]] = {}
         for index in members:
-            groups.setdefault((self.what(index, False), self.frames(index)), []).append(index)
+            groups.setdefault((self.this.what(index, False), self.frames(index)), []).append(index)
         rows = list(groups.items())[:MEMBERS]
         names = [self.names_of(list(map(self.name, alike))) for _, alike in rows]
         wide = max(map(len, names), default=0)
-        lines = [self.columns(f"  {name:<{wide}}  ", what, "", frames, is_wide=False)
+        lines = [self.line_of(f"  {name:<{wide}}  ", what, "", frames)
                  for name, ((what, frames), _) in zip(names, rows)]
         left = sum(map(len, list(groups.values())[MEMBERS:]))
         return lines + ([f"  and {left:,} more"] if left else [])
 
+    @cached_property
     def movers(self) -> Dict[int, Set[int]]:
         """Returns who sleeps or goes on, with those whom it may free of whom it isn't known who frees them."""
         users: Dict[int, Tuple[Wakers, Set[int]]] = {}
@@ -374,9 +440,10 @@ class Screen:
         return movers
 
     def moving(self, wakers: Wakers) -> List[int]:
-        """Returns those of some wakers who sleep or go on."""
+        """Returns those of some wakers who sleep or go on, and behind them who looks again and again."""
         there = [self.waits.index[name] for name in wakers.names() if name in self.waits.index]
-        return [index for index in there if self.this.process(index).sign in (Sign.SLEEPS, Sign.POLLS, Sign.GOES_ON)]
+        return [index for signs in ((Sign.SLEEPS, Sign.GOES_ON), (Sign.POLLS,)) for index in there
+                if self.this.process(index).sign in signs]
 
     def idle_lines(self) -> List[str]:
         """Returns who has nothing to do, or waits for one who has, by what they wait for."""
@@ -403,34 +470,43 @@ class Screen:
     def waiting_words(self, number: int, nearest: List[int]) -> str:
         if not number:
             return ""
-        names = self.some(map(self.name, nearest)) if number <= NAMES else self.noun(number)
+        nouns = " or ".join(map(many, dict.fromkeys(map(self.noun, nearest))))
+        names = self.some(map(self.name, nearest)) if number <= NAMES else f"{number:,} {nouns}"
         return f"{names} {'waits' if number == 1 else 'wait'} in the end for"
 
     def sign_words(self, index: int) -> str:
         process = self.this.process(index)
-        if process.sign in (Sign.SLEEPS, Sign.POLLS):
-            return process.sign.value
+        if process.reason == OF_SERVER or process.sign in (Sign.SLEEPS, Sign.POLLS):
+            return process.reason if process.reason == OF_SERVER else process.sign.value
         return {Sign.TICKS: "ticks", Sign.GOES_ON: "goes on"}.get(process.sign) or self.this.goes_on_words(index)
 
     def place_words(self, index: int) -> str:
         frames = self.frames(index).split(" < ")[0]
-        return f" in {frames}" if frames else ""
+        return f" in {frames}" if frames and self.this.process(index).frames != [UNREADABLE] else ""
 
     # What to do, and where there is more
 
     def last(self) -> List[str]:
-        rows = [("Do", self.cure_words()), ("Sure?", self.sure_words()), ("More", self.more_words())]
-        return [self.row(word, words) for word, words in rows if words]
+        rows = [("Do", self.to_do()), ("Sure?", self.to_be_sure()), ("More", self.to_see_more())]
+        return [self.row(word, texts) for word, texts in rows if texts]
 
-    def row(self, word: str, words: str) -> str:
-        lines = [line for row in words.split("\n") for line in textwrap.wrap(
-            row, self.width - HEAD, break_on_hyphens=False, break_long_words=False)]
+    def row(self, word: str, texts: List[str]) -> str:
+        """Returns the lines behind a word. A command isn't broken, so that it can be copied."""
+        lines: List[str] = []
+        for text in texts:
+            lines += [text] if isinstance(text, AsItIs) else textwrap.wrap(
+                text, self.width - HEAD, break_on_hyphens=False, break_long_words=False)
         return AsItIs("\n".join(f"{word if not row else '':<{HEAD}}{line}" for row, line in enumerate(lines)))
 
+    def to_do(self) -> List[str]:
+        """Returns what breaks all groups. If there is none, it is a command that ends the one at which most waits end,
+        or else at whom to look, or to wait."""
+        roots = self.this.roots.roots
+        words = self.cure_words() if roots else self.end_words() or self.look_words() or self.wait_words()
+        enough = self.cures.enough_words(0) if len(roots) == 1 else ""
+        return [f"{text}." for text in (words, enough) if text]
+
     def cure_words(self) -> str:
-        """Returns what breaks all groups, or if there is none a command that ends the one at which most waits end."""
-        if not self.this.roots.roots:
-            return self.end_words()
         cures = self.cures.least()
         several = len(self.this.roots.roots) > 1
         words = []
@@ -441,50 +517,82 @@ class Screen:
                 f" ({'group' if len(cure.roots) == 1 else 'groups'} {groups}{left})"
             words.append(words_of(self.cures, cure) + of)
         more = [f"{len(cures) - CURES:,} more"] if cures[CURES:] else []
-        return f"{', and '.join([*words, *more])}." if words else ""
+        return ", and ".join([*words, *more])
 
     def end_words(self) -> str:
-        ends = {index: others.number for index, others in self.this.unknown_ones(1) if others.number}
-        for end in self.this.ends().values():
-            ends[end] = ends.get(end, 0) + 1
-        found = max(ends, key=lambda index: ends[index], default=None)
-        process = None if found is None else self.this.process(found)
-        if process is None or not process.remedy or self.this.headline is Headline.NONE:
-            return ""
-        return f"{unit_words(self.cures, process.site or '')} ({ends[found or 0]:,} wait for it)."
+        words = [f"{unit_words(self.cures, step.unit)} ({number:,} {'waits' if number == 1 else 'wait'} for it)"
+                 for step, number in self.cures.ends()]
+        return "; if some wait on, ".join(["if it stays so, " + words[0], *words[1:]] if words else [])
 
-    def sure_words(self) -> str:
+    def look_words(self) -> str:
+        """Returns at whom to look where it isn't known who frees some: at whom most waits end, or who may free most."""
+        if self.this.headline is not Headline.NOT_KNOWN:
+            return ""
+        ends = {index: others.number for index, others in [*self.this.unknown_ones(1), *self.this.idle_ones(1)]}
+        frees = {index: len(freed) for index, freed in self.movers.items()}
+        numbers = {**ends, **Counter(self.this.ends().values()), **frees}
+        there = [index for index in numbers if self.this.process(index).reason != OF_SERVER]
+        first = max(there, key=lambda index: numbers[index], default=None)
+        if first is None:
+            return "".join(f"see what {self.name(index)} waits for" for index in self.this.undecided[:1])
+        process, number = self.this.process(first), numbers[first]
+        if process.name in STAND_INS or process.frames == [REST]:
+            return f"look for {STAND_INS.get(process.name, UNSEEN)}"
+        does = "why {} has nothing to do" if process.sign is Sign.RESTS else "what {} does"
+        whom = f": it may free {self.freed_words(first)}" if first in self.movers else \
+            f": {number:,} {'waits' if number == 1 else 'wait'} for it" if number else ""
+        return f"see {does.format(self.name(first))}{whom}"
+
+    def wait_words(self) -> str:
+        """Returns that nothing is to be done where all go on, and who makes most of them wait."""
+        numbers = Counter(self.this.ends().values())
+        if self.this.headline is not Headline.NONE or not numbers:
+            return ""
+        end, number = numbers.most_common(1)[0]
+        return f"restart nothing. If it takes long, see what {self.name(end)} does: {number:,} " \
+            f"{'waits' if number == 1 else 'wait'} for it"
+
+    def freed_words(self, index: int) -> str:
+        """Returns whom one may free who sleeps or goes on."""
+        freed = self.movers[index]
+        return self.name(min(freed)) if len(freed) == 1 else f"{len(freed):,} of them"
+
+    def to_be_sure(self) -> List[str]:
         """Returns how the reader says that no doubt of the first likely group holds."""
         roots = self.this.roots.roots
         first = next((members for number, members in enumerate(roots) if not self.this.is_certain(number)), None)
         if first is None:
-            return ""
+            return []
         doubts = self.this.doubts_of(first)
         number = len(doubts)
-        who = {1: "it never", 2: "neither ever"}.get(number, f"none of {'these' if number <= DOUBTS else number} ever")
-        what = f"{who} frees {self.doubted(first)}"
-        numbers = ",".join(str(doubt.number) for doubt in doubts)
-        if self.more.true is None:
-            return f"if {what}, it is certain: --all says how to say so."
-        words, command = f"if {what}:", f"{self.more.true} {numbers}"
-        return f"{words}{' ' if len(words) + len(command) < self.width - HEAD else chr(10)}{command}"
+        doubters = sum(max(1, len(doubt.who)) for doubt in doubts)
+        several = f"none of {'these' if number <= DOUBTS else number} ever"
+        who = {1: "it never", 2: "neither ever"}.get(doubters, several)
+        what, numbers = f"{who} frees {self.doubted(first)}", ",".join(str(doubt.number) for doubt in doubts)
+        if not self.more.has_true:
+            return [f"if {what}, it is certain."]
+        words, command = f"if {what}, it is certain: say so by", self.more.asks(f"--true {numbers}")
+        return [f"{words} {command}"] if len(words) + len(command) < self.width - HEAD else [words, AsItIs(command)]
 
-    def more_words(self) -> str:
-        roots = self.this.roots.roots
-        name = [self.waits.processes[roots[0][0]].name] if roots else \
-            [self.waits.processes[index].name for index in self.this.undecided[:1]]
-        return "\n".join([self.more.all, *(self.why_words(text) for text in name)])
+    def to_see_more(self) -> List[str]:
+        """Returns the commands that say more. Where a long path makes the second one wide, it has what differs."""
+        roots, room = self.this.roots.roots, self.width - HEAD
+        first = [self.waits.processes[index].name for index in (roots[0] if roots else self.this.undecided)[:1]]
+        options = [f"--why {name}" for name in [*map(quoted, first), "NAME"]]
+        texts = [self.more.asks(options[0]), *(f"or {option} in place of --all" for option in options)]
+        why = [next(text for text in texts if len(text) <= room)] if first else []
+        return list(map(AsItIs, [self.more.asks("--all"), *why]))
 
-    def why_words(self, name: str) -> str:
-        """Returns the command that says whom one waits for, whole where it fits into a line."""
-        whole = f"{self.more.why} {quoted(name)}"
-        return whole if len(whole) <= self.width - HEAD else f"{self.more.why} NAME"
+
+def many(noun: str) -> str:
+    return f"{noun}{'es' if noun.endswith('s') else 's'}"
 
 
 def prefix_of(names: List[str]) -> str:
     """Returns what all names begin with, up to a slash: the name of one process of several threads says no more."""
     prefix = os.path.commonprefix(names)
-    return prefix[:prefix.rfind("/") + 1] if len(names) > 1 else ""
+    shared = prefix[:prefix.rfind("/") + 1] if len(names) > 1 else ""
+    return "" if any(name[len(shared):].isdigit() for name in names) else shared
 
 
 def cut_name(text: str, most: int) -> str:
@@ -492,9 +600,21 @@ def cut_name(text: str, most: int) -> str:
     return text if len(text) <= most else f"{text[:most // 2 - 2]}..{text[-(most // 2):]}"
 
 
+def cut_words(text: str, most: int) -> str:
+    """Returns a text without words in its middle, if it is long: the end tells it from others."""
+    first, *rest = text.split(" ")
+    while rest and len(text) > most:
+        rest.pop(0)
+        text = " ".join([first, "..", *rest])
+    return text if len(text) <= most else cut_name(first.rpartition(".")[2] or first, most)
+
+
 def cut(text: str, most: int) -> str:
-    """Returns a text, at most its beginning."""
-    return text if len(text) <= most else f"{text[:most - 2]}.."
+    """Returns a text, at most its beginning, up to a word where one ends in its second half."""
+    if len(text) <= most:
+        return text
+    end = text.rfind(" ", most // 2, most - 2)
+    return f"{text[:end]} .." if end > 0 else f"{text[:most - 2]}.."
 
 
 def quoted(text: str) -> str:
@@ -502,5 +622,5 @@ def quoted(text: str) -> str:
     return shlex.quote(short_name(text))
 
 
-def screen(this: Explanation, more: More = BESIDE) -> str:
+def screen(this: Explanation, more: More = More()) -> str:
     return Screen(this, more).text()

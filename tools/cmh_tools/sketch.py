@@ -16,11 +16,13 @@ from dataclasses import dataclass, field
 from typing import Any, Dict, Iterable, List, Optional, Sequence, Set, Tuple, TypedDict
 
 from .files import Refusal, shown
-from .model import COMES, HOWS, Anybody, Part, Sign, Strength
+from .model import COMES, HOWS, Anybody, Part, Sign, Strength, once
 
 RUNS, ANY, ALL, UNKNOWN, ENDED = KINDS = ("runs", "waits_for_any", "waits_for_all", "unknown", "ended")
 DONE, NEEDED = "done", "needed"
 WORK = "waits for work"  # why an idle worker of a pool rests
+TIMER = "waits for a timer"  # what one with a limit does that runs nothing of the job's meanwhile
+OF_SERVER = "is a limit of the server"  # why what breaks off waits of a server goes on
 COMPLETE = "?"  # in a line of facts: for people to complete
 UNREADABLE = "unreadable"  # the frame of one that couldn't be read
 REST = "left-out"  # the name and the frame of those that a state may lack, by which facts decide them
@@ -30,8 +32,10 @@ FACT, PREMISE = "fact", "premise"  # before what a reason of these kinds is call
 LIMIT = "limit"  # the assumption that a wait with a limit ends
 INNER = "inner"  # the assumption that threads of a runtime, such as one that finalizes, end nobody's wait
 MANY = 65_536  # names in all lists; with more, equal lists are one
+KEPT = 64  # waits of several parts of which it is kept what was found
 GOING = (Sign.GOES_ON, Sign.TICKS, Sign.SLEEPS, Sign.POLLS)  # signs of those that go on by themselves
 WAITING = (Sign.BLOCKED, Sign.RESTS)
+KIND_OF = {Sign.ENDED: ENDED, Sign.UNKNOWN: UNKNOWN}  # of those that don't wait and don't go on
 
 
 @dataclass
@@ -47,8 +51,9 @@ class Process:
     `frame` writes it; `operation` is the call that it waits in ('put', 'chan send', 'MPI_Recv'); `objects` what it
     waits at (a lock's address, the name of whom it called), and values for facts ('to=3', 'creator=main/1'); `count`
     what the system counts (reductions, context switches), as text. Two looks show the same wait if these four are the
-    same. `thread` is the thread of the kernel that it is all the time, as PID/TID. `remedy` is a command that ends it,
-    of one that people end in another way than by a restart of its site, and `effect` is what its end does besides.
+    same. `thread` is the thread of the kernel that it is all the time, as PID/TID, or PID/ where its process alone is
+    known. `remedy` is a command that ends it, of one that people end in another way than by a restart of its site, and
+    `effect` is what its end does besides.
 
     `is_collective` says that its operation needs all of a group to come to it, and `meeting` at which one it is, or for
     which of several all have to come, where that may differ from others of that operation. `is_garbled` says that its
@@ -81,17 +86,15 @@ class Process:
     @property
     def kind(self) -> str:
         """Which of KINDS it is where all wakers count: UNKNOWN if somebody may end its wait who isn't seen."""
-        if self.sign in GOING:
-            return RUNS
-        if self.sign is Sign.ENDED:
-            return ENDED
-        if self.sign is Sign.UNKNOWN or all(map(is_open, self.parts)):
+        if self.sign not in WAITING:
+            return KIND_OF.get(self.sign, RUNS)
+        if is_open(self.parts[0]) if len(self.parts) == 1 else are_open(self.parts):
             return UNKNOWN
         return ALL if self.is_for_all() else ANY
 
     def is_for_all(self) -> bool:
         """Whether all of some have to come, or one who comes to an end does."""
-        return len(self.parts) > 1 or COMES in [some.how for some in self.parts[0]]
+        return len(self.parts) > 1 or COMES in [group.how for group in self.parts[0]]
 
     def is_open(self) -> bool:
         """Whether somebody may end a part of its wait who isn't in the state."""
@@ -101,14 +104,12 @@ class Process:
     def whom(self) -> Sequence[str]:
         """The names of those that it waits for, by all parts of its wait, but for those who are against. One list of
         wakers is itself, so that those who share it have the same."""
-        lists = [some.names() for part in self.parts for some in part if some.strength is not Strength.AGAINST]
-        lists = [names for names in lists if names]
-        return lists[0] if len(lists) == 1 else list(dict.fromkeys(name for names in lists for name in names))
+        return whom_of(self.parts)
 
     def against(self) -> List[str]:
         """The names of those that may end its wait in another way."""
-        return list(dict.fromkeys(name for part in self.parts for some in part for name in some.names()
-                                  if some.strength is Strength.AGAINST))
+        return list(dict.fromkeys(name for part in self.parts for group in part for name in group.names()
+                                  if group.strength is Strength.AGAINST))
 
     def become_unknown(self, reason: str) -> None:
         """Takes back what was said of its wait, or of why it goes on."""
@@ -127,7 +128,7 @@ class Process:
 
     def why_unknown(self) -> str:
         """Returns why it isn't known who ends its wait: the reason, or how somebody may who isn't in the state."""
-        hows = dict.fromkeys(some.how for part in self.parts for some in part if isinstance(some.who, Anybody))
+        hows = dict.fromkeys(group.how for part in self.parts for group in part if isinstance(group.who, Anybody))
         return self.reason or "; ".join(f"somebody {HOWS[how][1]}" for how in hows)
 
     def is_there(self) -> bool:
@@ -135,12 +136,28 @@ class Process:
         return self.sign not in (Sign.RESTS, Sign.ENDED) and self.frames != [REST]
 
 
+def whom_of(parts: Sequence[Part]) -> Sequence[str]:
+    """Returns the names of those that a wait is for."""
+    lists = [group.names() for part in parts for group in part if group.strength is not Strength.AGAINST]
+    lists = [names for names in lists if names]
+    return lists[0] if len(lists) == 1 else list(dict.fromkeys(name for names in lists for name in names))
+
+
 def is_open(part: Part) -> bool:
     """Whether anybody may end a part of a wait who isn't in the state."""
-    for some in part:  # (a loop takes half as long as `any`, and each process is asked often)
-        if isinstance(some.who, Anybody):
+    for group in part:  # (a loop takes half as long as `any`, and each process is asked often)
+        if isinstance(group.who, Anybody):
             return True
     return False
+
+
+are_open = once(lambda parts: all(map(is_open, parts)), KEPT)  # whether all parts of a wait are
+hows_of = once(lambda parts: {group.how for part in parts for group in part}, KEPT)
+
+
+def has_how(process: Process, how: str) -> bool:
+    """Whether somebody may end the wait of a process in a way."""
+    return how in hows_of(process.parts)
 
 
 def premise(name: str) -> str:
@@ -203,7 +220,8 @@ class Sketch:
     of its threads stand, `times` when each reading began and ended, in seconds of its clock, `idle` has the threads of
     idle ones that are left out, `readers` those that end nobody's wait, as they print a state or collect garbage, and
     `inner` those of a runtime of which the premise INNER says it. `connections` has by the key of a connection to a
-    server which session serves it ('serves'), who has its client's end ('has'), and who waits there ('awaits').
+    server which session serves it ('serves'), who has its client's end ('has'), who waits there ('awaits'), and of a
+    broker's who is likely to send what comes there ('gives').
     `begun_by` has by the site of a process of the machine that of the one that has begun it, if that was read as one of
     the job too.
     """
@@ -232,33 +250,48 @@ class Sketch:
             if process.name in names:
                 raise Refusal(f"two processes are called {quote(process.name)}")
             names.add(process.name)
-        sound: Set[int] = set()
+        is_whole = names.issuperset(itertools.chain.from_iterable(lists_of_wakers(self.processes)))
+        sound: Set[str] = set()
         for process in self.processes:
-            check_wakers(process, names, sound)
-            check_reasons(process, self.premises)
-        for at, pair in enumerate(self.in_transit):
+            if not is_whole:
+                check_wakers(process, names)
+            if not process.because and process.kind != UNKNOWN:
+                raise Refusal(f"process {quote(process.name)}: '{process.kind}' has no reason ('because')")
+            if not sound.issuperset(process.because):
+                check_reasons(process, self.premises)
+                sound.update(process.because)
+        for number, pair in enumerate(self.in_transit):
             for name in pair:
                 if name not in names:
                     more = near_name(name, names)
-                    raise Refusal(f"'in_transit', entry {at + 1}: nobody is called {quote(name)}{more}")
+                    raise Refusal(f"'in_transit', entry {number + 1}: nobody is called {quote(name)}{more}")
 
 
 def lists_of_wakers(processes: Iterable[Process]) -> Iterable[Sequence[str]]:
     """Returns each list of wakers once."""
-    return {id(some.who): some.names() for process in processes for part in process.parts for some in part}.values()
+    waits = {id(process.parts): process.parts for process in processes}
+    return {id(group.who): group.names() for parts in waits.values() for part in parts for group in part}.values()
+
+
+def shared_waits(waits: Sequence[Sequence[Part]]) -> Dict[int, Sequence[Part]]:
+    """Returns, by their ids, the waits for all that several have, if all together are long."""
+    if sum(map(len, waits)) <= MANY:
+        return {}
+    counts = Counter(map(id, waits))
+    return {id(parts): parts for parts in waits if counts[id(parts)] > 1 and len(parts) > 1}
 
 
 def shared_lists(processes: Sequence[Process]) -> Dict[int, Sequence[str]]:
     """Returns, by their ids, the lists of wakers that several waits share, if all lists together are long."""
-    counts: Dict[int, int] = {}
-    lists: Dict[int, Sequence[str]] = {}
-    for some in (some for process in processes for part in process.parts for some in part):
-        key = id(some.who)
-        if key not in counts:
-            counts[key], lists[key] = 0, some.names()
-        counts[key] += 1
-    if sum(counts[key] * len(names) for key, names in lists.items()) <= MANY:
+    users = Counter(id(process.parts) for process in processes)
+    waits = {id(process.parts): process.parts for process in processes}
+    groups = [(users[wait], group) for wait, parts in waits.items() for part in parts for group in part]
+    if sum(number * len(group.names()) for number, group in groups) <= MANY:
         return {}
+    counts: Counter[int] = Counter()
+    for number, group in groups:
+        counts[id(group.who)] += number
+    lists = {id(group.who): group.names() for _, group in groups}
     return {key: names for key, names in lists.items() if counts[key] > 1 and len(names) > 1}
 
 
@@ -270,18 +303,18 @@ def quote(text: str) -> str:
 def near_name(name: str, names: Iterable[str]) -> str:
     """Returns the question for a name that is near, or nothing. To compare takes time, so it isn't done with all of
     very many names, nor with long ones."""
-    short = [it for it in itertools.islice(names, 10000) if len(it) <= 100]
-    found = difflib.get_close_matches(name, short, 1, 0.6) if len(name) <= 100 else []
-    return f"; is {quote(found[0])} meant?" if found else ""
+    short = [short_name for short_name in itertools.islice(names, 10000) if len(short_name) <= 100]
+    near = difflib.get_close_matches(name, short, 1, 0.6) if len(name) <= 100 else []
+    return f"; is {quote(near[0])} meant?" if near else ""
 
 
 def read_json(text: str, where: str) -> Any:
     """Returns the tree of a JSON text. Raises Refusal if it is none, or writes a key of an object twice."""
 
-    def pairs(found: List[Tuple[str, Any]]) -> Dict[str, Any]:
-        tree = dict(found)
-        if len(tree) != len(found):
-            (key, _), = Counter(key for key, _ in found).most_common(1)
+    def pairs(rows: List[Tuple[str, Any]]) -> Dict[str, Any]:
+        tree = dict(rows)
+        if len(tree) != len(rows):
+            (key, _), = Counter(key for key, _ in rows).most_common(1)
             raise Refusal(f"{shown(where)}: an object has the key {quote(key)} twice")
         return tree
 
@@ -295,19 +328,14 @@ def read_json(text: str, where: str) -> Any:
         raise Refusal(f"{shown(where)}: it is no JSON: a number has too many digits") from error
 
 
-def check_wakers(process: Process, names: Set[str], sound: Set[int]) -> None:
-    """Raises Refusal if one of those that may end a wait is nobody. `sound` has the lists that were looked at."""
-    for some in (some for part in process.parts for some in part if id(some.who) not in sound):
-        if not names.issuperset(some.names()):
-            lost = next(name for name in some.names() if name not in names)
-            raise Refusal(f"process {quote(process.name)}: '{process.kind}' names {quote(lost)}, and no process "
-                          f"has that name{near_name(lost, names)}")
-        sound.add(id(some.who))
+def check_wakers(process: Process, names: Set[str]) -> None:
+    """Raises Refusal if one of those that may end a wait is nobody."""
+    for lost in (name for part in process.parts for group in part for name in group.names() if name not in names):
+        raise Refusal(f"process {quote(process.name)}: '{process.kind}' names {quote(lost)}, and no process has that "
+                      f"name{near_name(lost, names)}")
 
 
 def check_reasons(process: Process, premises: Dict[str, str]) -> None:
-    if not process.because and process.kind != UNKNOWN:
-        raise Refusal(f"process {quote(process.name)}: '{process.kind}' has no reason ('because')")
     for reason in process.because:
         word, _, rest = reason.partition(" ")
         is_named = word == PREMISE and rest in premises or word == FACT and rest

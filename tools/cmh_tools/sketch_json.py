@@ -9,22 +9,23 @@
      "in_transit": [["mail", "checkout"]]}
 
 Each process has just one of the keys of KINDS, or else 'sign', with 'wait' for whoever may end its wait and how, as
-`model` has it. A list of `lists`, an object, has a name, and may stand by it. `frames`, `operation`, `objects` and
-`count` tell one wait from the next; parsers write them, and whoever writes by hand may leave them out.
+`model` has it. A list of `lists`, an object, has a name, and may stand by it, and so may a wait of `waits`. `frames`,
+`operation`, `objects` and `count` tell one wait from the next; parsers write them, and whoever writes by hand may leave
+them out.
 """
 from __future__ import annotations
 
 import json
 import math
-from typing import Any, Dict, List, Optional, Set, Tuple
+from typing import Any, Callable, Dict, List, Optional, Sequence, Set, Tuple
 
 from .files import Refusal, shown
-from .model import ANYBODY, COMES, HOWS, Anybody, Sign, Strength, Wakers, Who, all_of, any_of, wakers
-from .sketch import (ALL, ANY, BY_HAND, DONE, KINDS, LIMIT, NEEDED, RUNS, UNKNOWN, FactRow, Process, Sketch, near_name,
-                     premise, quote, read_json, shared_lists)
+from .model import ANYBODY, COMES, HOWS, Anybody, Part, Sign, Strength, Wakers, Who, all_of, any_of, wakers
+from .sketch import (ALL, ANY, BY_HAND, DONE, KINDS, LIMIT, NEEDED, RUNS, UNKNOWN, Process, Sketch, near_name,
+                     premise, quote, read_json, shared_lists, shared_waits)
 
-TEXTS = ("site", "note", "operation", "thread", "meeting", "remedy", "effect")
-LISTS = ("frames", "objects", "because")
+TEXTS = dict.fromkeys(("site", "note", "operation", "thread", "meeting", "remedy", "effect"))  # (as each key is sought)
+LISTS = dict.fromkeys(("frames", "objects", "because"))
 TOLD = ("reason", *TEXTS, *LISTS, "count")
 SIGNS = {sign.value: sign for sign in Sign}
 STRENGTHS = {strength.value: strength for strength in Strength}
@@ -34,8 +35,7 @@ KEYS = {"name", *KINDS, *TEXTS, *LISTS, *FLAGS, "count", "sign", "wait", "reason
 # Keys of older notes, which say nothing any more, but for who may end a wait besides.
 OLD_KEYS = {"scope", "candidates", "spared", "besides", "proposal", "idle", "stays"}
 ALL_KEYS = KEYS | OLD_KEYS
-TOP_KEYS = {"processes", "lists", "in_transit", "system", "as_of", "warnings", "premises", "facts", "readings",
-            "machine", "times", "idle", "readers", "inner", "connections", "begun_by"}
+FORMS = (*KINDS, "sign")  # a row has just one of these keys
 
 
 # Reading
@@ -55,23 +55,16 @@ def sketch_of(tree: Any, where: str, because: str = BY_HAND) -> Sketch:
         if not isinstance(rows, list):
             raise Refusal("the sketch has no list 'processes'")
         lists = lists_of(tree)
-        processes = [process_of(row, at, lists) for at, row in enumerate(rows, 1)]
+        waits = waits_of(tree, lists)
+        processes = [process_of(row, number, lists, waits) for number, row in enumerate(rows, 1)]
         for process in processes:
             if process.sign is not Sign.UNKNOWN and not process.because:
                 process.because = [because]
-        sketch = Sketch(processes, [pair_of(pair, at) for at, pair in enumerate(tree.get("in_transit") or [], 1)])
-        for key in ("system", "as_of", "machine"):
-            setattr(sketch, key, text_of(tree, key, "the sketch") or "")
-        for key in ("warnings", "idle", "readers", "inner"):
-            setattr(sketch, key, texts_of(tree, key, "the sketch"))
-        sketch.premises, sketch.facts = premises_of(tree), facts_of(tree)
-        sketch.connections, sketch.begun_by = connections_of(tree), begun_by_of(tree)
-        sketch.readings, sketch.times = number_of_readings(tree), times_of(tree)
+        sketch = Sketch(processes, pairs_of(tree.get("in_transit") or []))
+        set_top(sketch, tree)
         sketch.check()
     except Refusal as refusal:
         raise Refusal(f"{shown(where)}: {refusal}") from None
-    except TypeError:
-        raise Refusal(f"{shown(where)}: 'in_transit' is no list") from None
     return sketch
 
 
@@ -94,7 +87,7 @@ def text_of(tree: Dict[str, object], key: str, who: str) -> Optional[str]:
 
 
 def texts_of(tree: Dict[str, Any], key: str, who: str) -> List[str]:
-    """Returns the texts of a key, each once, or none if the key isn't there."""
+    """Returns the texts of a key, or none if the key isn't there."""
     value: List[str] = tree.get(key, [])
     if not is_texts(value):
         raise Refusal(f"{who}: {quote(key)} is no list of texts")
@@ -107,90 +100,105 @@ def is_texts(value: object) -> bool:
 
 def lists_of(tree: Dict[str, Any]) -> Dict[str, List[str]]:
     """Returns the lists that have a name, by it."""
-    found = tree.get("lists", {})
-    if not isinstance(found, dict) or not all(map(is_texts, found.values())):
+    lists = tree.get("lists", {})
+    if not is_object(lists, is_texts):
         raise Refusal("the sketch: 'lists' is no object of lists of texts")
-    return {name: list(dict.fromkeys(names)) for name, names in found.items()}
+    return {name: list(dict.fromkeys(names)) for name, names in lists.items()}
 
 
-def premises_of(tree: Dict[str, Any]) -> Dict[str, str]:
-    """Returns the sentence of each premise by its name."""
-    found = tree.get("premises", {})
-    if not isinstance(found, dict) or not all(isinstance(it, str) for it in found.values()):
-        raise Refusal("the sketch: 'premises' is no object of texts")
-    return found
+def waits_of(tree: Dict[str, Any], lists: Dict[str, List[str]]) -> Dict[str, List[Part]]:
+    """Returns the waits that have a name, by it."""
+    waits = tree.get("waits", {})
+    if not isinstance(waits, dict):
+        raise Refusal("the sketch: 'waits' is no object")
+    return {name: parts_of(wait, f"{quote(name)} of 'waits'", lists) for name, wait in waits.items()}
 
 
-def connections_of(tree: Dict[str, Any]) -> Dict[str, Dict[str, List[str]]]:
-    """Returns who serves, has or awaits which connection."""
-    tree = tree.get("connections", {})
-    rows = list(tree.values()) if isinstance(tree, dict) else [None]
-    if not all(isinstance(row, dict) and all(map(is_texts, row.values())) for row in rows):
-        raise Refusal("the sketch: 'connections' is no object of objects with lists of texts")
-    return dict(tree)
+def set_top(sketch: Sketch, tree: Dict[str, Any]) -> None:
+    """Sets what a sketch has beside its processes."""
+    for key, (is_right, what) in TOP.items():
+        value = tree.get(key)
+        if value is not None and not is_right(value):
+            raise Refusal(f"the sketch: {quote(key)} is no {what}")
+        if value is not None:
+            setattr(sketch, key, value)
 
 
-def begun_by_of(tree: Dict[str, Any]) -> Dict[str, str]:
-    """Returns by the site of a process that of the one that has begun it."""
-    sites = tree.get("begun_by", {})
-    if not isinstance(sites, dict) or not is_texts(list(sites.values())):
-        raise Refusal("the sketch: 'begun_by' is no object of texts")
-    return sites
+def is_text(value: object) -> bool:
+    return isinstance(value, str)
 
 
-def facts_of(tree: Dict[str, Any]) -> List[FactRow]:
-    """Returns the rows of the facts that were used."""
-    found = tree.get("facts", [])
-    if not isinstance(found, list) or not all(map(is_fact_row, found)):
-        raise Refusal("the sketch: 'facts' is no list of lines, each with 'at', 'text' and 'took'")
-    return found
+def is_object(value: object, has: Callable[[Any], bool]) -> bool:
+    """Whether it is an object whose values are all so."""
+    return isinstance(value, dict) and all(map(has, value.values()))
 
 
-def is_fact_row(row: object) -> bool:
+def is_fact_row(row: Any) -> bool:
     """Whether it says where a line stands, what it is, and in 'took' the names for each of its words."""
-    if not isinstance(row, dict) or not isinstance(row.get("took"), dict):
-        return False
-    return is_texts([row.get("at"), row.get("text")]) and all(map(is_texts, row["took"].values()))
+    return isinstance(row, dict) and is_object(row.get("took"), is_texts) and is_texts([row.get("at"), row.get("text")])
 
 
-def number_of_readings(tree: Dict[str, Any]) -> int:
-    number = tree.get("readings", 1)
-    if isinstance(number, bool) or not isinstance(number, int) or number < 1:
-        raise Refusal("the sketch: 'readings' is no number from 1 on")
-    return number
+def is_time(pair: Any) -> bool:
+    """Whether it is when a reading began, and when it ended."""
+    return isinstance(pair, list) and len(pair) == 2 and all(
+        type(seconds) in (int, float) and math.isfinite(seconds) for seconds in pair)
 
 
-def times_of(tree: Dict[str, Any]) -> List[List[float]]:
-    """Returns when each reading began and ended."""
-    found = tree.get("times", [])
-    if not isinstance(found, list) or not all(isinstance(some, list) and len(some) == 2 for some in found):
-        raise Refusal("the sketch: 'times' is no list of pairs")
-    if not all(type(it) in (int, float) and math.isfinite(it) for some in found for it in some):
-        raise Refusal("the sketch: 'times' has what is no number of seconds")
-    return found
+# What a sketch has beside its processes: how a value of each key is known, and what it is.
+TOP: Dict[str, Tuple[Callable[[Any], bool], str]] = {
+    **dict.fromkeys(("system", "as_of", "machine"), (is_text, "text")),
+    **dict.fromkeys(("warnings", "idle", "readers", "inner"), (is_texts, "list of texts")),
+    **dict.fromkeys(("premises", "begun_by"), (lambda value: is_object(value, is_text), "object of texts")),
+    "facts": (lambda value: isinstance(value, list) and all(map(is_fact_row, value)),
+              "list of lines, each with 'at', 'text' and 'took'"),
+    "connections": (lambda value: is_object(value, lambda row: is_object(row, is_texts)),
+                    "object of objects with lists of texts"),
+    "readings": (lambda value: type(value) is int and value > 0, "number from 1 on"),
+    "times": (lambda value: isinstance(value, list) and all(map(is_time, value)), "list of pairs of seconds"),
+}
+TOP_KEYS = {"processes", "lists", "waits", "in_transit", *TOP}
 
 
-def pair_of(pair: Any, at: int) -> Tuple[str, str]:
-    if not isinstance(pair, list) or len(pair) != 2 or not all(isinstance(name, str) for name in pair):
-        raise Refusal(f"'in_transit', entry {at}: it isn't [sender, receiver]")
-    return pair[0], pair[1]
+def pairs_of(pairs: Any) -> List[Tuple[str, str]]:
+    """Returns the messages in transit, each as its sender and its receiver."""
+    if not isinstance(pairs, list):
+        raise Refusal("'in_transit' is no list")
+    for number, pair in enumerate(pairs, 1):
+        if not is_texts(pair) or len(pair) != 2:
+            raise Refusal(f"'in_transit', entry {number}: it isn't [sender, receiver]")
+    return [(sender, receiver) for sender, receiver in pairs]
 
 
-def process_of(row: Any, at: int, lists: Dict[str, List[str]]) -> Process:
-    """Returns the process of a row, the `at`-th. `lists` has the lists that have a name."""
+def process_of(row: Any, number: int, lists: Dict[str, List[str]], waits: Dict[str, List[Part]]) -> Process:
+    """Returns the process of a row, by its number. `lists` has the lists that have a name, and `waits` such waits, also
+    those for all of such a list."""
     name = row.get("name") if isinstance(row, dict) else None
-    who = f"process {quote(name)}" if isinstance(name, str) else f"process {at}"
+    try:
+        return process_called(name, row, lists, waits)
+    except Refusal as fault:
+        raise Refusal(f"process {quote(name) if isinstance(name, str) else number}{fault}") from None
+
+
+def process_called(name: object, row: Any, lists: Dict[str, List[str]], waits: Dict[str, List[Part]]) -> Process:
+    """Returns the process of a row. A fault has what is said behind its name."""
+    who = ""
     check_keys(row, ALL_KEYS, who)
     if not isinstance(name, str):
         raise Refusal(f"{who} has no 'name', or one that is no text")
-    kinds = [kind for kind in (*KINDS, "sign") if kind in row]
+    kinds = [kind for kind in FORMS if kind in row]
     if len(kinds) != 1:
         has = " and ".join(map(quote, kinds)) if kinds else "none"
         raise Refusal(f"{who} has {has}: just one of {', '.join(map(quote, KINDS))} is needed")
     process = Process(name, Sign.UNKNOWN)
     set_texts(process, row, who)
     if kinds == ["sign"]:
-        set_sign(process, row, who, lists)
+        set_sign(process, row, who)
+        wait = row.get("wait", [])
+        process.parts = waits[wait] if isinstance(wait, str) and wait in waits else parts_of(wait, who, lists)
+    elif kinds == [ALL] and isinstance(row[ALL], str) and lists.get(row[ALL]) and "besides" not in row:
+        key = f"{ALL} {row[ALL]}"
+        waits[key] = waits.get(key) or all_of(lists[row[ALL]], COMES)
+        process.sign, process.parts = Sign.BLOCKED, waits[key]
     else:
         set_kind(process, kinds[0], row, who, lists)
     return process
@@ -212,31 +220,35 @@ def set_texts(process: Process, row: Dict[str, Any], who: str) -> None:
     process.site = process.site or None
 
 
-def set_sign(process: Process, row: Dict[str, Any], who: str, lists: Dict[str, List[str]]) -> None:
-    """Sets the sign of a process, and who may end its wait and how."""
+def set_sign(process: Process, row: Dict[str, Any], who: str) -> None:
+    """Sets the sign of a process, and why it has it."""
     if row["sign"] not in SIGNS:
         raise Refusal(f"{who}: 'sign' is none of {', '.join(SIGNS)}")
     process.sign, process.reason = SIGNS[row["sign"]], text_of(row, "reason", who) or ""
-    wait = row.get("wait", [])
-    if not isinstance(wait, list) or not all(isinstance(part, list) for part in wait):
+
+
+def parts_of(wait: Any, who: str, lists: Dict[str, List[str]]) -> List[Part]:
+    """Returns the parts of a wait: who may end each of them, and how."""
+    if not isinstance(wait, list) or not set(map(type, wait)) <= {list}:
         raise Refusal(f"{who}: 'wait' is no list of lists")
     where = f"{who}, 'wait'"
-    process.parts = [tuple([wakers_of(some, where, lists) for some in part]) for part in wait]
+    return [tuple([wakers_of(group, where, lists) for group in part]) for part in wait]
 
 
 def wakers_of(row: Any, where: str, lists: Dict[str, List[str]]) -> Wakers:
     """Returns the wakers of a row: who they are, how they end a wait, how much that says, and on what it rests."""
-    check_keys(row, WAKER_KEYS, where)
+    if type(row) is not dict or not row.keys() <= WAKER_KEYS:
+        check_keys(row, WAKER_KEYS, where)
     how, strength, names = row.get("how"), row.get("strength"), row.get("who")
     if how not in HOWS or strength not in STRENGTHS:
         raise Refusal(f"{where}: {quote(str(how))} is no way to end a wait, or {quote(str(strength))} is no strength")
-    found: Who = ANYBODY
+    who: Who = ANYBODY
     if isinstance(names, str) and names in lists:
-        found = lists[names]
+        who = lists[names]
     elif names is not None:
-        found = list(dict.fromkeys(texts_of(row, "who", where)))
+        who = list(dict.fromkeys(texts_of(row, "who", where)))
     because = tuple(texts_of(row, "because", where)) if "because" in row else ()
-    return Wakers(found, STRENGTHS[strength], how, because, text_of(row, "what", where) or "")
+    return Wakers(who, STRENGTHS[strength], how, because, text_of(row, "what", where) or "")
 
 
 def count_of(value: object, who: str) -> Optional[str]:
@@ -290,11 +302,14 @@ def of_names(names: List[str]) -> List[Wakers]:
 def tree_of(sketch: Sketch) -> Dict[str, Any]:
     """Returns the tree of JSON that `sketch_of` reads."""
     tree: Dict[str, Any] = {key: getattr(sketch, key) for key in ("system", "as_of", "machine") if getattr(sketch, key)}
-    lists = shared_lists(sketch.processes)
+    lists, waits = shared_lists(sketch.processes), shared_waits([process.parts for process in sketch.processes])
     numbers = {key: f"list {number}" for number, key in enumerate(lists, 1)}
-    tree["processes"] = [row_of(process, numbers) for process in sketch.processes]
+    names_of_waits = {key: f"wait {number}" for number, key in enumerate(waits, 1)}
+    tree["processes"] = [row_of(process, numbers, names_of_waits) for process in sketch.processes]
     if lists:
         tree["lists"] = {numbers[key]: list(names) for key, names in lists.items()}
+    if waits:
+        tree["waits"] = {names_of_waits[key]: rows_of(parts, numbers) for key, parts in waits.items()}
     tree["in_transit"] = [list(pair) for pair in sketch.in_transit]
     rest = ("warnings", "premises", "facts", "times", "idle", "readers", "inner", "connections", "begun_by")
     tree.update({key: getattr(sketch, key) for key in rest if getattr(sketch, key)})
@@ -317,24 +332,28 @@ def text_of_rows(rows: List[Dict[str, Any]]) -> str:
     return json.dumps(rows)[1:-1].replace('}, {"name": ', '},\n  {"name": ')
 
 
-def row_of(process: Process, lists: Dict[int, str]) -> Dict[str, object]:
-    """Returns the row of a process. `lists` has, by their ids, the names of lists that stand by theirs."""
+def row_of(process: Process, lists: Dict[int, str], waits: Dict[int, str]) -> Dict[str, object]:
+    """Returns the row of a process. `lists` and `waits` have, by their ids, the names of those that stand by theirs."""
     row: Dict[str, object] = {"name": process.name, "sign": process.sign.value}
     if process.parts:
-        row["wait"] = [[row_of_wakers(some, lists) for some in part] for part in process.parts]
+        row["wait"] = waits.get(id(process.parts)) or rows_of(process.parts, lists)
     about = vars(process)
-    row.update({key: about[key] for key in TOLD if about[key]})
+    row.update((key, about[key]) for key in filter(about.__getitem__, TOLD))
     row.update({key: True for key, name in FLAGS.items() if about[name]})
     return row
 
 
-def row_of_wakers(some: Wakers, lists: Dict[int, str]) -> Dict[str, object]:
+def rows_of(parts: Sequence[Part], lists: Dict[int, str]) -> List[List[Dict[str, object]]]:
+    return [[row_of_wakers(group, lists) for group in part] for part in parts]
+
+
+def row_of_wakers(group: Wakers, lists: Dict[int, str]) -> Dict[str, object]:
     row: Dict[str, object] = {}
-    if not isinstance(some.who, Anybody):
-        row["who"] = lists[id(some.who)] if id(some.who) in lists else list(some.who)
-    row["how"], row["strength"] = some.how, some.strength.value
-    if some.because:
-        row["because"] = list(some.because)
-    if some.what:
-        row["what"] = some.what
+    if not isinstance(group.who, Anybody):
+        row["who"] = lists[id(group.who)] if id(group.who) in lists else list(group.who)
+    row["how"], row["strength"] = group.how, group.strength.value
+    if group.because:
+        row["because"] = list(group.because)
+    if group.what:
+        row["what"] = group.what
     return row

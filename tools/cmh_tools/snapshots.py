@@ -11,11 +11,11 @@ from __future__ import annotations
 import functools
 from dataclasses import dataclass, field, replace
 from itertools import zip_longest
-from typing import Any, Dict, FrozenSet, List, Optional, Sequence, Set, Tuple
+from typing import Any, Dict, FrozenSet, Iterable, List, Optional, Sequence, Set, Tuple
 
 from .files import escaped, short_name
-from .model import Anybody, Part, Sign, Wakers, unseen
-from .sketch import (BY_HAND, DONE, GOING, REST, SYSTEM, WAITING, Process, Sketch, lists_of_wakers, unknown)
+from .model import Anybody, Part, Sign, Wakers, once, unseen
+from .sketch import (BY_HAND, DONE, GOING, REST, SYSTEM, WAITING, Process, Sketch, lists_of_wakers, unknown, whom_of)
 
 AS_OF = "as of the first of {} states"
 # How the processes of a reading were read: all at one moment, so that one reading alone may decide; at one moment, but
@@ -28,14 +28,14 @@ GONE = "it isn't in the second state"
 ONE_STATE = "there is one state alone, and a wait that is about to end looks like any other"
 OVERLAP = "its first state was read after a second one of another process, so the two show no one time"
 UNCOUNTED = "nothing counts how often it has waited, so the states may show two waits"
-GROWN = "it is at the same place with a count that has grown, so the states may show two waits"
+GROWN = "it may have come back to the same place between the looks, and go on"
 DIFFER = "the states differ in whether it waits for any or for all"
 SHOWN = 5  # names in a reason
 # What one with a limit does, by what its place says, if a count says that it has come back there.
 COME_BACK = {Sign.TICKS: Sign.TICKS, Sign.SLEEPS: Sign.POLLS, Sign.POLLS: Sign.POLLS}
 COME = "the states differ in who hasn't come yet"
 Moments = Dict[str, str]  # how processes were read, by their names
-Known = Dict[Tuple[int, int], Sequence[str]]  # lists of two states in one, by the ids of both
+Known = Dict[Tuple[int, int], Any]  # lists of two states in one, and waits for all, by the ids of both
 
 
 @dataclass
@@ -60,7 +60,7 @@ def snapshots_of(readings: List[Reading]) -> List[List[Optional[Reading]]]:
     sources: Dict[Any, List[Reading]] = {}
     for reading in readings:
         sources.setdefault(reading.source, []).append(reading)
-    return [list(some) for some in zip_longest(*sources.values())]
+    return [list(of_one_time) for of_one_time in zip_longest(*sources.values())]
 
 
 def compare(sketches: List[Sketch], extents: List[str], moment: str, moments: Sequence[Moments] = ()) -> Sketch:
@@ -70,28 +70,35 @@ def compare(sketches: List[Sketch], extents: List[str], moment: str, moments: Se
     made = functools.reduce(lambda first, row: merge(first, *row), zip(sketches[1:], extents[1:], extents), sketches[0])
     made.readings = len(sketches)
     set_signs(made, sketches[1:])
-    for process in made.processes:
-        if (moment_of(process.name, moments) or moment) != ONCE and (len(sketches) == 1 or process.count is None):
-            doubt_wait(process, ONE_STATE if len(sketches) == 1 else UNCOUNTED)
+    doubt_waits([process for process in made.processes if (moment_of(process.name, moments) or moment) != ONCE and (
+        len(sketches) == 1 or process.count is None)], ONE_STATE if len(sketches) == 1 else UNCOUNTED)
     return made
 
 
 def moment_of(name: str, moments: Sequence[Moments]) -> str:
     """Returns how a process was read, if it was read in the same way each time and not as others of its system."""
-    own = {some[name] for some in moments if name in some}
+    own = {own_moments[name] for own_moments in moments if name in own_moments}
     return own.pop() if len(own) == 1 else ""
 
 
-def doubt_wait(process: Process, doubt: str) -> None:
-    """Says of one that waits that somebody may have ended its wait between the looks, and why that isn't known."""
-    if process.sign is Sign.UNKNOWN and not process.is_garbled:
-        process.parts = [(*part, unseen("uncounted", doubt)) for part in process.parts or [(unseen("unshown"),)]]
-    elif process.sign in WAITING and process.parts and not any(some.how == "uncounted" for some in process.parts[0]):
-        kind = "any" if len(process.parts) == 1 else "all"
-        names = ", ".join(map(short_name, process.whom[:SHOWN])) + (" .." if process.whom[SHOWN:] else "")
-        if process.sign is Sign.BLOCKED:
-            process.reason = f"{doubt}; its place says that it waits for {kind} of {names or 'nobody'}"
-        process.parts = [(*part, unseen("uncounted", doubt)) for part in process.parts]
+def doubt_waits(processes: Iterable[Process], doubt: str) -> None:
+    """Says of those that wait that somebody may have ended their waits between the looks, and why that isn't known."""
+    doubted = once(lambda parts: [(*part, unseen("uncounted", doubt)) for part in parts])
+    words = once(lambda parts: f"{doubt}; its place says that it waits for {words_of(parts)}")
+    for process in processes:
+        parts = process.parts
+        if process.sign is Sign.UNKNOWN and not process.is_garbled:
+            process.parts = doubted(parts or [(unseen("unshown"),)])
+        elif process.sign in WAITING and parts and not any(group.how == "uncounted" for group in parts[0]):
+            process.reason = words(parts) if process.sign is Sign.BLOCKED else process.reason
+            process.parts = doubted(parts)
+
+
+def words_of(parts: Sequence[Part]) -> str:
+    """Returns for whom one waits, in words: for any or for all of the first few."""
+    names = whom_of(parts)
+    words = ", ".join(map(short_name, names[:SHOWN])) + (" .." if names[SHOWN:] else "")
+    return f"{'any' if len(parts) == 1 else 'all'} of {words or 'nobody'}"
 
 
 def both(first: Sketch, second: Sketch) -> Sketch:
@@ -118,7 +125,8 @@ def merge(first: Sketch, second: Sketch, extent: str = PARTS, before: str = PART
     later = {process.name: process for process in second.processes}
     missing = missing_names(first, later, extent)
     lists: Known = {}
-    processes = [forget(it) if it.name in missing else join(it, later.get(it.name), lists) for it in first.processes]
+    processes = [forget(process) if process.name in missing else join(process, later.get(process.name), lists)
+                 for process in first.processes]
     here = {process.name for process in processes}
     wanted = {name for names in lists_of_wakers(processes) for name in names} - here
     known = PARTS if PARTS in (extent, before) else extent
@@ -126,7 +134,7 @@ def merge(first: Sketch, second: Sketch, extent: str = PARTS, before: str = PART
     here |= wanted
     pairs = [pair for pair in dict.fromkeys([*first.in_transit, *second.in_transit]) if here.issuperset(pair)]
     warnings = list(dict.fromkeys([*first.warnings, *second.warnings]))
-    number = sum(has_left(it, later) for it in first.processes) - len(missing)
+    number = sum(has_left(process, later) for process in first.processes) - len(missing)
     if number and extent == CUT:
         warnings.append(f"{number} of the first state are not in the second, which has others after them: they have "
                         "ended")
@@ -140,9 +148,9 @@ def missing_names(first: Sketch, later: Dict[str, Process], extent: str) -> Set[
     """The names that the second state may lack though they have not ended. Who ran in the first state runs by that."""
     if extent == WHOLE:
         return set()
-    there = [at for at, process in enumerate(first.processes) if process.name in later]
+    there = [place for place, process in enumerate(first.processes) if process.name in later]
     start = there[-1] + 1 if there and extent == CUT else 0
-    return {it.name for it in first.processes[start:] if has_left(it, later)}
+    return {process.name for process in first.processes[start:] if has_left(process, later)}
 
 
 def has_left(process: Process, later: Dict[str, Process]) -> bool:
@@ -167,7 +175,7 @@ def join(process: Process, later: Optional[Process], known: Known) -> Process:
     """Returns a process of the first state as it is by both."""
     if process.is_garbled and process.sign is Sign.GOES_ON:
         return process  # (it has moved before)
-    odd = next((it for it in (process, later) if it is not None and it.is_garbled), None)
+    odd = next((either for either in (process, later) if either is not None and either.is_garbled), None)
     if odd is not None:
         return replace(process, sign=Sign.UNKNOWN, parts=[], because=[], reason=odd.reason, is_garbled=True, count=None)
     if process.sign is Sign.ENDED:
@@ -176,7 +184,7 @@ def join(process: Process, later: Optional[Process], known: Known) -> Process:
         return moved(process, "it has ended since")
     if is_elsewhere(process, later):
         return moved(process, "it has moved")
-    going = [it for it in (process, later) if it.sign in GOING]
+    going = [either for either in (process, later) if either.sign in GOING]
     if going and (SYSTEM in going[0].because or Sign.UNKNOWN not in (process.sign, later.sign)):
         return runner_of(process, later)
     return waiter_of(process, later, known)
@@ -193,10 +201,10 @@ def moved(process: Process, why: str) -> Process:
 def runner_of(process: Process, later: Process) -> Process:
     """One that goes on in one of the states at least, at the same place in both. One with a limit keeps its sign and
     its first count, by which it is seen whether it has come back, unless the states differ in what it does there."""
-    one = next(it for it in (process, later) if it.sign in GOING)
+    one = next(either for either in (process, later) if either.sign in GOING)
     signs = {process.sign, later.sign}
     if Sign.GOES_ON in signs:
-        one = next(it for it in (process, later) if it.sign is Sign.GOES_ON)
+        one = next(either for either in (process, later) if either.sign is Sign.GOES_ON)
     is_same = process.sign is later.sign
     sign = Sign.GOES_ON if Sign.GOES_ON in signs else process.sign if is_same else Sign.SLEEPS
     return replace(process, sign=sign, parts=[], reason=one.reason, because=one.because,
@@ -213,7 +221,10 @@ def waiter_of(process: Process, later: Process, known: Known) -> Process:
         made.reason = process.reason if process.sign is Sign.UNKNOWN else later.reason
         return made
     made.sign = process.sign if process.sign is later.sign else Sign.BLOCKED
-    made.parts = parts_of_both(process.parts, later.parts, known)
+    key = id(process.parts), id(later.parts)
+    if key not in known:
+        known[key] = parts_of_both(process.parts, later.parts, known)
+    made.parts = known[key]
     if (len(process.parts) > 1) != (len(later.parts) > 1):
         made.become_unknown(DIFFER)
     elif not made.parts and process.parts:
@@ -249,8 +260,8 @@ def names_of_part(part: Part) -> FrozenSet[str]:
 
 def part_of_both(first: Part, second: Part, known: Known) -> Part:
     """Returns the wakers of both states. Where they have the same list it stays one that waits may share."""
-    later = {(some.how, some.strength, some.what): some for some in second}
-    made = [wakers_of_both(some, later.pop((some.how, some.strength, some.what), some), known) for some in first]
+    later = {(group.how, group.strength, group.what): group for group in second}
+    made = [wakers_of_both(group, later.pop((group.how, group.strength, group.what), group), known) for group in first]
     return (*made, *later.values())
 
 
@@ -279,10 +290,10 @@ def end_by_both(process: Process, later: Optional[Process]) -> Process:
 def is_elsewhere(process: Process, later: Process) -> bool:
     """Whether the places of two states differ. What has no place is told by its wait. Where one state shows no place,
     nothing is known to differ."""
-    places = [(it.frames, it.operation, it.objects) for it in (process, later)]
+    places = [(either.frames, either.operation, either.objects) for either in (process, later)]
     if not any(map(any, places)):
-        waits = [(it.kind, set(it.whom)) for it in (process, later)]
-        return waits[0] != waits[1] and all(it.sign in WAITING for it in (process, later))
+        waits = [(either.kind, set(either.whom)) for either in (process, later)]
+        return waits[0] != waits[1] and all(either.sign in WAITING for either in (process, later))
     return places[0] != places[1] and all(map(any, places))
 
 
@@ -301,7 +312,7 @@ def overlap(readings: List[Reading]) -> Optional[Reading]:
 
 def left_out(readings: List[Reading]) -> List[Process]:
     """Returns one unknown process for those of each place that its readings lack, if there may be any."""
-    missing = {it.site: it for it in reversed(readings) if it.missing}
-    return [unknown(f"{escaped(it.site)}/{REST}" if it.site else REST, it.missing, site=it.site or None, frames=[REST])
-            for it in missing.values()]
+    missing = {reading.site: reading for reading in reversed(readings) if reading.missing}
+    return [unknown(f"{escaped(site)}/{REST}" if site else REST, reading.missing, site=site or None, frames=[REST])
+            for site, reading in missing.items()]
 

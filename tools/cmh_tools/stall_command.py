@@ -10,10 +10,11 @@ import shlex
 import shutil
 import tempfile
 import time
+from dataclasses import replace
 from typing import Any, Dict, Iterator, List, Optional, Sequence
 
-from .captures import (HEAP, SYSTEMS, Capture, captures_for, check_needs, fault_of, take, with_sockets,
-                       with_stacks)
+from .captures import (HEAP, SYSTEMS, Capture, captures_for, check_needs, fault_of, labels_of, listeners_at, take,
+                       with_sockets, with_stacks)
 from .command import Parser, dump_of_notes, is_notes, known_doubts, notes_path, run
 from .dump import Dump
 from .dump_command import NO_GUESSES, texts_of
@@ -29,7 +30,7 @@ from .redact import redacted_texts
 from .rule import STATUSES, Headline
 from .running import proposals as what_runs
 from .saying import numbers_of, say_true
-from .screen import BESIDE, More, screen
+from .screen import More, screen
 from .sketch import Sketch, quote, read_json
 from .sketch_json import sketch_of
 from .start import SIGNALS
@@ -41,7 +42,6 @@ RECORD = "stall.json"  # what a folder has, by which it is explained again
 # A process in a state of Linux that runs Python.
 PYTHON = re.compile(r'^cmh-linux \{"pid": (\d+),.*"exe": "([^"]*/python3[^"/]*)"', re.M)
 NO_STACKS = '"with_stacks": false'  # in a state of Linux
-ALONE = ("erlang", "go")  # whose states don't say of which threads of a machine they are
 # What of a JVM's heap tells who ends waits by these calls.
 HEAP_SHOWS = (({"get", "join"}, "The heap shows who runs the task or computes the future, or in which queue it stands"),
               ({"lock", "lockInterruptibly"}, "The heap shows who reads under the lock"),
@@ -58,8 +58,8 @@ USAGE = """cmh-stall SYSTEM TARGET.. [--seconds S] [--with SYSTEM TARGET..] [-o 
        cmh-stall"""
 ABOUT = """Takes the state of a system that hangs twice, and says who is stuck. All that it saw is kept in a new folder.
 SYSTEM TARGET is one of: linux PID.., jvm PID, go HOST:PORT, python PID.., erlang NODE.. [MODULE..], mpi PROGRAM,
-rabbitmq, postgres [CONNINFO [CONSOLE]], mariadb [HOST]. linux with --stacks and jvm with --heap show more, and stop
-more meanwhile. With a FOLDER that it made, it says the answer again, with the facts that you have written there.
+rabbitmq [NODE], postgres [CONNINFO [CONSOLE]], mariadb [HOST]. linux with --stacks and jvm with --heap show more, and
+stop more meanwhile. With a FOLDER that it made, it says the answer again, with the facts that you have written there.
 Alone, it says what runs here, and the command for each. With --service it looks at a service of systemd, as a timer may
 do. With --timeout it runs a command, looks at all its processes if that takes longer, and then ends them."""
 MORE = """status: 0 no process is stuck, 3 some process is stuck, 5 none is stuck for certain and some are undecided,
@@ -69,58 +69,58 @@ own"""
 
 
 def parser() -> Parser:
-    it = Parser("cmh-stall", usage=USAGE, description=ABOUT, epilog=MORE)
-    it.add_argument("words", metavar="SYSTEM TARGET", nargs="*", help="what to take, or a folder that was made before")
-    it.add_argument("--with", dest="others", metavar="WORD", nargs="+", action="append", default=[],
-                    help="take another SYSTEM TARGET.. at the same time, and join both")
-    it.add_argument("--seconds", type=seconds_of, default=5.0,
-                    help="the time from the first look to the last (5): beyond 10 there is a third one halfway")
-    it.add_argument("--stacks", action="store_true",
-                    help="of linux PID: read the stacks of those at a futex too, which holds each for a moment")
-    it.add_argument("--kill", action="store_true",
-                    help="of go PID: end the program by SIGQUIT, for the goroutines that it then writes to its stderr")
-    it.add_argument("--heap", action="store_true",
-                    help="of jvm PID: dump the heap too, for tasks, readers of a lock and joins; says what that stops")
-    it.add_argument("--yes", action="store_true", help="of --heap: do it")
-    it.add_argument("--cookie-file", metavar="FILE", help="of erlang: the file with the cookie of the nodes")
-    it.add_argument("--guesses", action="store_true", help=argparse.SUPPRESS)
-    it.add_argument("--true", metavar="NUMBERS", help="of a folder: say that these doubts are none, as 1,3, and answer")
-    it.add_argument("--all", action="store_true", help="show all that is known, in place of the first screen")
-    it.add_argument("--why", metavar="NAME", help="of a folder: show the chain from one to what its answer rests on")
-    it.add_argument("-o", "--output", metavar="FOLDER", help="the new folder (stall-SYSTEM-TIME)")
-    it.add_argument("--redact", action="store_true",
-                    help="of a folder: write a copy of dump and answer without names and arguments, for mailing")
-    it.add_argument("--service", metavar="UNIT", help="look at the processes of a service of systemd, also while that "
-                    "is started anew; -o is the folder for the folders of the last look and of stalls (stalls-UNIT)")
-    it.add_argument("--keep", metavar="N", type=int, default=KEPT, help="of --service: how many stalls are kept (10)")
-    add_options(it)
-    it.add_version()
-    return it
+    made = Parser("cmh-stall", usage=USAGE, description=ABOUT, epilog=MORE)
+    add = made.add_argument
+    add("words", metavar="SYSTEM TARGET", nargs="*", help="what to take, or a folder that was made before")
+    add("--with", dest="others", metavar="WORD", nargs="+", action="append", default=[],
+        help="take another SYSTEM TARGET.. at the same time, and join both")
+    add("--seconds", type=seconds_of, default=5.0,
+        help="the time from the first look to the last (5): beyond 10 there is a third one halfway")
+    add("--stacks", action="store_true",
+        help="of linux PID: read the stacks of those at a futex too, which holds each for a moment")
+    add("--kill", action="store_true",
+        help="of go PID: end the program by SIGQUIT, for the goroutines that it then writes to its stderr")
+    add("--heap", action="store_true",
+        help="of jvm PID: dump the heap too, for tasks, readers of a lock and joins; says what that stops")
+    add("--yes", action="store_true", help="of --heap: do it")
+    add("--cookie-file", metavar="FILE", help="of erlang: the file with the cookie of the nodes")
+    add("--guesses", action="store_true", help=argparse.SUPPRESS)
+    add("--true", metavar="NUMBERS", help="of a folder: say that these doubts are none, as 1,3, and answer")
+    add("--all", action="store_true", help="show all that is known, in place of the first screen")
+    add("--why", metavar="NAME", help="of a folder: show the chain from one to what its answer rests on")
+    add("-o", "--output", metavar="FOLDER", help="the new folder (stall-SYSTEM-TIME)")
+    add("--redact", action="store_true",
+        help="of a folder: write a copy of dump and answer without names and arguments, for mailing")
+    add("--service", metavar="UNIT", help="look at the processes of a service of systemd, also while that "
+        "is started anew; -o is the folder for the folders of the last look and of stalls (stalls-UNIT)")
+    add("--keep", metavar="N", type=int, default=KEPT, help="of --service: how many stalls are kept (10)")
+    add_options(made)
+    made.add_version()
+    return made
 
 
 def main(words: Sequence[str]) -> int:
-    it = parser()
-    asked = it.parse_args(words)
-    if not asked.words and not asked.service:
+    made = parser()
+    asked = made.parse_args(words)
+    if not words:
         return show_what_runs()
+    if not asked.words and not asked.service:
+        made.error("what is meant? Name a SYSTEM with its TARGET, or a FOLDER")
     os.umask(0o077)
     if asked.service:
-        return look_at_service(it, asked)
+        return look_at_service(made, asked)
     if asked.words[0] in SYSTEMS:
         if asked.kill and (asked.words[0] != "go" or asked.others or len(asked.words) != 2):
-            it.error("--kill is of one Go program alone: go PID --kill")
-        check_heap(it, asked)
-        if asked.stacks and all(some[0] != "linux" for some in [asked.words, *asked.others]):
-            it.error("--stacks is of Linux: linux PID --stacks")
-        parts = [part for some in [asked.words, *asked.others] for part in captured(it, some, asked)]
+            made.error("--kill is of one Go program alone: go PID --kill")
+        check_heap(made, asked)
+        if asked.stacks and all(named[0] != "linux" for named in [asked.words, *asked.others]):
+            made.error("--stacks is of Linux: linux PID --stacks")
+        parts = [part for named in [asked.words, *asked.others] for part in captured(made, named, asked)]
         parts = with_sockets([with_stacks(part) for part in parts] if asked.stacks else parts)
-        alone = next((part.system for part in parts if parts[1:] and part.system in ALONE), "")
-        if alone:
-            it.error(f"a state of {alone} doesn't say of which threads of the machine it is, so it isn't joined")
         return stall(parts, asked)
     if asked.others or asked.output or asked.words[1:] or not os.path.lexists(f"{asked.words[0]}/{RECORD}"):
-        it.error(f"{asked.words[0]} is neither one of {', '.join(SYSTEMS)} nor a folder that cmh-stall has made")
-    check_folder_words(it, asked)
+        made.error(f"{asked.words[0]} is neither one of {', '.join(SYSTEMS)} nor a folder that cmh-stall has made")
+    check_folder_words(made, asked)
     numbers = numbers_of(asked.true) if asked.true is not None else []
     with Folder(asked.words[0]) as folder:
         if asked.redact:
@@ -130,12 +130,12 @@ def main(words: Sequence[str]) -> int:
         return explain(folder, asked)
 
 
-def check_folder_words(it: Parser, asked: argparse.Namespace) -> None:
+def check_folder_words(parser: Parser, asked: argparse.Namespace) -> None:
     """Ends the command where what is asked of a folder doesn't go together."""
     if asked.redact and (asked.true is not None or asked.all or asked.why is not None):
-        it.error("--redact copies an answer that is there: it stands alone")
+        parser.error("--redact copies an answer that is there: it stands alone")
     if asked.all and asked.why is not None:
-        it.error("--all and --why are two answers: name one")
+        parser.error("--all and --why are two answers: name one")
 
 
 def show_what_runs() -> int:
@@ -143,22 +143,22 @@ def show_what_runs() -> int:
     return 0
 
 
-def check_heap(it: Parser, asked: argparse.Namespace) -> None:
+def check_heap(parser: Parser, asked: argparse.Namespace) -> None:
     """Ends the command where a heap is asked of another system, or not yet agreed to."""
     if asked.heap and asked.words[0] != "jvm":
-        it.error("--heap is of a JVM: jvm PID --heap")
+        parser.error("--heap is of a JVM: jvm PID --heap")
     if asked.heap and not asked.yes:
-        it.error(f"{HEAP}. If that may be, add --yes")
+        parser.error(f"{HEAP}. If that may be, add --yes")
 
 
-def captured(it: Parser, words: List[str], asked: argparse.Namespace) -> List[Capture]:
+def captured(parser: Parser, words: List[str], asked: argparse.Namespace) -> List[Capture]:
     """Returns what some words ask to take, or ends the command where they are wrong."""
     system, *targets = words
     if system not in SYSTEMS:
-        it.error(f"{system} is none of {', '.join(SYSTEMS)}")
+        parser.error(f"{system} is none of {', '.join(SYSTEMS)}")
     fault = fault_of(system, targets)
     if fault:
-        it.error(f"{system}: {fault}")
+        parser.error(f"{system}: {fault}")
     return captures_for(system, targets, asked.kill, asked.heap)
 
 
@@ -168,13 +168,10 @@ def look_at_service(parser: Parser, asked: argparse.Namespace) -> int:
         parser.error("--service UNIT stands alone: what is taken is its main process, and --keep is 1 or more")
 
     def look(pid: str, path: str, check: Check) -> int:
-        return stall(captures_for("linux", [pid], False, False), replaced(asked, output=path), check)
+        return stall(captures_for("linux", [pid], False, False), argparse.Namespace(**{**vars(asked), "output": path}),
+                     check)
 
     return watch(asked.service, asked.output or f"stalls-{asked.service}", asked.keep, look)
-
-
-def replaced(asked: argparse.Namespace, **values: object) -> argparse.Namespace:
-    return argparse.Namespace(**{**vars(asked), **values})
 
 
 def part_row(part: Capture, seconds: float) -> Dict[str, object]:
@@ -185,12 +182,13 @@ def part_row(part: Capture, seconds: float) -> Dict[str, object]:
 
 def stall(parts: List[Capture], asked: argparse.Namespace, check: Check = lambda: None) -> int:
     """Takes the states, keeps them, and explains them, once they are checked."""
+    parts = [replace(part, label=label) for part, label in zip(parts, labels_of([part.system for part in parts]))]
     for part in parts:
         check_needs(part)
         say(f"{' '.join([part.system, *part.targets])}: {part.warning(asked.seconds)}")
     with new_folder(asked.output or f"stall-{parts[0].system}-{time.strftime('%Y%m%d-%H%M%S')}") as folder:
         with home_with(asked.cookie_file) as env:
-            texts = {name: text for some in take(parts, asked.seconds, env) for name, text in some.items()}
+            texts = {name: text for states in take(parts, asked.seconds, env) for name, text in states.items()}
         check()
         record = {"version": 1, "parts": [part_row(part, asked.seconds) for part in parts]}
         texts[RECORD] = json.dumps(record, indent=1) + "\n"
@@ -211,13 +209,9 @@ def new_folder(path: str) -> Iterator[Folder]:
         yield folder
     finally:
         if folder is not None:
-            end_folder(folder)
-
-
-def end_folder(folder: Folder) -> None:
-    if not folder.has(folder.at(RECORD)):
-        folder.remove()
-    folder.close()
+            if not folder.has(folder.at(RECORD)):
+                folder.remove()
+            folder.close()
 
 
 @contextlib.contextmanager
@@ -245,9 +239,9 @@ def explain(folder: Folder, asked: argparse.Namespace) -> int:
     is_one = len(parts) == 1
     if not is_one:
         for part in parts:
-            made = Dump(sketch_of_part(folder, part, facts_of(folder, facts_path(folder, part["system"]))))
-            proposals = keep_dump(folder, made, folder.at(f"{part['system']}.json"))
-            write_facts(folder, facts_path(folder, part["system"]), made.sketch, proposals)
+            made = Dump(sketch_of_part(folder, part, facts_of(folder, facts_path(folder, part["label"]))))
+            proposals = keep_dump(folder, made, folder.at(f"{part['label']}.json"))
+            write_facts(folder, facts_path(folder, part["label"]), made.sketch, proposals)
     path = facts_path(folder)
     made = Dump(sketch_of_parts(folder, parts, facts_of(folder, path)), numbers_in(folder))
     proposals = keep_dump(folder, made, folder.at("dump.json"))
@@ -256,15 +250,16 @@ def explain(folder: Folder, asked: argparse.Namespace) -> int:
     explanation = answer(folder, asked)
     if asked.guesses:
         say(NO_GUESSES)
-    steps = [*more_ways(parts, explanation, folder), *next_step(folder, parts, explanation)]
+    ways = more_ways(parts, explanation, folder) if asked.timeout is None else ()  # (of --timeout nobody is left)
+    steps = [*ways, *next_step(folder, parts, explanation)]
     if steps:
         say("\n".join(steps))
     return explanation.status()
 
 
-def facts_path(folder: Folder, system: str = "") -> str:
+def facts_path(folder: Folder, label: str = "") -> str:
     """Returns where the facts of a folder are: those of its answer, or of one of several systems alone."""
-    return folder.at(f"facts-{system}" if system else "facts")
+    return folder.at(f"facts-{label}" if label else "facts")
 
 
 def sketch_of_part(folder: Folder, part: Dict[str, Any], facts: Facts) -> Sketch:
@@ -275,7 +270,7 @@ def sketch_of_parts(folder: Folder, parts: List[Dict[str, Any]], facts: Facts) -
     """Returns the sketch of all systems of a folder together. The dumps of each are there if they are several."""
     if len(parts) == 1:
         return sketch_of_part(folder, parts[0], facts)
-    dumps = [folder.at(f"{part['system']}.json") for part in parts]
+    dumps = [folder.at(f"{part['label']}.json") for part in parts]
     return sketch_for("join", list(map(notes_path, dumps)), facts, folder.read_text)
 
 
@@ -294,7 +289,7 @@ def say_in(folder: Folder, numbers: List[int]) -> None:
     parts, notes = parts_of(folder), notes_path(path)
     if not folder.has(path):
         raise Failure(f"--true: {shown(folder.path)} has no answer yet", 2)
-    dump, _ = dump_of_notes(read_json(folder.read_text(path), path), path, notes, folder.read_text)
+    dump, _ = dump_of_notes(folder.read_text(path), path, notes, folder.read_text)
     say_true(folder, facts_path(folder), numbers, dump,
              lambda facts: Dump(sketch_of_parts(folder, parts, facts), dump.known))
 
@@ -318,22 +313,31 @@ def more_ways(parts: List[Dict[str, Any]], explanation: Explanation, folder: Fol
     status = explanation.status()
     is_open = status not in (0, STATUSES[Headline.DEADLOCK])
     at_futex = is_open and any(process.operation == "futex" for process in explanation.waits.processes)
+    if explanation.is_hidden_by_sleepers() and any(part["targets"] for part in parts):
+        words = " --with ".join(command_words([part["system"], *part["targets"]]) for part in parts)
+        yield f"Who sleeps may only tick, which a longer look shows: cmh-stall {words} --seconds 60"
     for part in parts:
         system, words = part["system"], command_words(part["targets"])
         if part["beside"] and status:
             more = command_words(part["beside"])
             yield f"What wasn't read: {more}, which {words} has started. All of them: cmh-stall python {words} {more}"
-        if explanation.is_hidden_by_sleepers() and part["targets"]:
-            yield f"Who sleeps may only tick, which a longer look shows: cmh-stall {system} {words} --seconds 60"
         if system == "jvm" and part["targets"] and "--heap" not in part["targets"] and is_open:
             yield f"{heap_words(explanation)}, and stops the JVM for longer: cmh-stall jvm {words} --heap --yes"
         if system in ("jvm", "python") and len(parts) == 1 and is_open and waits_outside(explanation):
             yield f"Who is at the other ends of its sockets: cmh-stall {system} {words} --with linux {words}"
+        if system == "go" and len(parts) == 1 and is_open and reads(explanation):
+            for pid in listeners_at(part["targets"][0])[:1]:
+                yield f"Who is at the other ends of its connections: cmh-stall go {words} --with linux {pid}"
         if system == "linux" and status and all(other["system"] != "python" for other in parts):
             yield from to_see_python(part, folder)
         if system == "linux" and part["targets"] and at_futex and lacks_stacks(part, folder):
             yield ("Stacks show more, and hold each process at a futex for a moment: cmh-stall linux "
                    f"{words} --stacks")
+
+
+def reads(explanation: Explanation) -> bool:
+    """Whether somebody inside of a program waits at one of its connections."""
+    return any(row.get("reads") for row in explanation.dump.sketch.connections.values())
 
 
 def waits_outside(explanation: Explanation) -> bool:
@@ -366,14 +370,14 @@ def lacks_stacks(part: Dict[str, Any], folder: Folder) -> bool:
 
 def command_words(words: Sequence[str]) -> str:
     """Returns words that a folder's record has, as people may paste them into a shell."""
-    return " ".join(shlex.quote(shown(it)) for it in words)
+    return " ".join(shlex.quote(shown(word)) for word in words)
 
 
 def next_step(folder: Folder, parts: List[Dict[str, Any]], explanation: Explanation) -> Iterator[str]:
     """Yields what to do where something is undecided, and nobody is stuck."""
     if explanation.headline not in (Headline.NOT_KNOWN, Headline.IDLE):
         return
-    paths = [facts_path(folder)] if len(parts) == 1 else [facts_path(folder, part["system"]) for part in parts]
+    paths = [facts_path(folder)] if len(parts) == 1 else [facts_path(folder, part["label"]) for part in parts]
     where = " and ".join(shown(path) for path in paths if folder.has(path))
     if where and explanation.proposals():
         yield f"What is undecided: complete the facts in {where}, and then: cmh-stall {shown(folder.path)}"
@@ -386,14 +390,16 @@ def parts_of(folder: Folder) -> List[Dict[str, Any]]:
     path = folder.at(RECORD)
     tree = read_json(folder.read_text(path), path)
     try:
-        parts = [{"system": str(it["system"]), "states": list(map(str, it["states"])),
-                  **{key: list(map(str, it.get(key, []))) for key in ("targets", "beside")}} for it in tree["parts"]]
+        parts: List[Dict[str, Any]] = [
+            {"system": str(row["system"]), "states": list(map(str, row["states"])),
+             **{key: list(map(str, row.get(key, []))) for key in ("targets", "beside")}} for row in tree["parts"]]
     except (TypeError, KeyError, AttributeError) as error:
         raise Refusal(f"{shown(path)}: cmh-stall has written something else there") from error
     if not parts or tree.get("version") != 1:
         raise Refusal(f"{shown(path)}: it isn't of a version that is known")
-    for part in parts:
+    for part, label in zip(parts, labels_of([part["system"] for part in parts])):
         check_part(folder, part)
+        part["label"] = label
     return parts
 
 
@@ -415,11 +421,11 @@ def answer(folder: Folder, asked: Optional[argparse.Namespace] = None) -> Explan
     dump, _ = load_noted(folder.read_bytes(path), path, notes_path(path), folder.read_text)
     has_all = asked is not None and (asked.all or asked.why is not None)
     explanation = Explanation(dump, has_all)
-    more = More(*(f"cmh-stall {called} {option}" for option in ("--all", "--why", "--true"))) if asked else BESIDE
-    at = None if asked is None or asked.why is None else index_of(dump, asked.why)
+    more = More(f"cmh-stall {called}", True) if asked else More("cmh-explain dump.json")
+    index = None if asked is None or asked.why is None else index_of(dump, asked.why)
     folder.write([(folder.at("answer"), screen(explanation, more))])
     explanation.style = style_of_output()
-    text = screen(explanation, more) if not has_all else explanation.text() if at is None else explanation.why(at)
+    text = screen(explanation, more) if not has_all else explanation.text() if index is None else explanation.why(index)
     write_out(text)
     return explanation
 
@@ -429,7 +435,7 @@ def write_facts(folder: Folder, path: str, sketch: Sketch, asked: Sequence[Propo
     lines = [f"# {proposal.text()}" for proposal in asked]
     if folder.has(path) or not lines:
         return
-    names = [shown(it.name) for it in sketch.processes]
+    names = [shown(process.name) for process in sketch.processes]
     more = [f"# and {len(names) - MOST_NAMES:,} more"] if names[MOST_NAMES:] else []
     text = ["# Complete a line, and take away the # before it. FACTS.md says how facts are written.", *lines,
             "# The names:", *(f"#   {name}" for name in names[:MOST_NAMES]), *more]

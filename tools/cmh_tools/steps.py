@@ -16,17 +16,17 @@ class Way(NamedTuple):
     end: int
 
 
-def next_steps(found: Findings) -> Dict[int, int]:
+def next_steps(findings: Findings) -> Dict[int, int]:
     """Returns for each process the next one on a shortest way, but for those where a way ends."""
-    waits = found.waits
-    steps = steps_to(found.roots.edges, found.roots.root_of)
-    unknown = [index for index in found.undecided if waits.kinds[index] == UNKNOWN]
-    steps.update(steps_to(edges_among(waits, found.undecided), unknown))
+    waits = findings.waits
+    steps = steps_to(findings.roots.edges, findings.roots.root_of)
+    unknown = [index for index in findings.undecided if waits.kinds[index] == UNKNOWN]
+    steps.update(steps_to(edges_among(waits, findings.undecided), unknown))
     for index in range(waits.number):
-        cause = None if waits.kinds[index] == ENDED else found.high.cause[index]
+        cause = None if waits.kinds[index] == ENDED else findings.high.cause[index]
         if cause is not None:
             steps[index] = cause
-    return {index: past_hubs(steps, it, waits.number) for index, it in steps.items() if index < waits.number}
+    return {index: past_hubs(steps, step, waits.number) for index, step in steps.items() if index < waits.number}
 
 
 def steps_to(edges: Edges, ends: Iterable[int]) -> Dict[int, int]:
@@ -35,15 +35,15 @@ def steps_to(edges: Edges, ends: Iterable[int]) -> Dict[int, int]:
     for index, others in edges.items():
         for other in others:
             back.setdefault(other, []).append(index)
-    found: Dict[int, int] = {}
+    steps: Dict[int, int] = {}
     todo = list(ends)
     seen = {*todo}
     for index in todo:
-        new = [it for it in back.get(index, ()) if it not in seen]
-        found.update((it, index) for it in new)
+        new = [before for before in back.get(index, ()) if before not in seen]
+        steps.update((before, index) for before in new)
         seen.update(new)
         todo += new
-    return found
+    return steps
 
 
 def past_hubs(steps: Dict[int, int], index: int, number: int) -> int:
@@ -54,13 +54,13 @@ def past_hubs(steps: Dict[int, int], index: int, number: int) -> int:
 
 def ways_of(steps: Dict[int, int]) -> Dict[int, Way]:
     """Returns the way of each one that has a next step."""
-    found: Dict[int, Way] = {}
+    ways: Dict[int, Way] = {}
     for start in steps:
         index, trail = start, []
-        while index in steps and index not in found:
+        while index in steps and index not in ways:
             trail.append(index)
             index = steps[index]
-        way = found.get(index, Way(0, index))
-        for number, it in enumerate(reversed(trail), 1):
-            found[it] = Way(way.length + number, way.end)
-    return found
+        way = ways.get(index, Way(0, index))
+        for number, step in enumerate(reversed(trail), 1):
+            ways[step] = Way(way.length + number, way.end)
+    return ways

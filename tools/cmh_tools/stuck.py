@@ -13,14 +13,20 @@ from __future__ import annotations
 
 from collections import Counter, deque
 from copy import copy
+from functools import cached_property
+from itertools import chain
 from typing import Callable, Container, Dict, Iterable, List, Optional, Sequence, Set, Tuple
 
 from .files import Refusal
-from .model import COMES, Part, Sign, Wakers
+from .model import COMES, Part, Sign, Strength, Wakers, once
 from .rule import Decision, Subject
-from .sketch import ALL, ANY, DONE, ENDED, GOING, MANY, RUNS, UNKNOWN, Process, Sketch, lists_of_wakers, shared_lists
+from .sketch import ALL, ANY, DONE, ENDED, GOING, MANY, RUNS, UNKNOWN, Process, Sketch, has_how, lists_of_wakers, \
+    shared_lists, shared_waits
 
 MOST = 5_000_000  # names in all lists; more would take more memory than a machine may have
+NAMED, ABLE = Strength.NAMED, Strength.ABLE
+OWNS, PROCESS = "owns", "same-process"  # hows
+JOINS = ("Thread.join", "pthread_join", "asyncio.wait", "await of a package", "ThreadPoolExecutor.awaitTermination")
 Key = Tuple[int, int]  # of a list: its length, and the sum of its hashes
 
 
@@ -42,15 +48,20 @@ def share_more(sketch: Sketch) -> bool:
         if is_plain(process):
             users.setdefault(id(process.parts[0][0].who), []).append(process)
     excepted = {sender for sender, receiver in sketch.in_transit if sender == receiver}
-    keys = [keys_of_list(some, excepted) for some in users.values()]
+    keys = [keys_of_list(users_of_one, excepted) for users_of_one in users.values()]
     counts = Counter(key for row in keys for key in row)
     known: Dict[Key, Tuple[Sequence[str], Set[str]]] = {}
     number = 0
-    for some, row in zip(users.values(), keys):
+    for users_of_one, row in zip(users.values(), keys):
         key = max(row, key=counts.__getitem__)
         if counts[key] > 1:
-            number += use_one_list(some, key == row[0], known, key)
+            number += use_one_list(users_of_one, key == row[0], known, key)
     return number > 0
+
+
+def owners_of(parts: Sequence[Part]) -> List[str]:
+    """Returns those who have what a wait is for, as far as the system says so."""
+    return [name for part in parts for wakers in part if wakers.how == OWNS for name in wakers.names()]
 
 
 def is_plain(process: Process) -> bool:
@@ -73,21 +84,14 @@ def keys_of_list(users: List[Process], excepted: Set[str]) -> List[Key]:
 def use_one_list(users: List[Process], as_it_is: bool, known: Dict[Key, Tuple[Sequence[str], Set[str]]],
                  key: Key) -> bool:
     """Gives some processes the list that is known by a key, if theirs is equal. Returns whether it is another one."""
-    some = users[0].parts[0][0]
-    names = some.names() if as_it_is else [*some.names(), users[0].name]
+    group = users[0].parts[0][0]
+    names = group.names() if as_it_is else [*group.names(), users[0].name]
     first, wanted = known.setdefault(key, (names, set(names)))
-    if first is some.who or names is not first and wanted != set(names):
+    if first is group.who or names is not first and wanted != set(names):
         return False
     for process in users:
         process.parts = [(process.parts[0][0]._replace(who=first),)]
     return True
-
-
-def shared_parts(subjects: Sequence[Subject]) -> Set[int]:
-    """Returns the ids of waits for all that several have, if all together are long."""
-    counts = Counter(id(subject.parts) for subject in subjects if len(subject.parts) > 1)
-    total = sum(len(subject.parts) for subject in subjects)
-    return {key for key, number in counts.items() if number > 1} if total > MANY else set()
 
 
 class Waits:
@@ -100,30 +104,33 @@ class Waits:
         self.processes = sketch.processes
         if total > MOST:
             raise Refusal(f"too many dependents: the lists have {total:,} names in all, and {MOST:,} is the most")
-        self.index = {process.name: at for at, process in enumerate(self.processes)}
+        self.index = {process.name: index for index, process in enumerate(self.processes)}
         self.number = len(self.processes)
         self.senders: List[Set[int]] = [set() for _ in self.processes]
         for sender, receiver in sketch.in_transit:
             self.senders[self.index[receiver]].add(self.index[sender])
-        self.done = {it.name for it in self.processes if it.sign is Sign.ENDED and it.reason == DONE}
-        self.subjects = [self.subject(at) for at in range(self.number)]
+        self.done = {process.name for process in self.processes
+                     if process.sign is Sign.ENDED and process.reason == DONE}
+        self.not_done = once(lambda parts: [part for part in parts if not self.is_done(part)])
+        self.subjects = [self.subject(index) for index in range(self.number)]
         self.decision = Decision(self.subjects)
-        self.kinds = [self.kind_of(at) for at in range(self.number)]
+        self.kinds = [self.kind_of(index) for index in range(self.number)]
         self.number_nodes()
 
     def without_doubts(self, sketch: Sketch, changed: Iterable[int]) -> Waits:
         """Returns the waits of the same sketch where some have only those wakers left by whom they are likely to be
         stuck. All else is as it was, but for lists that are shared."""
         if self.shared or self.alike:
-            return Waits(sketch)
-        made = copy(self)
-        made.processes, made.subjects, made.kinds = sketch.processes, list(self.subjects), self.kinds[:self.number]
-        for number in changed:
-            made.subjects[number] = made.subject(number)
-            made.kinds[number] = made.kind_of(number)
-        made.decision = Decision(made.subjects)
+            made = Waits(sketch)
+        else:
+            made = copy(self)
+            made.processes, made.subjects, made.kinds = sketch.processes, list(self.subjects), self.kinds[:self.number]
+            for number in changed:
+                made.subjects[number] = made.subject(number)
+                made.kinds[number] = made.kind_of(number)
+            made.decision = Decision(made.subjects)
+            made.number_nodes()
         made.decision.freed = self.decision.freed_beside
-        made.number_nodes()
         return made
 
     def number_nodes(self) -> None:
@@ -132,64 +139,63 @@ class Waits:
         self.left: List[List[int]] = [[] for _ in self.processes]
         self.hubs: Dict[int, int] = {}
         self.shared = shared_lists(self.processes)
-        self.alike = shared_parts(self.subjects)
-        for at, subject in enumerate(self.subjects):
-            self.left[at] = self.nodes_of(subject.parts) if self.kinds[at] in (ANY, ALL) else []
-        self.senders = [senders & set(self.all_left(at)) if senders and self.kinds[at] == ANY else set()
-                        for at, senders in enumerate(self.senders[:self.number])]
+        self.alike = shared_waits([subject.parts for subject in self.subjects])
+        for index, subject in enumerate(self.subjects):
+            self.left[index] = self.nodes_of(subject.parts) if self.kinds[index] in (ANY, ALL) else []
+        self.senders = [senders & set(self.all_left(index)) if senders and self.kinds[index] == ANY else set()
+                        for index, senders in enumerate(self.senders[:self.number])]
         self.senders += [set() for _ in self.left[self.number:]]
         self.waiters: List[List[int]] = [[] for _ in self.left]
-        for at, others in enumerate(self.left):
+        for index, others in enumerate(self.left):
             for other in others:
-                self.waiters[other].append(at)
+                self.waiters[other].append(index)
 
     # What is left of each wait
 
-    def subject(self, at: int) -> Subject:
+    def subject(self, index: int) -> Subject:
         """Returns what the rule sees of one: it goes on if a message for it is in transit, or all have come."""
-        process = self.processes[at]
-        parts = process.parts
-        if self.senders[at] or self.done:
-            left = [part for part in parts if not self.is_sent(at, part) and not self.is_done(part)]
-            if parts and not left:  # (the dump has the list of one that waits for any, with the message)
-                return Subject(process.name, Sign.GOES_ON, [] if process.is_for_all() else parts)
-            parts = left if len(left) < len(parts) else parts
-        return Subject(process.name, process.sign, parts)
+        process = self.processes[index]
+        parts = self.not_done(process.parts) if self.done else process.parts
+        if self.senders[index]:
+            parts = [part for part in parts if not self.is_sent(index, part)]
+        if process.parts and not parts:  # (the dump has the list of one that waits for any, with the message)
+            return Subject(process.name, Sign.GOES_ON, [] if process.is_for_all() else process.parts)
+        return Subject(process.name, process.sign, parts if len(parts) < len(process.parts) else process.parts)
 
-    def is_sent(self, at: int, part: Part) -> bool:
+    def is_sent(self, index: int, part: Part) -> bool:
         """Whether a message of one of the wakers of a part is in transit."""
-        if not self.senders[at]:
-            return False
-        names = {self.index[name] for some in part for name in some.names() if name in self.index}
-        return bool(self.senders[at] & names)
+        names = {self.index[name] for group in part for name in group.names() if name in self.index}
+        return bool(self.senders[index] & names)
 
     def is_done(self, part: Part) -> bool:
         """Whether one that had to come to where all have to has ended well."""
-        return any(some.how == COMES and not self.done.isdisjoint(some.names()) for some in part)
+        return any(group.how == COMES and not self.done.isdisjoint(group.names()) for group in part)
 
-    def kind_of(self, at: int) -> str:
+    def kind_of(self, index: int) -> str:
         """Returns which of KINDS is left of one."""
-        kind = self.processes[at].kind
-        return RUNS if self.subjects[at].sign is Sign.GOES_ON and kind not in (ANY, ALL) else kind
+        kind = self.processes[index].kind
+        return RUNS if self.subjects[index].sign is Sign.GOES_ON and kind not in (ANY, ALL) else kind
 
     def nodes_of(self, parts: Sequence[Part]) -> List[int]:
         """Returns the nodes of a wait: those of its part, or one for each of several."""
         if len(parts) == 1 and (not parts[0] or parts[0][0].how != COMES):
             return self.nodes_of_part(parts[0])
-        closed = [part for part in parts if all(some.names() for some in part)]
         if id(parts) not in self.alike:
-            return [self.node_of_part(part) for part in closed]
-        return [self.hub(id(parts), lambda: [self.node_of_part(part) for part in closed], ALL)]
+            return self.nodes_of_parts(parts)
+        return [self.hub(id(parts), lambda: self.nodes_of_parts(parts), ALL)]
+
+    def nodes_of_parts(self, parts: Sequence[Part]) -> List[int]:
+        """Returns a node for each part that nobody may end who isn't in the state."""
+        return [self.node_of_part(part) for part in parts if all(wakers.names() for wakers in part)]
 
     def nodes_of_part(self, part: Part) -> List[int]:
-        nodes = [node for some in part for node in self.nodes_of_wakers(some)]
-        return list(dict.fromkeys(nodes))
+        return list(dict.fromkeys(chain.from_iterable(map(self.nodes_of_wakers, part))))
 
-    def nodes_of_wakers(self, some: Wakers) -> List[int]:
-        names = some.names()
-        if id(some.who) not in self.shared:
-            return [self.index[name] for name in names]
-        return [self.hub(id(some.who), lambda: [self.index[name] for name in names])]
+    def nodes_of_wakers(self, group: Wakers) -> List[int]:
+        names = group.names()
+        if id(group.who) not in self.shared:
+            return [*map(self.index.__getitem__, names)]
+        return [self.hub(id(group.who), lambda: list(dict.fromkeys(map(self.index.__getitem__, names))))]
 
     def node_of_part(self, part: Part) -> int:
         """Returns one node for a part of several."""
@@ -199,97 +205,144 @@ class Waits:
     def hub(self, key: int, nodes: Callable[[], List[int]], kind: str = ANY) -> int:
         """Returns the hub of a list, by what tells it from others."""
         if key not in self.hubs:
-            found = nodes()
+            members = nodes()
             self.hubs[key] = len(self.left)
-            self.left.append(found)
+            self.left.append(members)
             self.kinds.append(kind)
         return self.hubs[key]
 
     # What is asked of them
 
-    def left_there(self, at: int) -> List[int]:
+    def left_there(self, index: int) -> List[int]:
         """Returns the nodes that one still waits for, without those who have ended."""
-        return [node for node in self.left[at] if self.kinds[node] != ENDED] if self.has_ended else self.left[at]
+        return [node for node in self.left[index] if self.kinds[node] != ENDED] if self.has_ended else self.left[index]
 
-    def all_left(self, at: int) -> List[int]:
+    def all_left(self, index: int) -> List[int]:
         """Returns those that one still waits for, without hubs."""
-        return self.without_hubs(self.left[at])
+        return self.without_hubs(self.left[index])
 
     def without_hubs(self, nodes: Iterable[int]) -> List[int]:
         """Returns some nodes, with those of a hub in its place."""
-        found: Dict[int, None] = {}
+        others: Dict[int, None] = {}
         for node in nodes:
-            found.update(dict.fromkeys(self.all_left(node) if node >= self.number else [node]))
-        return list(found)
+            others.update(dict.fromkeys(self.all_left(node) if node >= self.number else [node]))
+        return list(others)
 
-    def left_of(self, at: int) -> List[int]:
+    def left_of(self, index: int) -> List[int]:
         """Returns the nodes of a wait, but for those of one that waits for any whom the rule sets aside, as far as
         others are left. A list that several share stays whole."""
-        if at >= self.number or self.kinds[at] != ANY:
-            return self.left[at]
-        part = self.subjects[at].parts[0]
-        rows = [(wakers, self.decision.left_of(wakers, part)) for wakers in part]
-        if all(len(names) == len(wakers.names()) for wakers, names in rows):
-            return self.left[at]
-        left = tuple(wakers if id(wakers.who) in self.shared else wakers._replace(who=names)
-                     for wakers, names in rows if names)
-        return self.nodes_of_part(left) or self.left[at]
+        if index >= self.number or self.kinds[index] != ANY:
+            return self.left[index]
+        part = self.subjects[index].parts[0]
+        if all(wakers.strength is Strength.NAMED for wakers in part):
+            return self.left[index]
+        nodes, rows = self.left[index], [(wakers, self.decision.left_of(wakers, part)) for wakers in part]
+        if any(len(names) < len(wakers.names()) for wakers, names in rows):
+            left = tuple(wakers if id(wakers.who) in self.shared else wakers._replace(who=names)
+                         for wakers, names in rows if names)
+            nodes = self.nodes_of_part(left) or nodes
+        return self.without_joiners(index, self.without_rivals(index, nodes))
 
-    def has_hub(self, at: int) -> bool:
-        return any(node >= self.number for node in self.left[at])
+    @cached_property
+    def wanting(self) -> Dict[int, List[int]]:
+        """Those who wait for a lock of each one that has some."""
+        wanting: Dict[int, List[int]] = {}
+        for index, process in enumerate(self.processes):
+            names = owners_of(process.parts) if has_how(process, OWNS) else ()
+            for owner in names:
+                wanting.setdefault(self.index[owner], []).append(index)
+        return wanting
 
-    def list_of(self, at: int) -> Optional[int]:
+    @cached_property
+    def at_same(self) -> Dict[Tuple[str, ...], List[int]]:
+        """Those who wait at one object by one operation, and have no lock that anybody waits for."""
+        rows: Dict[Tuple[str, ...], List[int]] = {}
+        for index, process in enumerate(self.processes):
+            if process.objects and index not in self.wanting:
+                rows.setdefault((process.operation, *process.objects), []).append(index)
+        return rows
+
+    def without_rivals(self, index: int, nodes: List[int]) -> List[int]:
+        """Returns the nodes of a list without those who wait for the same as one that has a lock which others wait for,
+        as for a connection of a pool: they lack it too, and have nothing. Only of one that anybody may free."""
+        if index not in self.wanting:
+            return nodes
+        process, part = self.processes[index], self.subjects[index].parts[0]
+        hows = [wakers.how for wakers in part if wakers.strength in (NAMED, ABLE)]
+        rivals = set(self.at_same.get((process.operation, *process.objects), ()))
+        if hows != [PROCESS] or not rivals:
+            return nodes
+        return [other for other in self.without_hubs(nodes) if other not in rivals] or nodes
+
+    def without_joiners(self, index: int, nodes: List[int]) -> List[int]:
+        """Returns the nodes of a list without those of the waiter's process that only wait for the end of others of it,
+        or of the waiter: they don't end its wait as the first, unless all have to come."""
+        process, inside = self.processes[index], {*nodes, index}
+        left = [node for node in nodes if node >= self.number or self.processes[node].site != process.site
+                or not self.is_joiner(node, inside)]
+        return left if {*left} - {index} and not process.is_collective else nodes
+
+    def is_joiner(self, index: int, whom: Set[int]) -> bool:
+        """Whether one can't go on before one of some others has ended."""
+        left = self.left[index]
+        is_behind = not whom.isdisjoint(left) if self.kinds[index] == ALL else whom.issuperset(left)
+        return self.processes[index].operation in JOINS and is_behind
+
+    def has_hub(self, index: int) -> bool:
+        return any(node >= self.number for node in self.left[index])
+
+    def list_of(self, index: int) -> Optional[int]:
         """Returns the hub of the list that one waits for, if it shares that, and waits for no one else."""
-        left = self.left[at]
-        is_list = len(left) == 1 and left[0] >= self.number and self.kinds[left[0]] == self.kinds[at]
+        left = self.left[index]
+        is_list = len(left) == 1 and left[0] >= self.number and self.kinds[left[0]] == self.kinds[index]
         return left[0] if is_list else None
 
-    def is_awake(self, at: int) -> bool:
+    def is_awake(self, index: int) -> bool:
         """Whether it goes on whatever the others do, unknown ones aside."""
-        return at < self.number and self.subjects[at].sign in GOING
+        return index < self.number and self.subjects[index].sign in GOING
 
     def low(self) -> Answer:
         """Returns the answer in which those are stuck who are it for certain."""
         return Answer(self, *self.spread(()))
 
-    def high(self) -> Answer:
-        """Returns the answer in which those are in the set too of whom it isn't known."""
-        low, freed = self.low(), self.decision.freed
-        calm = {at for at in range(self.number) if self.subjects[at].sign in (*GOING, Sign.RESTS)}
-        inside = [at not in calm and at not in freed or low.inside[at] for at in range(self.number)]
+    def high(self, low: Answer) -> Answer:
+        """Returns the answer in which those are in the set too of whom it isn't known, by the low one."""
+        freed = self.decision.freed
+        calm = {index for index in range(self.number) if self.subjects[index].sign in (*GOING, Sign.RESTS)}
+        inside = [index not in calm and index not in freed or low.inside[index] for index in range(self.number)]
         for node in range(self.number, len(self.left)):
-            each = [inside[it] for it in self.left[node]]
-            inside.append(any(each) if self.kinds[node] == ALL else all(each))
+            marks = [inside[other] for other in self.left[node]]
+            inside.append(any(marks) if self.kinds[node] == ALL else all(marks))
         causes: List[Optional[int]] = [None] * len(self.left)
-        for at, name in freed.items():
-            causes[at] = None if name is None else self.index[name]
+        for index, name in freed.items():
+            causes[index] = None if name is None else self.index[name]
         return Answer(self, inside, causes)
 
-    def stuck_without(self, some: Container[int]) -> List[int]:
+    def stuck_without(self, running: Container[int]) -> List[int]:
         """Returns who would still be stuck if some ran. Where nobody waits for all, that is nobody behind a root."""
         if ALL not in self.kinds:
             return []
-        return Answer(self, *self.spread(some)).members()
+        return Answer(self, *self.spread(running)).members()
 
     def spread(self, running: Container[int]) -> Tuple[List[bool], List[Optional[int]]]:
         """Returns who is in the greatest set if some run, and for each other one one that lets it go on."""
         inside = [True] * len(self.left)
         causes: List[Optional[int]] = [None] * len(self.left)
-        missing = [len(others) if self.kinds[at] == ALL else 1 for at, others in enumerate(self.left)]
-        out = deque(at for at in range(len(self.left)) if self.is_out(at, running))
-        for at in out:
-            inside[at] = False
+        missing = [len(others) if self.kinds[index] == ALL else 1 for index, others in enumerate(self.left)]
+        out = deque(index for index in range(len(self.left)) if self.is_out(index, running))
+        for index in out:
+            inside[index] = False
         while out:
             other = out.popleft()
-            for at in self.waiters[other]:
-                missing[at] -= 1
-                if inside[at] and missing[at] <= 0:
-                    inside[at], causes[at] = False, other if other < self.number else causes[other]
-                    out.append(at)
+            for index in self.waiters[other]:
+                missing[index] -= 1
+                if inside[index] and missing[index] <= 0:
+                    inside[index], causes[index] = False, other if other < self.number else causes[other]
+                    out.append(index)
         return inside, causes
 
-    def is_out(self, at: int, running: Container[int]) -> bool:
-        return at in running or self.is_awake(at) or self.kinds[at] in (RUNS, UNKNOWN)
+    def is_out(self, index: int, running: Container[int]) -> bool:
+        return index in running or self.is_awake(index) or self.kinds[index] in (RUNS, UNKNOWN)
 
 
 class Answer:
@@ -300,38 +353,38 @@ class Answer:
         self.waits, self.inside, self.cause = waits, inside, cause
         self.picks: Dict[int, List[int]] = {}
 
-    def is_stuck(self, at: int) -> bool:
-        return self.inside[at] and self.waits.kinds[at] != ENDED
+    def is_stuck(self, index: int) -> bool:
+        return self.inside[index] and self.waits.kinds[index] != ENDED
 
     def members(self) -> List[int]:
         """Returns the stuck ones in their order."""
-        return [at for at in range(self.waits.number) if self.is_stuck(at)]
+        return [index for index in range(self.waits.number) if self.is_stuck(index)]
 
-    def dependents(self, at: int) -> Optional[List[int]]:
+    def dependents(self, index: int) -> Optional[List[int]]:
         """Returns whom the dump names for p, or None where it is active: of ALL one that is stuck, if there is one. Who
         is in the set though somebody of its list isn't is named as one whom nobody unblocks."""
-        waits, kind = self.waits, self.waits.kinds[at]
-        if kind not in (ANY, ALL) or not self.inside[at] and (waits.is_awake(at) or self.cause[at] is None):
-            sent = kind == ANY and at < waits.number and waits.senders[at]
-            return self.sent(at) if sent else [] if self.inside[at] and kind != RUNS else None
+        waits, kind = self.waits, self.waits.kinds[index]
+        if kind not in (ANY, ALL) or not self.inside[index] and (waits.is_awake(index) or self.cause[index] is None):
+            sent = kind == ANY and index < waits.number and waits.senders[index]
+            return self.sent(index) if sent else [] if self.inside[index] and kind != RUNS else None
         if kind == ALL:
-            first = waits.left[at][0]
-            return self.pick(first if first >= waits.number and waits.kinds[first] == ALL else at)
-        there = waits.left_there(at)
-        return [] if self.inside[at] and not all(map(self.inside.__getitem__, there)) else there
+            first = waits.left[index][0]
+            return self.pick(first if first >= waits.number and waits.kinds[first] == ALL else index)
+        there = waits.left_there(index)
+        return [] if self.inside[index] and not all(map(self.inside.__getitem__, there)) else there
 
-    def sent(self, at: int) -> Optional[List[int]]:
+    def sent(self, index: int) -> Optional[List[int]]:
         """Returns whom the dump names for one whose message is in transit: its list, with one of the senders."""
         waits = self.waits
-        if any(waits.kinds[it] == ENDED for it in waits.senders[at]):
+        if any(waits.kinds[sender] == ENDED for sender in waits.senders[index]):
             return None
-        there = waits.left_there(at)
-        return there + ([min(waits.senders[at])] if waits.has_hub(at) else [])
+        there = waits.left_there(index)
+        return there + ([min(waits.senders[index])] if waits.has_hub(index) else [])
 
-    def pick(self, at: int) -> List[int]:
+    def pick(self, index: int) -> List[int]:
         """Returns whom the dump names for one that waits for all: the first that is stuck, or else the first."""
-        if at not in self.picks:
-            there = self.waits.left_there(at)
-            picks = [other for other in there if self.inside[other]] or (there if not self.inside[at] else [])
-            self.picks[at] = [min(picks)] if picks else []
-        return self.picks[at]
+        if index not in self.picks:
+            there = self.waits.left_there(index)
+            picks = [other for other in there if self.inside[other]] or (there if not self.inside[index] else [])
+            self.picks[index] = [min(picks)] if picks else []
+        return self.picks[index]

@@ -12,9 +12,8 @@ from .files import Failure, shown
 from .folding import MOST
 from .picture import Picture
 from .start import SIGNALS
-from .titles import FIT, crossed, free_titles
+from .titles import FIT, SPACE, crossed, free_titles, tag_of
 
-SPACE = "http://www.w3.org/2000/svg"
 # The layouts that are tried, one after the other.
 PLANS = (Plan(), Plan(has_site_frames=False), Plan(width=28, gap=0.35), Plan(width=28, gap=0.3, has_site_frames=False))
 SECONDS = 120  # that a layout may take: one of 40 boxes takes less than one
@@ -101,17 +100,17 @@ def laid_out(text: str) -> bytes:
 def copies(tree: ElementTree.Element, boxes: Dict[str, str]) -> Iterator[ElementTree.Element]:
     """Yields the forms and texts below an element. What Graphviz calls one of the boxes gets its words as a title, and
     its number; the frame of a root has the number of that."""
-    for it in tree:
-        name = it.tag.replace(f"{{{SPACE}}}", "")
+    for drawn in tree:
+        name = tag_of(drawn)
         if name in FORMS:
-            made = ElementTree.Element(name, {key: value for key, value in it.attrib.items() if key in ATTRIBUTES})
-            made.text = it.text if name == "text" else None
-            title = it.find(f"{{{SPACE}}}title")
-            called, sort = "" if title is None else title.text or "", it.get("class", "")
+            made = ElementTree.Element(name, {key: value for key, value in drawn.attrib.items() if key in ATTRIBUTES})
+            made.text = drawn.text if name == "text" else None
+            title = drawn.find(f"{{{SPACE}}}title")
+            called, sort = "" if title is None else title.text or "", drawn.get("class", "")
             if called in boxes and sort.startswith("node"):
                 made.attrib.update({"id": f"b{called[1:]}", "data-box": called[1:]})
                 ElementTree.SubElement(made, "title").text = boxes[called]
             if called.startswith(ROOT) and "rootframe" in sort:
                 made.set("data-root", str(int(called[len(ROOT):]) + 1))
-            made.extend(list(copies(it, boxes)))
+            made.extend(list(copies(drawn, boxes)))
             yield made

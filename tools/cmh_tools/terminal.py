@@ -43,9 +43,9 @@ class Painted(str):
 
 def painted(line: str, *parts: Union[str, Tuple[str, str]]) -> Painted:
     """Returns a line with parts that have the colour of a verdict. A verdict alone is that of the whole line."""
-    it = Painted(line)
-    it.parts = [(line, part) if isinstance(part, str) else part for part in parts]
-    return it
+    made = Painted(line)
+    made.parts = [(line, part) if isinstance(part, str) else part for part in parts]
+    return made
 
 
 def fill(paragraphs: Iterable[List[str]], style: Style = PLAIN) -> str:
@@ -72,8 +72,8 @@ def paint(text: str, part: str, verdict: str) -> str:
     code = CODES.get(verdict)
     pattern = r"\s+".join(map(re.escape, part.split()))
 
-    def coloured(found: "re.Match[str]") -> str:
-        return "\n".join(f"\x1b[{code}m{line}\x1b[m" for line in found[0].split("\n"))
+    def coloured(match: "re.Match[str]") -> str:
+        return "\n".join(f"\x1b[{code}m{line}\x1b[m" for line in match[0].split("\n"))
 
     return re.sub(pattern, coloured, text, count=1) if code else text
 

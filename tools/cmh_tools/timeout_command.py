@@ -283,7 +283,8 @@ def time_out(supervisor: Supervisor, asked: argparse.Namespace) -> None:
     say(f"cmh-stall: {name} takes longer than {asked.timeout:g} s: its processes are looked at, and then ended")
     for number, words in enumerate(ways_to_look(), 1):
         folder = path if number == 1 else f"{path}-{number}"
-        status = supervisor.look([*words, "--seconds", f"{asked.seconds:g}", "-o", folder], asked.seconds)
+        more = ["--seconds", f"{asked.seconds:g}", "-o", folder, "--timeout", f"{asked.timeout:g}"]
+        status = supervisor.look([*words, *more], asked.seconds)
         if status in (0, 3, 5, None):
             break
     left = supervisor.end_all(asked.grace)

@@ -13,21 +13,17 @@ import importlib
 from dataclasses import dataclass
 from typing import Any
 
-# Each SYSTEM: the module of the package that has its parser, with its class, and a line for --help. A module is loaded
-# only when it is needed.
+# Each SYSTEM, with a line for --help. The module of its name has its parser, and is loaded only when it is needed.
 MODULES = {
-    "erlang": ("parsers.erlang", "ErlangParser", "what cmh_state_reader prints, twice"),
-    "go": ("parsers.go", "GoParser", "texts of pprof's goroutine?debug=2, seconds apart, or of SIGQUIT"),
-    "jvm": ("parsers.jvm", "JvmParser",
-            "two texts of `jstack -l PID`, seconds apart (or of `jcmd PID Thread.dump_to_file`)"),
-    "linux": ("parsers.linux", "LinuxParser",
-              "what cmh_linux reads of processes, twice: --pid PID, or a state of it"),
-    "mariadb": ("parsers.mariadb", "MariadbParser", "what take-mariadb prints of a server, two looks in one"),
-    "mpi": ("parsers.mpi", "MpiParser", "what cmh_mpi_reader.py prints of the ranks, or what gdb does, twice"),
-    "postgres": ("parsers.postgres", "PostgresParser", "what take-postgres prints of a server, two looks in one"),
-    "python": ("parsers.python", "PythonParser",
-               "what cmh_state prints on a signal, twice, or py-spy, gdb, faulthandler"),
-    "rabbitmq": ("parsers.rabbitmq", "RabbitmqParser", "what rabbitmqctl prints, twice"),
+    "erlang": "what cmh_state_reader prints, twice",
+    "go": "texts of pprof's goroutine?debug=2, seconds apart, or of SIGQUIT",
+    "jvm": "two texts of `jstack -l PID`, seconds apart (or of `jcmd PID Thread.dump_to_file`)",
+    "linux": "what cmh_linux reads of processes, twice: --pid PID, or a state of it",
+    "mariadb": "what take-mariadb prints of a server, two looks in one",
+    "mpi": "what cmh_mpi_reader.py prints of the ranks, or what gdb does, twice",
+    "postgres": "what take-postgres prints of a server, two looks in one",
+    "python": "what cmh_state prints on a signal, twice, or py-spy, gdb, faulthandler",
+    "rabbitmq": "what rabbitmqctl prints, twice",
 }
 
 
@@ -41,5 +37,4 @@ class State:
 
 def parser_of(system: str) -> Any:
     """Returns a new parser of a system, which stands in MODULES."""
-    module, name, _ = MODULES[system]
-    return getattr(importlib.import_module(f"..{module}", __name__), name)()
+    return getattr(importlib.import_module(f".{system}", __name__), f"{system.capitalize()}Parser")()

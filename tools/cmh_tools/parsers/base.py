@@ -15,9 +15,9 @@ from typing import Any, Callable, Dict, Iterable, Iterator, List, NamedTuple, Op
 
 from ..assumptions import sentence_of
 from ..files import Refusal, shown
-from ..model import Wakers, unseen, wakers
+from ..model import Part, Wakers, once, unseen, wakers
 from ..sketch import Process, Sketch, quote
-from ..snapshots import APART, CUT, ONCE, OVERLAP, PARTS, WHOLE, Moments, Reading, compare, doubt_wait, left_out, \
+from ..snapshots import APART, CUT, ONCE, OVERLAP, PARTS, WHOLE, Moments, Reading, compare, doubt_waits, left_out, \
     overlap, snapshots_of
 from . import State
 
@@ -128,11 +128,10 @@ class Parser:
             readings += self.read(state)
             state.text = ""
         self.begin(readings)
-        snapshots = [self.SNAPSHOT_CLASS(some) for some in snapshots_of(readings)]
+        snapshots = [self.SNAPSHOT_CLASS(of_one_time) for of_one_time in snapshots_of(readings)]
         sketches = [self.sketch_of(snapshot) for snapshot in snapshots]
         if self.MOMENT == APART and overlap(readings):
-            for process in sketches[0].processes:
-                doubt_wait(process, OVERLAP)
+            doubt_waits(sketches[0].processes, OVERLAP)
         sketch = compare(sketches, [snapshot.extent for snapshot in snapshots], self.MOMENT,
                          [snapshot.moments for snapshot in snapshots])
         machines = {reading.machine for reading in readings}
@@ -150,11 +149,11 @@ class Parser:
     def sketch_of(self, snapshot: Snapshot) -> Sketch:
         """Returns the sketch of one time."""
         self.prepare(snapshot)
-        sketch = Sketch([], system=self.NAME)
+        sketch, reasons_of = Sketch([], system=self.NAME), once(reasons_in)
         for subject in self.processes(snapshot):
             process = self.process_of(subject, snapshot)
             snapshot.moments.setdefault(process.name, "")
-            for name in assumptions_in(tuple(reasons_of(process))):
+            for name in assumptions_in((*process.because, *reasons_of(process.parts))):
                 sketch.premises[name] = sentence_of(name)
                 broken = self.BREAKS[name].shown_by(subject, snapshot) if name in self.BREAKS else ""
                 if broken:
@@ -175,12 +174,9 @@ def break_wait(process: Process, why: str, is_of_process: bool) -> None:
         process.become_unknown(why)
 
 
-def reasons_of(process: Process) -> Iterator[str]:
-    """Yields the reasons for a process, and for each of its wakers."""
-    yield from process.because
-    for part in process.parts:
-        for some in part:
-            yield from some.because
+def reasons_in(parts: Sequence[Part]) -> List[str]:
+    """Returns the reasons for the wakers of a wait, each once."""
+    return list(dict.fromkeys(reason for part in parts for group in part for reason in group.because))
 
 
 OPEN = ("reaches", "same-process", "inside", "subscribes", "guess")  # found by a search of what is printed
@@ -190,8 +186,10 @@ def add_left_out(sketch: Sketch, missing: List[Process]) -> None:
     """Adds those whom a state may lack: to the sketch, and to each wait whose wakers were found by a search."""
     sketch.processes += missing
     more = (wakers("left-out", [process.name for process in missing]),)
+    with_more = once(lambda parts: [(*part, *more) if any(group.how in OPEN for group in part) else part
+                                    for part in parts])
     for process in sketch.processes if missing else ():
-        process.parts = [(*part, *more) if any(some.how in OPEN for some in part) else part for part in process.parts]
+        process.parts = with_more(process.parts)
 
 
 @lru_cache(maxsize=KEPT)
@@ -234,8 +232,7 @@ def check_of(shape: Any) -> Check:
     if isinstance(shape, list):
         return check_of_list([check_of(part) for part in shape if part is not ...], ... in shape)
     if isinstance(shape, tuple):
-        checks = [check_of(one) for one in shape]
-        return lambda value: None if any(check(value) is None for check in checks) else ""
+        return check_of_any([check_of(one) for one in shape])
     if isinstance(shape, range):
         return lambda value: None if type(value) is int and value in shape else ""
     if isinstance(shape, re.Pattern):
@@ -243,14 +240,38 @@ def check_of(shape: Any) -> Check:
     return lambda value: None if type(value) is shape or shape is object else ""
 
 
+def check_of_any(checks: List[Check]) -> Check:
+    """Returns the check of what has one of some shapes."""
+    def check(value: Any) -> Optional[str]:
+        for one in checks:
+            if one(value) is None:
+                return None
+        return ""
+    return check
+
+
+def check_of_each(one: Check) -> Check:
+    """Returns the check of a list by that of each entry."""
+    def check(value: Any) -> Optional[str]:
+        for place, part in enumerate(value) if type(value) is list else ():
+            odd = one(part)
+            if odd is not None:
+                return f".{place}{odd}"
+        return None if type(value) is list else ""
+    return check
+
+
 def check_of_list(checks: List[Check], has_more: bool) -> Check:
     """Returns the check of a list: of each entry by the only one, or of as many as there are, or of more by the last.
     """
+    if len(checks) == 1 and not has_more:
+        return check_of_each(checks[0])
+
     def check(value: Any) -> Optional[str]:
         number, least = len(value) if type(value) is list else -1, len(checks) - has_more
-        if number < 0 or (number < least if has_more else least != 1 and number != least):
+        if number < least or number > least and not has_more:
             return ""
-        wanted = itertools.chain(checks[:-1], itertools.repeat(checks[-1])) if has_more else itertools.cycle(checks)
+        wanted = itertools.chain(checks[:-1], itertools.repeat(checks[-1])) if has_more else checks
         places = ((place, one(part)) for place, (part, one) in enumerate(zip(value, wanted)))
         return next((f".{place}{odd}" for place, odd in places if odd is not None), None)
     return check
@@ -261,8 +282,11 @@ def check_of_rows(form: Any, of_part: Check) -> Check:
     def check(value: Any) -> Optional[str]:
         if type(value) is not dict:
             return ""
-        rows = ((key, of_part(part) if form is str or form.fullmatch(key) else "") for key, part in value.items())
-        return next((f".{key}{odd}" for key, odd in rows if odd is not None), None)
+        for key, part in value.items():
+            odd = of_part(part) if form is str or form.fullmatch(key) else ""
+            if odd is not None:
+                return f".{key}{odd}"
+        return None
     return check
 
 

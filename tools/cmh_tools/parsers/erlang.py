@@ -10,9 +10,10 @@ from collections import defaultdict
 from operator import attrgetter
 from typing import DefaultDict, Dict, List, Sequence, Set, Tuple
 
-from ..files import Refusal, shown
-from ..model import ANYBODY, Part, Sign, Strength, Wakers, any_of, unseen, wakers
-from ..sketch import LIMIT, SYSTEM, Process, Sketch, blocked, garbled, goes_on, premise, rests
+from ..files import Refusal, escaped, shown
+from ..model import Part, Sign, any_of, unseen, wakers
+from ..sketch import (LIMIT, SYSTEM, Process, Sketch, blocked, garbled, goes_on, lists_of_wakers, premise, rests,
+                      unknown)
 from ..snapshots import APART, PARTS, Reading
 from . import State
 from .base import Parser
@@ -27,6 +28,7 @@ from .erlang_receives import PORT, count_of, wait_for_stop, wait_of_receive
 from .erlang_remote import wait_for_remote
 from .erlang_tasks import wait_of_task
 from .erlang_readings import NodeReading, readings_of
+from .erlang_sockets import connections_of, port_of
 from .erlang_text import Block
 
 CHILD = re.compile(r"{child,(<[\d.]+>),.*?,(infinity|\d+|brutal_kill),(?:worker|supervisor),")
@@ -43,6 +45,9 @@ READS = {"prim_inet:accept0": "gen_tcp:accept", "prim_inet:recv0": "gen_tcp:recv
 ACCEPTS = ("gen_tcp:accept", "socket:accept")
 
 OWN_CHILD, ENDINGS, RESTARTS = "child", "endings", "restarts"
+# For what those stand that are no processes.
+REPEATS = "stands for calls of the module `timer` that are repeated: to what function isn't shown"
+HANDLES = "stands for code of the program's that handles events of the system, as of its log"
 
 
 class ErlangParser(Parser):
@@ -113,6 +118,11 @@ class ErlangParser(Parser):
         sketch.groups = {group: [name for name in names if name in there] for group, names in groups.items()}
         pairs = [pair for snapshot in snapshots for pair in snapshot.answers if there.issuperset(pair)]
         sketch.in_transit = list(dict.fromkeys([*sketch.in_transit, *pairs]))
+        named = {name for names in lists_of_wakers(sketch.processes) for name in names}
+        sketch.processes += [unknown(name, why, frames=[name]) for name, why in {
+            name: why for snapshot in snapshots for name, why in snapshot.stand_ins.items()}.items() if name in named]
+        rows, later = connections_of(snapshots[0]), connections_of(snapshots[-1])
+        sketch.connections = {key: row for key, row in rows.items() if key in later}
 
 
 def look_at_nodes(snapshot: Nodes) -> None:
@@ -120,6 +130,7 @@ def look_at_nodes(snapshot: Nodes) -> None:
     snapshot.closures = two_of_each(block for block in snapshot.rows()
                                     if may_have_any(block) and not is_script_asleep(block))
     nodes = [reading for reading in snapshot.readings if isinstance(reading, NodeReading)]
+    snapshot.ports = {reading.source: {row[1] for row in reading.sockets} for reading in nodes}
     snapshot.receives = {(reading.source, *function): receives for reading in nodes
                          for function, receives in reading.receives.items()}
     snapshot.asks = {(reading.source, *function): names for reading in nodes
@@ -128,7 +139,8 @@ def look_at_nodes(snapshot: Nodes) -> None:
     snapshot.locks = locks_of(nodes)
     snapshot.held, snapshot.wanted = (rows_of(nodes, snapshot, word) for word in ("has", "wants"))
     snapshot.elsewhere = next(filter(None, map(place_elsewhere, nodes)), "")
-    snapshot.ending_any = tuple(group for reading in nodes for group in ending_any(reading))
+    snapshot.stand_ins = {}
+    snapshot.ending_any = tuple(group for reading in nodes for group in ending_any(reading, snapshot))
     for reading in nodes:
         reading.missing = reading.missing or lost_of(reading, snapshot)
 
@@ -146,13 +158,17 @@ def lost_of(reading: NodeReading, snapshot: Nodes) -> str:
     return "" if is_whole else "it names processes of nodes whose numbers it lacks"
 
 
-def ending_any(reading: NodeReading) -> Part:
-    """Returns what may end any wait on a node and is no process of it: a timer that is repeated, whose function isn't
-    shown, or code of the program's own that handles events of the system, as of its log."""
-    repeated = f"calls by timers are repeated, {reading.numbers.get('repeats', 0)} in all, and may end anybody"
-    handled = f"events of the system are handled by {', '.join(reading.handlers)}, which may end anybody"
-    return (*([Wakers(ANYBODY, Strength.UNSEEN, "repeats", (repeated,))] if reading.numbers.get("repeats") else []),
-            *([Wakers(ANYBODY, Strength.UNSEEN, "kills", (handled,))] if reading.handlers else []))
+def ending_any(reading: NodeReading, snapshot: Nodes) -> Part:
+    """Returns who stands for what may end any wait on a node and is no process of it: timers that are repeated, each
+    called by who has begun it, and code of the program's own that handles events of the system, as of its log."""
+    owners = [snapshot.by_key.get((reading.source, pid)) for pid in reading.repeated]
+    timers = [f"{escaped(reading.site)}/timer of {owner.own_name() if owner else 'another'}" for owner in owners]
+    if len(timers) != reading.numbers.get("repeats", 0):
+        timers = [f"{escaped(reading.site)}/timers"]
+    handlers = [f"{escaped(reading.site)}/handler {module}" for module in reading.handlers]
+    snapshot.stand_ins = {**snapshot.stand_ins, **dict.fromkeys(timers, REPEATS), **dict.fromkeys(handlers, HANDLES)}
+    return (*([wakers("repeats", list(dict.fromkeys(timers)))] if timers else []),
+            *([wakers("kills", handlers)] if handlers else []))
 
 
 def ending(block: Block, snapshot: Nodes) -> Part:
@@ -245,7 +261,9 @@ def wait_for_outside(block: Block, snapshot: Nodes, more: More) -> Process:
     why = f"it is in {more['operation']}, and the state doesn't say who is at the other end"
     if more["operation"] in ACCEPTS:
         return rests(snapshot.name(block), "waits for connections", any_of(unseen("to-come", why)), [], **more)
-    return blocked(snapshot.name(block), any_of(unseen("outside", why)), [], **{**more, "reason": why})
+    has_port = port_of(block) in snapshot.ports[block.node]
+    return blocked(snapshot.name(block), any_of(unseen("peer" if has_port else "outside", why)), [],
+                   **{**more, "reason": why})
 
 
 def child_begun(block: Block) -> Tuple[str, str]:

@@ -20,8 +20,9 @@ class Nodes(Snapshot):
     fail; who is the child of a supervisor, and the supervisor above each that has one; who has a fun that may have any
     reference; the receives in a function, by its node and its name, and whom it has asked before; where a reference may
     be that no process has, in words, or nothing; nodes, by another one and the number that they have there; the locks
-    of a node, by it and by what is locked; who has locks of Mnesia, or wants one; and those who aren't at rest, of
-    these by a server those who know it."""
+    of a node, by it and by what is locked; who has locks of Mnesia, or wants one; those who aren't at rest, of
+    these by a server those who know it; the ports of a node whose ends are known; and who stands for what is no
+    process, with what that is."""
 
     by_key: Dict[Key, Block]
     has_tail: Dict[str, List[Block]]
@@ -42,6 +43,8 @@ class Nodes(Snapshot):
     awake: List[Block]
     known: Dict[int, List[Block]]
     above: Dict[Block, Block]
+    ports: Dict[str, Set[str]]
+    stand_ins: Dict[str, str]
 
     def find(self, key: Key) -> Optional[Block]:
         """Returns a process by what another one knows it by: a pid of another node begins with the number of that."""

@@ -12,16 +12,21 @@ from .erlang_text import WORD, Block, Receives
 
 # Of older texts, which said what code may do: these lines tell nothing any more.
 OLD_WORDS = {"begins", "grants", "holds", "keepers", "outside", "permits", "places", "quiet", "tells", "ticks"}
-FIRST = re.compile("=(process|asks|handles|keeps|left out|locks|mnesia|nodes|numbers|receives|repeats|tables|timers|"
-                   f"end|{'|'.join(sorted(OLD_WORDS))}) ")
+FIRST = re.compile("=(process|asks|handles|keeps|left out|locks|machine|mnesia|nodes|numbers|receives|repeated|repeats|"
+                   f"sockets|tables|taken|timers|end|{'|'.join(sorted(OLD_WORDS))}) ")
 MARK = re.compile(rf"\n{FIRST.pattern}")
+TAKEN = re.compile(r"(\d{1,12}\.\d{3}) (\d{1,12}\.\d{3}) \S+\s*")  # when a node was read, behind all else of it
 # The rows below lines of some words: the receives of a function, and whom it has sent to before; the number of another
-# node; who has a lock, or wants one of Mnesia; and the modules of the program's own that handle events of the system.
+# node; who has a lock, or wants one of Mnesia; the modules of the program's own that handle events of the system; who
+# has begun a timer that is repeated; the port of a connection with its owner and its ends; and the machine.
 ROWS = {"receives": re.compile(rf"{{{WORD},{WORD},(\d+),\[((?:(?:infinity|any|\d+),?)*)\]"
                                r"(?:,(\d+)((?:,(?:once|told|down))*))?}"),
         "asks": re.compile(rf"{{{WORD},{WORD},(\d+),\[(.*)\]}}"),
         "numbers": re.compile(r"(\d+) (\S+)"),
         "handles": re.compile(r"\w+|'[^']*'"),
+        "repeated": re.compile(r"<[\d.]+>"),
+        "sockets": re.compile(r"(#Port<[\d.]+>) (<[\d.]+>) (\S+) (\S+)"),
+        "machine": re.compile(r"\S+ pid:\[\d+\]"),
         "locks": re.compile(r"{(.*),\[((?:{<[\d.]+>,#Ref<[\d.]+>},?)+)\]}"),
         "mnesia": re.compile(r"{(?P<word>has|wants),{(?P<what>.*)},(?P<kind>\w+),"
                               r"(?P<pid><[\d.]+>)(?:,(?P<owner><[\d.]+>))?}")}
@@ -71,12 +76,15 @@ def readings_of(path: str, text: str, known: Dict[bytes, Block]) -> List[NodeRea
         words = [] if block else part.partition("\n")[0].split()
         node = block.node if block else words[-1] if words else ""
         last = readings[-1] if readings else None
-        if last is None or last.source != node or last.is_closed or block and block.pid in pids:
+        is_over = last is not None and last.is_closed and not (word == "taken" and last.time is None)
+        if last is None or last.source != node or is_over or block and block.pid in pids:
             last, pids = NodeReading(path, node), set()
             readings.append(last)
         if block:
             last.rows.append(block)
             pids.add(block.pid)
+        elif word == "taken":
+            last.take_time(part, path)
         else:
             last.count(word, part, path)
     if not readings:
@@ -89,8 +97,8 @@ def readings_of(path: str, text: str, known: Dict[bytes, Block]) -> List[NodeRea
 class NodeReading(Reading):
     """The processes of a node as one state has them, up to its line '=end'; the receives in a function, by its module,
     name and arity; the nodes by the numbers that they have there; its locks, and those of Mnesia; the
-    names to which a function has sent before it receives; and the modules of the program's own that handle events of
-    the system."""
+    names to which a function has sent before it receives; the modules of the program's own that handle events of
+    the system; who has begun timers that are repeated; and its connections."""
 
     def __init__(self, path: str, node: str) -> None:
         super().__init__(path, node, site=node.split("@")[0])
@@ -101,6 +109,8 @@ class NodeReading(Reading):
         self.mnesia: List[re.Match[str]] = []
         self.asks: Dict[Tuple[str, ...], List[str]] = {}
         self.handlers: List[str] = []
+        self.sockets: List[re.Match[str]] = []
+        self.repeated: List[str] = []
         self.odd = ""  # the word of rows that aren't understood
 
     @property
@@ -132,6 +142,19 @@ class NodeReading(Reading):
             self.mnesia += matches
         elif word == "handles":
             self.handlers += [row[0] for row in matches]
+        elif word == "sockets":
+            self.sockets += matches
+        elif word == "repeated":
+            self.repeated += [row[0] for row in matches]
+        elif word == "machine":
+            self.machine = next((row[0] for row in matches), "")
+
+    def take_time(self, text: str, path: str) -> None:
+        """Takes a line '=taken BEGAN ENDED NODE'."""
+        times = TAKEN.fullmatch(text)
+        if not times:
+            raise Refusal(f"{shown(path)}: '=taken {shown(text[:60].strip())}' has no times and node")
+        self.time = float(times[1]), float(times[2])
 
     def close(self) -> None:
         """Says what the text lacks."""

@@ -6,6 +6,7 @@ from typing import List, Tuple
 
 # Of a stack, its places, and the numbers of the terms that each of them has; and the beginning of a pid or a reference.
 SLOT = re.compile(r"^(?:y\((\d{1,6})\) |Program counter: |0x)", re.M)
+QUOTED = re.compile(r'"(?:[^"\\\n]|\\.)*"|\'(?:[^\'\\\n]|\\.)*\'')
 CUT_OFF = re.compile(r"<[\d.]*$", re.M)
 # The frame that has the lock which a process wants, that of Mnesia with the number of a transaction which is begun
 # again, and that of Elixir with the pid of whom it stops.
@@ -20,6 +21,15 @@ CALLBACK = re.compile(r"Return addr \S+ \((?:(gen_server:try_(?:terminate/3|hand
 CALLBACKS = {"gen_server:try_terminate/3": ("terminate", "2"), "gen_statem:terminate/7": ("terminate", "3"),
              "gen_server:try_handle_call/4": ("handle_call", "3")}
 REGISTER = re.compile(r"^y\(\d+\) +(.*)$", re.M)
+
+
+def is_balanced(text: str) -> bool:
+    """Whether each bracket of some terms has its other one. What stands in quotes may have any."""
+    return is_paired(text) or is_paired(QUOTED.sub("", text))
+
+
+def is_paired(text: str) -> bool:
+    return text.count("{") == text.count("}") and text.count("[") == text.count("]")
 
 
 def lost_of_stack(text: str) -> str:

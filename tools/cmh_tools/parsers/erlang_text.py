@@ -9,7 +9,7 @@ from typing import Dict, Iterable, List, NamedTuple, Optional, Set, Tuple, Union
 from ..files import Refusal, shown
 from ..sketch import frame
 from .base import without_sleep
-from .erlang_stack import LOCKING, REGISTER, RETRYING, STOPPING, callback_of, lost_of_stack, terms_in
+from .erlang_stack import LOCKING, REGISTER, RETRYING, STOPPING, callback_of, is_balanced, lost_of_stack, terms_in
 
 A_PID = r"<\d{1,10}\.\d{1,10}\.\d{1,10}>"
 HEAD = re.compile(rf"({A_PID}) (\S+)$", re.M)
@@ -105,14 +105,8 @@ class Block:
         head = HEAD.match(text)
         if not head:
             raise Refusal(f"{shown(path)}: '=process {shown(text.split(chr(10))[0][:60])}' has no pid and node")
-        self.fault, self.label = "", ""
-        self.pid, self.node = head[1], intern(head[2])
-        self.items: Dict[str, str] = {}
-        for key, value in ITEM.findall(text):
-            if key in self.items or key in FORMS and not FORMS[key].fullmatch(value):
-                self.fault = self.fault or f"its text has '{{{key},..}}' " + ("twice" if key in self.items else
-                                                                             "in a form that isn't understood")
-            self.items.setdefault(intern(key), intern(value) if len(value) < SHORT else value)
+        self.label, self.pid, self.node = "", head[1], intern(head[2])
+        self.items, self.fault = items_in(text)
         self.role = self.item("registered_name")
         self.messages = self.item("messages")
         self.monitored = watched_by(self.node, self.item("monitors"))
@@ -140,12 +134,19 @@ class Block:
         self.tails = tuple(dict.fromkeys(tails))
         self.stopped = self.stopped_in(frames_text) if self.top().startswith(STOPS) else ()
         self.hibernates = not self.stack and "(unknown function)" in self.counter  # (which has no stack)
-        if not self.fault and not self.stack and not self.hibernates:
-            self.fault = "its stack isn't in the text"
-        if self.extra("status") is not None:  # (which texts written by hand may lack, with most of the stack)
-            self.fault = self.fault or lost_of_stack(frames_text)
-        if len(tails) < text.count("#Ref"):
-            self.fault = self.fault or "a reference in its text isn't understood"
+        self.fault = self.fault or self.lost(text, frames_text, len(tails))
+
+    def lost(self, text: str, frames_text: str, references: int) -> str:
+        """Returns what shows that a part of its text is missing, or nothing."""
+        if not self.stack and not self.hibernates:
+            return "its stack isn't in the text"
+        # Texts written by hand may lack the status, with most of the stack.
+        lost = lost_of_stack(frames_text) if self.extra("status") is not None else ""
+        if lost:
+            return lost
+        if not is_balanced(text):
+            return "a term of its text isn't whole: a bracket of it lacks the other one"
+        return "a reference in its text isn't understood" if references < text.count("#Ref") else ""
 
     def item(self, key: str) -> str:
         match = self.items.get(key)
@@ -256,6 +257,18 @@ class Block:
         """The pids and names of the one that began it, of the one that began that, and so on."""
         began = re.search(r"{'\$ancestors',\[(.*?)\]}", self.extra("dictionary") or "")
         return began[1].split(",") if began else []
+
+
+def items_in(text: str) -> Tuple[Dict[str, str], str]:
+    """Returns what the text of a process says by its keys, and what of that isn't understood, or nothing."""
+    items: Dict[str, str] = {}
+    fault = ""
+    for key, value in ITEM.findall(text):
+        if key in items or key in FORMS and not FORMS[key].fullmatch(value):
+            why = "twice" if key in items else "in a form that isn't understood"
+            fault = fault or f"its text has '{{{key},..}}' {why}"
+        items.setdefault(intern(key), intern(value) if len(value) < SHORT else value)
+    return items, fault
 
 
 def call_of(limit: re.Match[str], text: str) -> Call:

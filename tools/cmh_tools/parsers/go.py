@@ -18,15 +18,15 @@ from typing import Dict, List, Optional, Set, Tuple
 
 from ..files import Refusal
 from ..model import COMES, Part, Sign, Wakers, all_of, any_of, unseen, wakers
-from ..sketch import LIMIT, SYSTEM, Process, Sketch, blocked, garbled, goes_on, premise, rests, unknown
-from ..snapshots import APART, CUT, ONCE, Reading
+from ..sketch import GOING, LIMIT, SYSTEM, Process, Sketch, blocked, garbled, goes_on, premise, rests, unknown
+from ..snapshots import APART, CUT, GONE, ONCE, Reading
 from . import State
 from .base import Parser, Reach, Snapshot, without_sleep
-from .go_frames import (CONNECTION, NEEDS_ALL, WATCHER, Call, Place, callers_in, entry_of, is_at_another, is_jobs,
-                        is_of_runtime, lacks_wait, own_calls, receiver_locked, receivers_past_lock, serves_request,
-                        takes_state)
+from .go_frames import (CONNECTION, NEEDS_ALL, WATCHER, Call, Place, accepts_for_library, callers_in, cut_short,
+                        entry_of, is_at_connection, is_jobs, is_loop, is_of_runtime, lacks_wait, misplaced, own_calls,
+                        receiver_locked, receivers_past_lock, serves_request, takes_state)
 from .go_starters import MAIN, UNSEEN, Starters, unseen_starter
-from .go_text import ADDRESS, AGAIN, TAKER, WHERE, Dump, Goroutine, read_dumps
+from .go_text import ADDRESS, AGAIN, LOOKED, TAKER, WHERE, Dump, Goroutine, read_dumps
 
 SITE = "the Go program"
 # States in which a goroutine goes on by itself, or the runtime sees to it.
@@ -46,6 +46,7 @@ NAMED = 3  # names in a reason
 MOST = 200  # more who have what one waits at in a frame tell nothing of it
 SHORT = 2  # seconds: who sleeps no longer has come back to its sleep from one state to the next
 SLEEP = re.compile(r"0x[0-9a-f]+")
+LOCAL = re.compile(r"(?:localhost|127(?:\.\d{1,3}){3}|\[::1\]):(\d{1,5})")
 RECORD = "channels and locks by cmh_go"  # where a record of an older version begins, of which nothing is read
 ENDERS = {
     READER: "a writer ends this wait, which holds the lock or waits in Lock, and no reader; the state doesn't show "
@@ -77,27 +78,39 @@ class GoParser(Parser):
     def __init__(self) -> None:
         self.dumps: List[Dump] = []
         self.site = SITE
+        self.port = ""  # at which the program listens, where that is on the machine on which the state was taken
         self.seconds = 0.0  # from the first state to the last, as far as that is said
         self.warnings: List[str] = []
         self.names: Dict[str, str] = {}
         self.again: Dict[int, str] = {}  # by the ids of goroutines, what tells their place from that of before
         self.looks: Dict[int, int] = {}  # by the ids of goroutines, in which state they are
         self.parents: Set[str] = set()
+        self.lasting: Set[str] = set()  # those whose wait has lasted for minutes, since before the first state
 
     def read(self, state: State) -> List[Reading]:
         start = 0 if state.text.startswith(RECORD) else state.text.find(f"\n{RECORD}") + 1
         text = state.text[:start] if state.text.startswith(RECORD, start) else state.text
         dumps = read_dumps(state.path, text)
         self.dumps += dumps
+        looked = [row.groups() for row in LOOKED.finditer(state.text)]
         self.seconds += sum(map(float, AGAIN.findall(state.text)))
         where = WHERE.search(state.text)
         self.site = f"{SITE} at {where[1]}" if where else self.site
-        return [self.reading_of(dump) for dump in dumps]
+        local = LOCAL.fullmatch(where[1].partition(" ")[0]) if where else None
+        self.port = local[1] if local else self.port
+        readings = [self.reading_of(dump) for dump in dumps]
+        for reading, (began, ended, machine) in zip(readings, looked if len(looked) == len(dumps) else ()):
+            reading.time, reading.machine = (float(began), float(ended)), machine
+        return readings
 
     def reading_of(self, dump: Dump) -> Reading:
         """Returns the reading of a dump. A text may be cut off after any goroutine, and nothing shows that."""
+        for goroutine in cut_short(dump.goroutines):
+            goroutine.doubt(f"{goroutine.at}: its outermost frames are missing below this line, which others have")
+        odd = misplaced(dump.goroutines)
         for goroutine in dump.goroutines:
-            if any(map(is_at_another, [*goroutine.frames, goroutine.creator])):
+            steps = (*goroutine.frames, goroutine.creator)
+            if odd and not odd.isdisjoint((step.function, step.path) for step in steps):
                 why = "lines are missing below this one, since a function and its file don't fit"
                 goroutine.doubt(f"{goroutine.at}: {why}")
             if lacks_wait(goroutine):
@@ -125,6 +138,9 @@ class GoParser(Parser):
                     self.again[id(goroutine)] = ANOTHER
                 before[goroutine.number] = goroutine
                 self.looks[id(goroutine)] = look
+        times = [reading.time for reading in readings if reading.time is not None]
+        span = times[-1][1] - times[0][0] if len(times) == len(self.dumps) > 1 else float("inf")
+        self.lasting = {goroutine.number for goroutine in self.dumps[-1].goroutines if goroutine.minutes * 60 > span}
         self.parents = {goroutine.parent for dump in self.dumps for goroutine in dump.goroutines if goroutine.parent}
 
     def prepare(self, snapshot: Goroutines) -> None:
@@ -158,6 +174,8 @@ class GoParser(Parser):
         since = f", for {goroutine.minutes} minutes" if goroutine.minutes else ""
         where = f" at {place.frames[0]}" if place.frames else ""
         process.note = f"{place.operation}{where}{since}"
+        if goroutine.number in self.lasting and process.sign not in GOING:
+            process.count = "for minutes"  # (the runtime counts these from when the wait began)
         if goroutine.state in OF_THE_SYSTEM or not snapshot.is_stopped:
             snapshot.moments[name] = APART
         return process
@@ -186,7 +204,7 @@ class GoParser(Parser):
             return rests(name, place.idle, any_of(unseen("outside")), [SYSTEM])
         if not state:
             return unknown(name, "it has no state")
-        if state in OF_THE_SYSTEM:
+        if state in OF_THE_SYSTEM or place.is_at_connection:
             return unknown(name, f"{state}: the other end may be in the dump, and the state doesn't show it",
                            parts=any_of(unseen("outside")))
         return self.waiter(goroutine, place, name, snapshot)
@@ -217,9 +235,11 @@ class GoParser(Parser):
         if children:
             parts = all_of(children, COMES, beside=(snapshot.everybody, unseen("unshown")))
         awaits_signal = snapshot.has_signals and OF_SIGNALS.search(place.function) is not None
-        may_rest = awaits_signal or (is_in_own_loop(goroutine, snapshot) if goroutine.number != MAIN else
-                                     snapshot.has_signals and len(place.frames) == 1)
-        if place.operation in RECEIVES and may_rest:
+        awaits_end = snapshot.has_signals and (len(place.frames) == 1 or place.operation == "select")
+        may_rest = awaits_signal or accepts_for_library(goroutine, place) or (
+            awaits_end if goroutine.number == MAIN else is_in_own_loop(goroutine, snapshot))
+        receives = place.operation in RECEIVES or goroutine.state in RECEIVES and is_loop(place.operation)
+        if receives and may_rest:
             return rests(name, why, parts, [SYSTEM])
         return blocked(name, parts, [SYSTEM], reason=why)
 
@@ -245,6 +265,12 @@ class GoParser(Parser):
         if self.dumps[0].is_last:
             sketch.as_of = "as of SIGQUIT, which ended the program"
         rows: List[Goroutine] = snapshots[0].rows()
+        idle = {self.names[goroutine.number]: place.idle for goroutine in rows
+                for place in [snapshots[0].places[goroutine.number]] if place.idle in LIBRARYS}
+        for process in sketch.processes:
+            if process.reason == GONE and process.name in idle:  # (as that of the request for the state before)
+                process.sign, process.parts, process.is_garbled = Sign.RESTS, any_of(unseen("outside")), False
+                process.reason, process.because = idle[process.name], [SYSTEM]
         starters = Starters(rows, snapshots[0].places, self.names)
         over = {self.names[goroutine.number] for goroutine in rows if goroutine.state in NOBODY or goroutine.is_leaked}
         for goroutine in rows:
@@ -255,6 +281,11 @@ class GoParser(Parser):
                     self.names[goroutine.number])
         if any(UNSEEN in starters.of(goroutine) for goroutine in rows):
             sketch.processes.append(unseen_starter())
+        if self.port and sketch.machine:
+            reads = [self.names[goroutine.number] for goroutine in rows
+                     if is_at_connection(goroutine) and snapshots[0].places[goroutine.number].idle not in LIBRARYS]
+            inside = snapshots[0].everybody.names()
+            sketch.connections = {f"listener {self.port}": {"inside": list(inside), "reads": reads}}
 
 
 DOESNT_SHOW = "the state doesn't show what ends this wait"

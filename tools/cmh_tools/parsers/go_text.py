@@ -8,6 +8,7 @@ from __future__ import annotations
 
 import re
 from dataclasses import dataclass, field
+from functools import lru_cache
 from typing import Dict, List, Optional, Tuple
 
 from ..files import Refusal, shown
@@ -28,8 +29,10 @@ BESIDE = re.compile(
     r"\s*|# cmh .*|PC=.*|signal arrived .*|runtime: .*|exit status \d+|\[signal .*|m\d+: .*|-----\s*"
     r"|goroutine profile: .*"
 )
-WHERE = re.compile(r"^# cmh looks at (\S{1,300})$", re.M)  # before the first look
+WHERE = re.compile(r"^# cmh looks at (\S{1,300}(?: \(PID \d{1,10}\))?)$", re.M)  # before the first look
 AGAIN = re.compile(r"^# cmh looked again (\d{1,4}(?:\.\d{1,9})?) s later$", re.M)  # before each look but the first
+# Behind each look.
+LOOKED = re.compile(r"^# cmh looked from (\d{1,15}\.\d{1,9}) to (\d{1,15}\.\d{1,9}) on (.{1,300})$", re.M)
 MINUTES = re.compile(r"(\d{1,9}) minutes")
 ADDRESS = re.compile(r"0x[0-9a-f]{6,}")
 # What stands in a heading: states of goroutines, and why they wait, of Go 1.17 to 1.26, without the marks.
@@ -46,8 +49,11 @@ STATES = frozenset((
 LEAKED, MARKS = " (leaked)", re.compile(r" \((?:scan|leaked|durable)\)")
 ROOT = re.compile(r"main\.main|.*\.init(?:\.\d+)?")  # what the runtime calls in goroutine 1
 TAKER = "runtime/pprof.writeGoroutineStacks"
+TAKEN = f"{TAKER}("
 DEEP = 90  # Go prints 100 frames, counts some that it hides, and doesn't always say that it has left out others.
+KEPT = 65536  # lines whose meaning is kept
 SHOWN = 5  # lines that aren't understood; the others are counted
+Spot = Tuple[str, int, str, Optional[Tuple[str, str]]]  # a file, a line, an offset, and the ends on the stack
 
 
 @dataclass
@@ -88,19 +94,15 @@ class Goroutine:
     is_leaked: bool = False
     fault: str = ""
 
-    def last(self) -> Frame:
-        """Returns the frame whose place is to come, or has come last."""
-        return self.creator if self.created_by else (self.frames or [Frame("", line=0)])[-1]
-
     def has_root(self) -> bool:
         """Whether its frames go out as far as it was started: by a `go` statement, as main, or by a thread of C."""
-        is_main = self.number == "1" and any(ROOT.fullmatch(it.function) for it in self.frames)
+        is_main = self.number == "1" and any(ROOT.fullmatch(step.function) for step in self.frames)
         return bool(self.created_by) or is_main or self.number in ("0", "17") or self.is_locked or not self.is_whole
 
     def is_in_one_piece(self) -> bool:
         """Whether each frame begins on the stack where the one that it called ends."""
-        found = [it.ends for it in self.frames if it.ends]
-        return all(inner[0] == outer[1] for inner, outer in zip(found, found[1:]))
+        ends = [step.ends for step in self.frames if step.ends]
+        return all(inner[0] == outer[1] for inner, outer in zip(ends, ends[1:]))
 
     def doubt(self, fault: str) -> None:
         self.fault = self.fault or shown(fault)
@@ -118,12 +120,29 @@ class Dump:
     lost: str = ""
 
 
+@lru_cache(maxsize=KEPT)
+def place_in(line: str) -> Optional[Spot]:
+    """Returns the file, the line, the offset and the ends on the stack that a line has, or None. Many goroutines stand
+    at one place."""
+    match = PLACE.fullmatch(line)
+    if match is None:
+        return None
+    ends = (match["fp"], match["sp"]) if match["fp"] else None
+    return match["file"], int(match["line"]), match["offset"] or "", ends
+
+
+@lru_cache(maxsize=KEPT)
+def is_function(text: str) -> bool:
+    return FUNCTION.fullmatch(text) is not None
+
+
 def read_dumps(path: str, text: str) -> List[Dump]:
     """Returns the dumps of a text, in their order. Raises Refusal if it has none, or one that isn't whole or has a
     goroutine twice."""
     name = shown(path)
     lines = text.replace("\r\n", "\n").split("\n")
-    quit_at = next((at for at, line in enumerate(lines) if line.startswith("SIGQUIT: ")), None)
+    quit_at = next((at for at, line in enumerate(lines) if line.startswith("SIGQUIT: ")), None) \
+        if "SIGQUIT: " in text else None
     first = next((at for at, line in enumerate(lines) if line[:10] == "goroutine " and HEADER.fullmatch(line)), None)
     if first is None:
         raise Refusal(f"{name}:1: this is no dump of goroutines: a line 'goroutine 1 [running]:' is expected")
@@ -132,7 +151,7 @@ def read_dumps(path: str, text: str) -> List[Dump]:
         if quit_at:
             dump.warnings.append(f"{name}: {quit_at} lines before 'SIGQUIT' are left out")
         return [dump]
-    starts = [at - 1 for at, line in enumerate(lines) if at > first and line.startswith(f"{TAKER}(")]
+    starts = [at - 1 for at, line in enumerate(lines) if line.startswith(TAKEN) and at > first]
     starts = sorted({0, *(at for at in starts if at > first and HEADER.fullmatch(lines[at]))})
     return [Reader(name, lines, *part, False).read() for part in zip(starts, [*starts[1:], len(lines)])]
 
@@ -144,6 +163,7 @@ class Reader:
         self.path, self.start, self.dump = path, start, Dump(path, is_last=is_last)
         self.lines = [*lines[start:end], ""] if end < len(lines) else lines[start:]
         self.goroutine: Optional[Goroutine] = None
+        self.step = Frame("", line=0)  # whose place is to come, or has come last
         self.is_in_origin, self.is_over, self.odd = False, False, 0
         self.misread: Optional[Goroutine] = None  # the last of which a line isn't understood
         self.seen: Dict[str, str] = {}
@@ -151,7 +171,7 @@ class Reader:
     def read(self) -> Dump:
         for number, line in enumerate(self.lines, self.start + 1):
             if not self.is_over:
-                self.take(line, f"{self.path}:{number}")
+                self.take(line, number)
         end = f"{self.path}:{self.start + len(self.lines)}"
         if not self.dump.goroutines:
             raise Refusal(f"{end}: the dump is cut off: it has no goroutine")
@@ -164,11 +184,23 @@ class Reader:
             self.dump.warnings.append(f"{self.path}: {self.odd - SHOWN} more lines aren't understood")
         return self.dump
 
-    def take(self, line: str, at: str) -> None:
-        """Reads a line."""
-        found = HEADER.fullmatch(line) if line.startswith("goroutine ") else None
-        if found:
-            self.begin(found, at)
+    def take(self, line: str, number: int) -> None:
+        """Reads a line. Most are calls, each with its place below."""
+        one = None if self.is_in_origin else self.goroutine
+        is_open = one is not None and not one.created_by and self.step.line is not None
+        if one is not None and line[:1] == "\t" and (place := place_in(line)):
+            self.set_place(one, place, line, number)
+        elif one is not None and is_open and (call := CALL.fullmatch(line)) and is_function(call["function"]):
+            self.step = Frame(call["function"], call["arguments"])
+            one.frames.append(self.step)
+        else:
+            self.take_other(line, f"{self.path}:{number}")
+
+    def take_other(self, line: str, at: str) -> None:
+        """Reads a line that is no call or place of a goroutine."""
+        match = HEADER.fullmatch(line) if line.startswith("goroutine ") else None
+        if match:
+            self.begin(match, at)
         elif not line.strip():
             self.close(at)
         elif self.goroutine is not None and not self.is_in_origin:
@@ -182,8 +214,8 @@ class Reader:
     def close(self, at: str) -> None:
         """Ends the block of a goroutine."""
         one = self.goroutine
-        if one is not None and one.last().line is None:
-            one.doubt(f"{at}: the place of {one.last().function} is missing before this line")
+        if one is not None and self.step.line is None:
+            one.doubt(f"{at}: the place of {self.step.function} is missing before this line")
         if one is not None and not one.frames and not one.is_elsewhere:
             one.doubt(f"{one.at}: no frames follow this line")
         if one is not None and len(one.frames) >= DEEP:
@@ -194,47 +226,41 @@ class Reader:
             one.doubt(f"{at}: its outermost frames are missing before this line")
         self.goroutine, self.is_in_origin = None, False
 
-    def begin(self, found: "re.Match[str]", at: str) -> None:
+    def begin(self, match: "re.Match[str]", at: str) -> None:
         """Begins the block of a goroutine."""
         self.close(at)
-        number = found["id"]
+        number = match["id"]
         if number in self.seen:
             raise Refusal(f"{at}: goroutine {number} stands at {self.seen[number]} already: a file has one state")
         self.seen[number] = at
-        state, *more = found["state"].split(", ")
-        minutes = [int(it[1]) for it in map(MINUTES.fullmatch, more) if it]
+        state, *more = match["state"].split(", ")
+        minutes = [int(minute[1]) for minute in map(MINUTES.fullmatch, more) if minute]
         self.goroutine = Goroutine(number, MARKS.sub("", state), at, sum(minutes[:1]))
+        self.step = Frame("", line=0)
         self.goroutine.is_locked, self.goroutine.is_leaked = "locked to thread" in more, LEAKED in state
         self.dump.goroutines.append(self.goroutine)
         if self.goroutine.state not in STATES:
             self.goroutine.doubt(f"{at}: this is no state that the runtime has")
 
     def add(self, one: Goroutine, line: str, at: str) -> None:
-        """Adds a line of its block to a goroutine."""
-        if found := PLACE.fullmatch(line):
-            self.set_place(one, found, at)
-        elif ELIDED.fullmatch(line):
+        """Adds a line of its block to a goroutine, but for a call or a place."""
+        is_open = not one.created_by and self.step.line is not None
+        if ELIDED.fullmatch(line):
             one.is_whole, one.is_elsewhere = False, line.startswith(ELSEWHERE)
         elif ORIGIN.fullmatch(line):
             self.is_in_origin = True
-        elif one.created_by or one.last().line is None:
-            self.fail(one, line, at)
-        elif (found := CREATED.fullmatch(line)) and FUNCTION.fullmatch(found["function"]):
-            one.created_by, one.parent = found["function"], found["parent"] or ""
-            one.creator = Frame(found["function"])
-        elif (found := CALL.fullmatch(line)) and FUNCTION.fullmatch(found["function"]):
-            one.frames.append(Frame(found["function"], found["arguments"]))
+        elif is_open and (match := CREATED.fullmatch(line)) and is_function(match["function"]):
+            one.created_by, one.parent = match["function"], match["parent"] or ""
+            self.step = one.creator = Frame(match["function"])
         else:
             self.fail(one, line, at)
 
-    def set_place(self, one: Goroutine, found: "re.Match[str]", at: str) -> None:
+    def set_place(self, one: Goroutine, place: Spot, line: str, number: int) -> None:
         """Sets the file and line of the last frame, or of the place where the goroutine was created."""
-        last = one.last()
-        if last.line is None:
-            last.path, last.line, last.offset = found["file"], int(found["line"]), found["offset"] or ""
-            last.ends = (found["fp"], found["sp"]) if found["fp"] else None
+        if self.step.line is None:
+            self.step.path, self.step.line, self.step.offset, self.step.ends = place
         else:
-            self.fail(one, found[0], at)
+            self.fail(one, line, f"{self.path}:{number}")
 
     def fail(self, one: Goroutine, line: str, at: str) -> None:
         """Says that a line of a goroutine isn't understood, or not there."""

@@ -25,7 +25,7 @@ from .jvm_rows import NOBODY, label_of
 from .jvm_states import check_dumps, is_coarse, missing_of, names_of
 from .jvm_text import Dump, Thread, stack_of
 from .jvm_waits import MAIN, NATIVE, TIMED, Everybody, Threads, has_stood, is_locking, meetings_of, wait_of
-from .jvm_whole import add_inner, count_owned, kernel_thread
+from .jvm_whole import add_inner, count_owned, kernel_thread, owner_of
 
 
 class JvmParser(Parser):
@@ -81,6 +81,7 @@ class JvmParser(Parser):
         snapshot.dump, = snapshot.rows()
         threads = snapshot.threads = snapshot.dump.threads
         snapshot.by_key = {thread.key: thread for thread in threads}
+        snapshot.of_file = {self.names[thread.key] for thread in threads if thread.is_of_file}
         snapshot.names, snapshot.everybody, snapshot.scheduled = self.names, self.everybody, self.scheduled
         locks = snapshot.locks = Locks(threads, snapshot.dump.found_owners)
         snapshot.heap = HeapView(self.heap, threads, self.names, locks)
@@ -121,7 +122,7 @@ class JvmParser(Parser):
             if thread.state == "BLOCKED" and thread.key in snapshot.locks.wanted else ""
         call = " ".join(filter(None, [place.call or own, of_class]))
         process.note = " at ".join(filter(None, [call, *place.frames[:1]])) + taken_in(thread, snapshot)
-        if snapshot.dump.is_file:
+        if snapshot.dump.is_file or name in snapshot.of_file or owner_of(process) in snapshot.of_file:
             snapshot.moments[name] = APART
         set_count(process, thread, place, snapshot)
         return process

@@ -4,7 +4,7 @@ from __future__ import annotations
 
 import json
 import re
-from typing import Any, Dict, List, Optional
+from typing import Any, Dict, Iterator, List, Optional, Tuple
 
 from ..files import Refusal, shown
 from .jvm_misfits import add_faults
@@ -13,6 +13,12 @@ from .jvm_text import BETWEEN, FRAME, PARKED, START, Dump, PrintReader, Thread, 
 FILE_THREAD = re.compile(
     r'#(?P<number>\d+) "(?P<name>.*)"(?P<virtual> virtual)?(?: (?P<state>[A-Z_]+))?(?: \d{4}-\S+)?'
 )
+# Functions in which a thread is parked, and those that give it a limit: of JDK 21 to 23 the state isn't printed.
+PARKS = re.compile(r"java\.lang\.VirtualThread\.park|jdk\.internal\.misc\.Unsafe\.park")
+LIMITS = re.compile(r"java\.(lang\.(Virtual)?Thread\.(sleep\w*|parkNanos)|util\.concurrent\.locks\.LockSupport\.park"
+                    r"(Nanos|Until))")
+INNER = 8  # frames among which these are
+VIRTUAL = "\n# cmh virtual "  # before the JSON that take-jvm has of virtual threads, behind what jstack prints
 UNMARKED = re.compile(r" {6}(?=[^\s-]\S*\()(?!at )")  # before a frame of JDK 21, which has no 'at'
 
 
@@ -26,14 +32,40 @@ def read_dumps(path: str, text: str) -> List[Dump]:
     if starts:
         ends = [*starts[1:], len(text)]
         dumps = [PrintReader(name, text, start, end).read() for start, end in zip(starts, ends)]
-        for dump in dumps:
+        for dump, start, end in zip(dumps, starts, ends):
             add_faults(dump)
+            begin = text.find(VIRTUAL, start, end)
+            if begin >= 0:
+                add_virtual(dump, read_file_json(name, text[begin + len(VIRTUAL):end].split("\n")[0]))
         return dumps
     lines = text.split("\n")
     if any(FILE_THREAD.fullmatch(line) for line in lines[:50]):
         return [read_file_text(name, lines)]
     raise Refusal(f"{name}:1: this is no thread dump: a line 'Full thread dump ..' of `jstack -l`, or the text of "
                   "`jcmd PID Thread.dump_to_file`, is expected")
+
+
+def add_virtual(dump: Dump, more: Dump) -> None:
+    """Adds the threads of a file that jstack doesn't print. An object has the name that jstack gives it, where a thread
+    of both shows that."""
+    here = {thread.key: thread for thread in dump.threads}
+    names = {there: own for thread in more.threads if thread.key in here
+             for there, own in same_objects(thread, here[thread.key])}
+    for thread in (thread for thread in more.threads if thread.key not in here):
+        thread.is_of_file = True
+        for frame in thread.frames:
+            frame.marks = [(kind, names.get(thing, thing)) for kind, thing in frame.marks]
+        dump.threads.append(thread)
+    dump.has_virtual, dump.lost = True, dump.lost or more.lost
+
+
+def same_objects(thread: Thread, own: Thread) -> Iterator[Tuple[str, str]]:
+    """Yields what a thread waits at and has locked by a file, each with what jstack calls that."""
+    for kind in {kind for frame in thread.frames for kind, _ in frame.marks}:
+        there, here = ([thing for frame in one.frames for what, thing in frame.marks if what == kind]
+                       for one in (thread, own))
+        if len(there) == len(here):
+            yield from zip(there, here)
 
 
 # `jcmd PID Thread.dump_to_file`
@@ -61,6 +93,8 @@ def read_file_text(path: str, lines: List[str]) -> Dump:
                 dump.lost = dump.lost or f"{path}:{number} doesn't fit"
     dump.taken = lines[1].strip()
     dump.close()
+    for thread in dump.threads:
+        thread.state = thread.state or state_of(thread)
     return dump
 
 
@@ -100,8 +134,17 @@ def thread_of_row(path: str, row: Dict[str, Any], process: str) -> Thread:
             thread.fault = thread.fault or f"{thread.place}: the frame {shown(str(line))[:200]} isn't understood"
         else:
             thread.frames.append(frame_of(matched))
+    thread.state = thread.state or state_of(thread)
     add_marks(thread, row)
     return thread
+
+
+def state_of(thread: Thread) -> str:
+    """Returns the state of a thread by where it stands, or nothing."""
+    methods = [step.method for step in thread.frames[:INNER]]
+    if any(map(LIMITS.fullmatch, methods)):
+        return "TIMED_WAITING"
+    return "WAITING" if methods and PARKS.fullmatch(methods[0]) else ""
 
 
 def add_marks(thread: Thread, row: Dict[str, Any]) -> None:

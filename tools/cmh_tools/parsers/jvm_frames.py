@@ -125,10 +125,11 @@ OF_THE_JVM = re.compile(
     r"|Notification Thread|Attach Listener|DestroyJavaVM|C[12] CompilerThread\d+|Sweeper thread|process reaper.*"
     r"|Surrogate Locker Thread.*|VirtualThread-un\w+|MasterPoller|(?:Read|Write|Sub)-?Poller.*|JVMCI.*|JFR .*"
     r"|RMI (?!TCP Accept).*|GC Daemon|Secondary finalizer|Keep-Alive-Timer|JDWP .*|Java2D .*|AWT-Shutdown"
+    r"|(?:idle|req-rsp)-timeout-task"
 )
-# Threads that run whatever tasks they are given, and what the JVM calls those of its own pools.
+# Threads that run whatever tasks they are given, and what the JVM calls those of its own pools, or of its HTTP server.
 FOR_TASKS = re.compile(POOLED.pattern + r"|java\.util\.TimerThread\.mainLoop")
-OF_ITS_POOLS = re.compile(r"VirtualThread-un\w+|RMI (?:Scheduler|TCP Connection)\(\d.*")
+OF_ITS_POOLS = re.compile(r"VirtualThread-un\w+|RMI (?:Scheduler|TCP Connection)\(\d.*|(?:idle|req-rsp)-timeout-task")
 # What they call who end a child, and then run what the job has left for that end (Process.onExit).
 REAPS = re.compile(r"java\.lang\.ProcessHandleImpl\S*")
 # Those of them that run no code of the job at any time, and so end nobody's wait.

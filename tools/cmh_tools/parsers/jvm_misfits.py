@@ -17,6 +17,9 @@ QUEUES = re.compile(r"java\.util\.concurrent\.locks\.AbstractQueued(?:Long)?Sync
 # What of such a queue parks by itself, of JDK 8 and later.
 PARKS = re.compile(r"java\.util\.concurrent\.locks\.AbstractQueued(?:Long)?Synchronizer(?:\.(?:acquire|"
                    r"doAcquire\w*Nanos|parkAndCheckInterrupt)|[.$]ConditionObject\.await\w*|[.$]ConditionNode\.block)")
+# Private methods of the JDK in which one waits, with their classes.
+PRIVATE = re.compile(r"(java\.util\.concurrent\.(?:CompletableFuture|FutureTask|Phaser|CyclicBarrier|Exchanger))\.(?:"
+                     r"waitingGet|timedGet|awaitDone|internalAwaitAdvance|dowait|(?:slot|arena)Exchange)")
 AWAITS = re.compile(rf".*\${CONDITION}\.await\w*")
 # The object of a lock of the JDK at which its waiters are parked, with the class of that lock.
 OF_LOCKS = re.compile(r"(java\.util\.concurrent\.[\w.]+)\$(?:Nonfair|Fair)?Sync")
@@ -64,6 +67,10 @@ def misfit_of_park(stack: Stack, parked_class: str) -> str:
     parking = next((method for method in methods[1:] if not PARK.match(method)), "")
     if QUEUES.fullmatch(parking) and not PARKS.fullmatch(parking):
         return f"it is parked, and {parking} calls no such thing"
+    for method, caller in zip(methods, [*methods[1:], "nobody"]):
+        own = PRIVATE.fullmatch(method)
+        if own and not caller.startswith(f"{own[1]}."):
+            return f"its own class alone calls {method}, and {caller} does"
     awaits = any(map(AWAITS.fullmatch, methods))
     if parked_class.endswith(f"Synchronizer${CONDITION}") and not awaits:
         return "it is parked at a condition, and no frame awaits one"

@@ -100,6 +100,7 @@ def missing_of(dump: Dump) -> str:
     number = sum(thread.number is not None for thread in dump.threads)
     if number < dump.listed:
         return f"{dump.path}: the JVM lists {dump.listed} threads, and {number} are shown"
-    if not dump.is_file and any(thread.name.startswith("VirtualThread-un") for thread in dump.threads):
+    has_virtual = any(thread.name.startswith("VirtualThread-un") for thread in dump.threads)
+    if has_virtual and not (dump.is_file or dump.has_virtual):
         return f"{dump.path}: {VIRTUAL}"
     return ""

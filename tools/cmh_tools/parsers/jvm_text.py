@@ -81,7 +81,8 @@ class Thread:
     monitor under its frames, or nothing where that isn't shown, and `owned` has the class of each lock that it owns, if
     `lists_owned` says that these are printed. By another state, if its frames are the same there, `same_as` has the
     objects that it waited at in the first one, `has_stood` says that it has used no processor time, and `has_ticked`
-    that it has used some. `is_closed` says that no more frames may follow in its text, and `stack` is what `stack_of`
+    that it has used some. `is_of_file` says that it was read by itself, beside what jstack prints, `is_closed` that no
+    more frames may follow in its text, and `stack` is what `stack_of`
     has found."""
 
     name: str
@@ -110,6 +111,7 @@ class Thread:
     has_ticked: bool = False
     is_closed: bool = False
     fault: str = ""
+    is_of_file: bool = False
 
 
 def stack_of(thread: Thread) -> Stack:
@@ -123,7 +125,8 @@ class Dump:
     """The threads of a state. `pid` is that of the JVM, `machine` and `time` where it was read, and from when to when,
     and `launcher` the first thread of a program `java`, which only waits for main, if the text has them. `found_owners`
     has the name of the owner of each lock in the deadlocks that the JVM itself has found, `has_owners` says whether
-    owners of all locks were printed, `is_file` whether the text is of `Thread.dump_to_file`, and `listed` how many
+    owners of all locks were printed, `is_file` whether the text is of `Thread.dump_to_file`, `has_virtual` whether
+    threads of such a file stand beside it, and `listed` how many
     threads the JVM lists. `taken` tells one state from another, and `lost` is what shows that lines of it are missing.
     """
 
@@ -137,6 +140,7 @@ class Dump:
     found_owners: Dict[str, str] = field(default_factory=dict)
     has_owners: bool = False
     is_file: bool = False
+    has_virtual: bool = False
     listed: int = 0
     taken: str = ""
     lost: str = ""

@@ -9,7 +9,7 @@ from __future__ import annotations
 from typing import Dict, Iterable, List, Optional, Set
 
 from ..model import Part, Sign, Strength, Wakers, all_of, any_of, unseen, wakers
-from ..sketch import INNER, LIMIT, REST, SYSTEM, Process, blocked, garbled, goes_on, premise, rests, unknown
+from ..sketch import INNER, LIMIT, REST, SYSTEM, TIMER, Process, blocked, garbled, goes_on, premise, rests, unknown
 from ..snapshots import ONCE
 from .base import Snapshot
 from .jvm_frames import (AGAIN, BARRIER, CLEANER, COMPUTES, CONDITION, FROM_OUTSIDE, FUTURE, HAS_TASK, HAS_TIMER,
@@ -51,7 +51,8 @@ class Threads(Snapshot):
     `counts` says that processor times tell one wait from the next. `moved` has at what some wait who haven't stood, or
     in another way than for a ReentrantLock, and `shows_owners` says that whoever owns one is shown. `timers` are
     the JDK's own with something to do for futures. `scheduled` are the keys of those that take tasks of a schedule, and
-    wait with a limit in one state at least: its threads take turns in that."""
+    wait with a limit in one state at least: its threads take turns in that. `of_file` has the names of those that were
+    read by themselves, beside what jstack prints."""
 
     dump: Dump
     threads: List[Thread]
@@ -69,6 +70,7 @@ class Threads(Snapshot):
     known_owners: Dict[str, Part]
     timers: List[str]
     scheduled: Set[str]
+    of_file: Set[str]
 
     def left_out(self) -> Part:
         """Those who may be missing, beside those that are named: whoever is found by a search has them anyway."""
@@ -181,7 +183,7 @@ def wait_with_limit(thread: Thread, place: Place, name: str, snapshot: Threads) 
         process = wait_for_pool(thread, name, snapshot)
         process.operation = place.call
         return process
-    why = "sleeps" if place.has(SLEEP) else "waits for a timer" if place.has(HAS_TIMER) else "waits with a limit"
+    why = "sleeps" if place.has(SLEEP) else TIMER if place.has(HAS_TIMER) else "waits with a limit"
     return goes_on(name, why, [premise(LIMIT)], Sign.TICKS if is_own_loop(stack_of(thread)) else Sign.SLEEPS,
                    operation=f"timed {place.call}" if place.call else "")
 

@@ -21,7 +21,8 @@ from .linux_children import (FOR_SIGNAL, FORKS, IPC, SHELL, SIGCHLD, SIGINT, is_
                              wait_to_connect)
 from .linux_connections import connections_of
 from .linux_files import self_connections, wait_at, wait_at_set
-from .linux_frames import has_names, is_known, nameless_programs, own_frames, sleeps_in_own_loop, system_of
+from .linux_frames import (OWN_THREADS, has_names, is_known, nameless_programs, own_frames, sleeps_in_own_loop,
+                           system_of)
 from .linux_limits import far_limit, is_far, limit_of, words_of
 from .linux_locks import SETLKW, locks_besides, wait_for_lock
 from .linux_notes import frames_of, whole_note
@@ -34,7 +35,7 @@ from .linux_waits import (ACCEPTS, EPOLLS, LIMITS, MOVES, NUMBERS, QUEUES, READ,
                           Wait, against, has_limit, int32, not_shown, not_understood, with_end)
 
 NO_FACT = ", and no fact on its place decides that"
-OWN_THREADS = ("erlang", "go", "jvm", "mpi")  # whose runtimes have threads that are none of the job's
+WITH_HELPERS = ("erlang",)  # of these, those whose folder has other programs that the runtime begins
 SIGNALS, OUTSIDE, ABOVE, MADE = "signals", "outside", "above", "made"  # assumptions
 # Handlers of what a process does itself, of its children, and of what threads send each other within glibc.
 OF_ITSELF = (4, 5, 6, 7, 8, 11, 13, 16, SIGCHLD, 24, 25, 31, 32, 33)
@@ -174,7 +175,9 @@ class LinuxParser(Parser):
         sketch.processes = [process for process in sketch.processes
                             if process.frames != [UNREADABLE] or process.name in wanted]
         sketch.processes += [unknown(name, why, frames=[name]) for name, why in self.unseen.items() if name in wanted]
-        sketch.connections = connections_of(snapshots[0].machine, snapshots[0].readings[0].machine)
+        rows, later = (connections_of(snapshots[number].machine, snapshots[number].readings[0].machine, self.pids)
+                       for number in (0, -1))
+        sketch.connections = {key: row for key, row in rows.items() if key in later}
         sketch.begun_by = begun_by(snapshots[0].machine, self.pids)
         for snapshot in snapshots:
             sketch.warnings += [line for line in snapshot.machine.warnings if line not in sketch.warnings]
@@ -207,8 +210,10 @@ class LinuxParser(Parser):
 
     def process_at(self, thread: Thread, snapshot: Computer, wait: Wait, more: Dict[str, Any]) -> Process:
         """Returns the process of a thread that is at a wait. How long its limit is doesn't tell it from the next: many
-        wait for what is left of some seconds."""
-        if thread.call in NUMBERS and has_limit(thread):
+        wait for what is left of some seconds. Nor does where one that only sleeps keeps that time."""
+        if thread.call in SLEEPS:
+            more["objects"] = [thread.call]
+        elif thread.call in NUMBERS and has_limit(thread):
             words, place = thread.row["args"], LIMITS[thread.call]
             more["objects"] = [" ".join([thread.call, *words[:place], *words[place + 1:]])]
         if thread.call == "futex":
@@ -224,7 +229,8 @@ class LinuxParser(Parser):
             return goes_on(thread.name, wait.why, [premise(LIMIT)], wait.sign, **more)
         if not is_one_wait:
             return unknown(thread.name, "it woke while it was read", **{**more, "count": None})
-        is_inner = is_of_runtime(thread) and (is_timed or thread.call in (*EPOLLS, "futex"))
+        is_inner = is_helper(snapshot.machine, thread.owner) or is_of_runtime(thread) and (
+            is_timed or thread.call in (*EPOLLS, "futex") or wait.others == [thread.owner])
         if wait.sign is Sign.UNKNOWN or is_inner and not is_owned(wait):
             why = wait.why if wait.sign is Sign.UNKNOWN else f"it waits for all of its runtime{hint(thread)}"
             return unknown(thread.name, why, **more)
@@ -307,6 +313,16 @@ def is_owned(wait: Wait) -> bool:
 
 def is_of_runtime(thread: Thread) -> bool:
     return system_of(thread) in OWN_THREADS
+
+
+def is_helper(machine: Machine, owner: Owner) -> bool:
+    """Whether a process is a program of a runtime that one above it runs in, as erl_child_setup."""
+    return any(system_name(above) in WITH_HELPERS and folder_of(above) == folder_of(owner)
+               for above in machine.above(owner))
+
+
+def folder_of(owner: Owner) -> str:
+    return str(owner.row.get("exe", "")).rpartition("/")[0]
 
 
 def time_of(row: Row) -> Optional[Tuple[float, float]]:

@@ -1,49 +1,95 @@
-"""Which processes have which connections to servers, as the kernel keeps it: their sockets by the client's end, which
-the server knows too; and which threads wait there for nothing else. So a state of a database can be joined with it."""
+"""Which processes have which connections, as the kernel keeps it: to servers, whose own states say who is at the other
+end; and those of programs that have processes of their own inside, as goroutines, which the kernel doesn't know. So
+their states can be joined with that of Linux."""
 from __future__ import annotations
 
-from typing import Dict, Iterator, List, Tuple
+from typing import Dict, Iterator, List, Set, Tuple
 
 from .linux_files import AT_LISTENER
+from .linux_frames import OWN_THREADS, system_of
 from .linux_text import Machine, Owner, Row, Thread
 from .linux_waits import EPOLLS, READ, SETS, int32
 
+Connections = Dict[str, Dict[str, List[str]]]
 # Programs whose states say who is at the other end.
 SERVERS = ("beam.smp", "postgres", "pgbouncer", "mariadbd", "mysqld")
-HELPERS = ("erl_child_setup", "inet_gethost")  # programs that a node of Erlang's starts for itself
+HELPERS = ("epmd", "erl_child_setup", "inet_gethost")  # programs that a node of Erlang's starts for itself
 MAPPED = "[::ffff:"  # an address of IPv4 in one of IPv6
 
 
-def connections_of(machine: Machine, space: str) -> Dict[str, Dict[str, List[str]]]:
-    """Returns by the key of each connection who has its client's end, and who waits there; and the threads of servers
-    on this machine, which is called `space`."""
-    rows: Dict[str, Dict[str, List[str]]] = {}
-    for owner, target, key in ends_of(machine, space):
-        row = rows.setdefault(key, {"has": [], "awaits": [], "sockets": [target]})
-        row["has"] += [name for name in owner.names if name not in row["has"]]
-        row["awaits"] += [thread.name for thread in owner.living if target_of(thread, machine) == target]
-    beside = [name for owner in machine.owners if owner.command in (*SERVERS, *HELPERS) for name in owner.names]
-    return {**rows, "servers": {"beside": beside}} if beside else rows
-
-
-def ends_of(machine: Machine, space: str) -> Iterator[Tuple[Owner, str, str]]:
-    """Yields who has a client's end of a connection to a server, its socket, and the key of the connection."""
+def connections_of(machine: Machine, space: str, asked: Set[int]) -> Connections:
+    """Returns by the key of each connection who has its client's end, and who waits there; the threads of servers on
+    this machine, which is called `space`, and of what these have begun, but for those that were asked for; these; and
+    by the ports at which Go's programs listen their threads, with the other ends of all their connections."""
+    rows: Connections = {}
+    listening: Dict[str, List[Dict[str, List[str]]]] = {}
     for owner in machine.owners:
-        targets = dict.fromkeys(words[0] for words in owner.files.values() if words[0].startswith("socket:["))
-        for target in targets if not owner.why and owner.command not in SERVERS else ():
-            row = machine.sockets.get(int(target[8:-1]))
-            key = key_of(machine, row, space) if row is not None and row["state"] != AT_LISTENER else ""
-            if key:
-                yield owner, target, key
+        if not owner.why and owner.command not in SERVERS:
+            ports, inside = add_ends(owner, machine, space, rows)
+            for port in ports:
+                listening.setdefault(f"listener {port}", []).append(inside)
+    rows.update({key: programs[0] for key, programs in listening.items() if len(programs) == 1})
+    servers = [owner for owner in machine.owners if owner.command in (*SERVERS, *HELPERS)]
+    begun = [owner for owner in machine.below(servers) if owner not in servers and owner.pid not in asked]
+    beside = [name for owner in (*servers, *begun) for name in owner.names]
+    tops = [owner for owner in machine.owners if owner.pid in asked]
+    kept = [name for owner in dict.fromkeys([*tops, *machine.below(tops)]) for name in owner.names]
+    return {**rows, "servers": {"beside": beside, **({"asked": kept} if kept else {})}} if rows or beside else {}
 
 
-def key_of(machine: Machine, row: Row, space: str) -> str:
+def add_ends(owner: Owner, machine: Machine, space: str, rows: Connections) -> Tuple[List[str], Dict[str, List[str]]]:
+    """Adds the connections of a process to servers. Of a program of Go's it returns the ports at which it listens, and
+    its threads with the other ends of its connections: the threads that have one, or else its key."""
+    system = system_of(owner.threads[0]) if owner.threads else ""
+    is_go = system == "go"
+    ports: List[str] = []
+    inside: Dict[str, List[str]] = {"has": [*owner.names], "ends": [], "peers": []}
+    standard = [owner.files.get(fd, [""])[0] for fd in "012"] if is_go else []  # (by which it is begun, as by systemd)
+    for target, row in sockets_of(owner, machine):
+        if target in standard:
+            continue
+        if row.get("state") == AT_LISTENER:
+            ports += [row["at"].rpartition(":")[2]] if is_go and row["kind"] == "tcp" else []
+            continue
+        others = [other for peer in row.get("peers", ()) for other in machine.with_file(f"socket:[{peer}]")]
+        if is_go and others and not all(map(is_server, others)):
+            inside["peers"] += [name for other in others for name in other.names]
+            continue
+        key = key_of(row, others, space)
+        if key:
+            made = rows.setdefault(key, {"has": [], "awaits": [], "sockets": [target]})
+            made["has"] += [name for name in owner.names if name not in made["has"]]
+            made["awaits"] += [name for name, own in awaited(owner, machine) if own == target] if not is_go else []
+            if system in OWN_THREADS:
+                made["runtime"] = made["has"]
+        inside["ends"] += [key] if is_go else []
+    inside["peers"] = list(dict.fromkeys(inside["peers"]))
+    return ports, inside
+
+
+def awaited(owner: Owner, machine: Machine) -> List[Tuple[str, str]]:
+    """Returns for each thread of a process the file at which it waits, if that is one. They are looked at once."""
+    if owner not in machine.awaited:
+        machine.awaited[owner] = [(thread.name, target_of(thread, machine)) for thread in owner.living]
+    return machine.awaited[owner]
+
+
+def sockets_of(owner: Owner, machine: Machine) -> Iterator[Tuple[str, Row]]:
+    """Yields each socket of a process with its row, which is empty where the kernel has told nothing of it."""
+    for target in dict.fromkeys(words[0] for words in owner.files.values() if words[0].startswith("socket:[")):
+        yield target, machine.sockets.get(int(target[8:-1]), {})
+
+
+def is_server(owner: Owner) -> bool:
+    return owner.command in SERVERS
+
+
+def key_of(row: Row, others: List[Owner], space: str) -> str:
     """Returns what tells a connection from others, or nothing where its other end is of a program that is no server."""
-    others = list(dict.fromkeys(owner for peer in row["peers"] for owner in machine.with_file(f"socket:[{peer}]")))
-    if not all(owner.command in SERVERS for owner in others):
+    if not row or not all(map(is_server, others)):
         return ""
     if row["kind"] == "tcp" and row["to"]:
-        return plain(row["at"])
+        return f"{plain(row['at'])} {plain(row['to'])}"
     return f"process {others[0].pid} of {space}" if len(others) == 1 and len(others[0].living) == 1 else ""
 
 

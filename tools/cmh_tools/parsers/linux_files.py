@@ -57,7 +57,16 @@ def wait_at_pipe(machine: Machine, thread: Thread, key: str, what: str, mode: st
     ways = [other for way, other in ((READS, "w"), (WRITES, "r")) if events & way] or ["w", "r"]
     ways = {"r": ["w"], "w": ["r"]}.get(mode, ways)
     others = list(dict.fromkeys(owner for way in ways for owner in machine.with_file(key, way)))
-    return wait_for(machine, thread, others, what, [FILES])
+    wait = wait_for(machine, thread, others, what, [FILES])
+    apart = [owner for owner in users_of(others) if not waits_for(owner, key)] if others[1:] else []
+    if len(apart) == 1 and len(apart[0].living) == 1:  # (who waits for it too isn't the one whose act is needed)
+        wait.parts = [(wakers("other-end", apart[0].names), *part) for part in wait.parts]
+    return wait
+
+
+def waits_for(owner: Owner, key: str) -> bool:
+    """Whether a thread of a process waits at a file."""
+    return any(key in owner.files.get(str(fd), []) for thread in owner.living for fd, *_ in thread.events)
 
 
 def wait_at_terminal(machine: Machine, thread: Thread, target: str, events: int) -> Wait:

@@ -7,7 +7,7 @@ from __future__ import annotations
 
 import re
 from functools import lru_cache
-from typing import Iterable, Iterator, List
+from typing import Iterable, Iterator, List, Tuple
 
 from ..sketch import frame
 from .base import without_sleep
@@ -32,14 +32,15 @@ LAMBDA = re.compile(r"\{lambda\([^{}]*\)#(\d+)\}(::operator\(\))?")
 RUN = re.compile(r"std::(thread::_State_impl<.*tuple<|_Function_handler<.*?\), )(?P<own>(?![^{}]*\([\w:<>]*\*\)).*?)"
                  r"(> > >::_M_run|>::_M_invoke)")
 # Functions of a program that wait at a condition for the next thing to do.
-TAKES = re.compile(r"(\w+::)*(take|pop|get|dequeue|next|receive|recv|poll|fetch|(a?wait|wait_for)_?(work|job|task))"
-                   r"(_\w+)?")
+TAKES = re.compile(r"(\w+::)*((\w+_)?queue_)?(take|pop|get|dequeue|next|receive|recv|poll|fetch"
+                   r"|(a?wait|wait_for)_?(work|job|task))(_\w+)?")
 # Functions that a thread is there for, if it begins with one that names nothing.
 LOOPS = re.compile(r"(\w+::)*(run|loop|work|serve|consume|((worker|thread|main|event|run|work|job|queue)_?)+"
                    r"(loop|main|func|fn|proc|entry|body)?)", re.I)
 PLACE = re.compile(r".*\+0x[0-9a-f]+")  # a frame without a name
 NAMELESS = re.compile(r".*\blambda(#\d+)?")
 PARSERS = {"python": "python", "java": "jvm", "beam": "erlang", "go": "go", "mpi": "mpi"}
+OWN_THREADS = ("erlang", "go", "jvm", "mpi")  # whose runtimes have threads that are none of the job's
 
 
 def system_of(thread: Thread) -> str:
@@ -53,12 +54,18 @@ def system_of(thread: Thread) -> str:
 def own_frames(thread: Thread) -> List[str]:
     """Returns the frames of the job's own: as a debugger shows them, or else as they were unwound from memory. Those of
     an interpreter are none of the job's."""
-    frames: List[str] = []
-    for function, where in thread.stack:
-        file, _, line = where.rpartition(":")
-        if not OF_LIBRARY.match(function) and not file.startswith(LIBRARIES):
-            frames.append(str(frame(function, file.rpartition("/")[2], int(line))) if file else function)
+    frames = [text for text in map(own_frame, thread.stack) if text]
     return frames or ([] if system_of(thread) else [text_of(it) for it in own_steps(thread)])
+
+
+@lru_cache(maxsize=KEPT)
+def own_frame(step: Tuple[str, str]) -> str:
+    """Returns a frame as a debugger shows it, if it is none of a library. Many threads stand at one place."""
+    function, where = step
+    file, _, line = where.rpartition(":")
+    if OF_LIBRARY.match(function) or file.startswith(LIBRARIES):
+        return ""
+    return str(frame(function, file.rpartition("/")[2], int(line))) if file else function
 
 
 def own_steps(thread: Thread) -> List[Frame]:

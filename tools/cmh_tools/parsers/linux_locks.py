@@ -32,15 +32,15 @@ def wait_for_lock(machine: Machine, thread: Thread) -> Wait:
     if not file or wanted is None:
         return not_understood("which lock it waits for isn't known", what, LOCK_OF)
     holdings: Dict[str, Holding] = {}
-    is_clear = True
-    for owner in machine.with_file(file):
+    is_clear, owners = True, machine.with_file(file)
+    for owner in owners:
         for row, text in locks_of(owner, file):
             lock = Lock.of(text)
             is_clear = is_clear and lock is not None
             if lock is not None and lock.is_in_the_way_of(wanted) and not is_own(lock, owner, row, thread.owner, words):
                 add_holder(holdings.setdefault(holder_of(lock, owner, row, text), Holding([])), owner, lock)
     wait = wait_for_holdings(machine, thread, list(holdings.values()), wanted)
-    if not is_clear:
+    if not is_clear or not {sharer for name in holdings for sharer in machine.with_file(name)} <= {*owners}:
         wait.why = "a lock of its file isn't understood"
         wait.parts = [(*part, unseen("unshown", wait.why)) for part in wait.parts]
     wait.what = what

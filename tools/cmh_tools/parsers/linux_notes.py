@@ -35,7 +35,9 @@ def note_of(thread: Thread, wait: Wait) -> str:
     place = f"{wait.operation or call_of(thread)} {word_of(thread) if is_word(thread, wait) else wait.what}".strip()
     others = [owner for owner in wait.others if owner is not thread.owner]
     names, verb = some_names(others), "has" if len(others) == 1 else "have"
-    if thread.call in ("wait4", "waitid", *SUSPENDS, *FORKS):
+    if thread.call in ("wait4", "waitid"):
+        return f"{wait.what or 'a child'}'s end{': ' + names if others else ''}"
+    if thread.call in (*SUSPENDS, *FORKS):
         return f"{place}: {names}" if others else place
     if wait.operation == LOCK_OF:
         return f"{place}, which {some_names(wait.others)} {verb}" if wait.others else place

@@ -6,11 +6,12 @@ thread that is joined, of a lock of readers and writers. glibc keeps its owner i
 from __future__ import annotations
 
 import re
+from functools import lru_cache
 from typing import Dict, Iterable, List, Optional, Tuple
 
 from ..model import Sign, any_of, unseen, wakers
 from .linux_children import SIGCHLD
-from .linux_frames import is_known, library_names, system_of, takes_next
+from .linux_frames import KEPT, is_known, library_names, system_of, takes_next
 from .linux_text import ENDED, Machine, Owner, Row, Thread
 from .linux_waits import FILES, Wait, against, int32
 
@@ -55,16 +56,25 @@ def stacks_of(text: str) -> Dict[int, List[Tuple[str, str]]]:
     stacks: Dict[int, List[Tuple[str, str]]] = {}
     frames: Optional[List[Tuple[str, str]]] = None
     for line in text.split("\n"):
-        head, step, source = TID.match(line), STEP.match(line), SOURCE.match(line)
+        head = TID.match(line) if line.startswith("T") else None
+        source = SOURCE.match(line) if line.startswith(" ") else None
         if head:
             frames = stacks.setdefault(int(head[1] or head[2]), [])
-        elif step and frames is not None:
-            call = CALL.match(step[1])
-            where = f"{call['file']}:{call['line']}" if call and call["file"] else ""
-            frames.append((call["function"] if call else step[1].partition("@")[0], where))
+        elif frames is not None and line.startswith("#"):
+            frames += filter(None, [step_in(line)])
         elif source and frames:
             frames[-1] = frames[-1][0], f"{source[1]}:{source[2]}"
     return stacks
+
+
+@lru_cache(maxsize=KEPT)
+def step_in(line: str) -> Optional[Tuple[str, str]]:
+    """Returns the function of a frame, and FILE:LINE or nothing, if a line has one."""
+    step = STEP.match(line)
+    call = CALL.match(step[1]) if step else None
+    if step is None or call is None:
+        return (step[1].partition("@")[0], "") if step else None
+    return call["function"], f"{call['file']}:{call['line']}" if call["file"] else ""
 
 
 def operation_of(thread: Thread) -> str:
@@ -111,7 +121,7 @@ def set_wakers(machine: Machine, thread: Thread, wait: Wait) -> None:
     owners += machine.with_file(name) if name else []
     owners = list(dict.fromkeys(owners))
     tracers = {owner.tracer for owner in owners} - {0}
-    is_known = name is not None and "kin" in thread.owner.row and len({*kin} - machine.by_pid.keys()) == 0
+    is_known = name is not None and "kin" in thread.owner.row and {*kin} <= machine.by_pid.keys()
     is_known = is_known and tracers <= machine.by_pid.keys() and not any(owner.why for owner in owners)
     is_private = thread.arguments[1] & PRIVATE or name == ""
     how = "same-process" if is_private and not owners[1:] else "reaches"

@@ -29,22 +29,24 @@ NUMBERS = re.compile(r"[0-9]{1,9}(\s+[0-9]{1,9})*")
 HEX = re.compile(r"(0x)?[0-9a-f]{1,16}")
 # Keys of older states, of code that was followed: they say nothing.
 OLD = {f"{key}?": object for key in ("apart", "awaits", "handlers", "traps", "builtin", "family", "spares")}
-RUNNING = "running"  # the call of one that is in none, and so has no arguments
+# The calls of those that are in none, and so have no arguments: one that computes, and one that is held meanwhile.
+RUNNING, NO_CALL = "running", "-1"
 STATE = re.compile("[A-Za-z]")
 FILE = re.compile(r"(?!pipe:|socket:).*|(pipe|socket):\[\d{1,20}\]", re.S)
-THREAD = {"tid": int, "state": STATE, "inner?": int, "comm?": str, "call?": str, "args?": [HEX] * 6,
+PID = range(1 << 22)  # what the kernel numbers processes and threads with
+THREAD = {"tid": PID, "state": STATE, "inner?": PID, "comm?": str, "call?": str, "args?": [HEX] * 6,
           "counts?": [int, int], "set?": ([[int, int]], [[int, int, int]]), "words?": re.compile("([0-9a-f]{2})*"),
           "range?": [int] * 4, "path?": str, "wchan?": str, "memory?": str, "mask?": HEX, "key?": int, "users?": [int],
           "changed?": int, "within?": str, "frames?": [str], "stack?": [int], "cut?": bool, "again?": bool,
           "object?": [str, int], "limit?": [(float, int, type(None))] * 2, "waited?": (float, int), "pending?": bool,
           "addressed?": bool, **OLD}
-OWNER: Row = {"pid": int, "ppid": int, "comm": str, "group?": int, "session?": int, "exe?": str, "command?": str,
+OWNER: Row = {"pid": PID, "ppid": PID, "comm": str, "group?": PID, "session?": PID, "exe?": str, "command?": str,
               "net?": str, "living?": int, "TracerPid?": re.compile(r"\d{1,9}"), "SigCgt?": HEX, "SigIgn?": HEX,
               "fds": {re.compile(r"\d{1,9}|memory .*"): [FILE, re.compile("r?w?"), str, ...]}, "threads?": [THREAD],
-              "kin?": [int], "timers?": bool, "aio?": bool, "runtime?": str, "frames?": [[str, int, int]],
+              "kin?": [PID], "timers?": bool, "aio?": bool, "runtime?": str, "frames?": [[str, int, int]],
               "modules?": [[str, str]], "start?": int, "NSpid?": NUMBERS, "NSpgid?": NUMBERS, "collects?": bool,
               "state": STATE, **OLD}
-UNREADABLE = {**{f"{key.rstrip('?')}?": shape for key, shape in OWNER.items()}, "pid": int, "unreadable": str}
+UNREADABLE = {**{f"{key.rstrip('?')}?": shape for key, shape in OWNER.items()}, "pid": PID, "unreadable": str}
 SOCKET = {"socket": int, "kind": re.compile("tcp|u_(str|dgr|seq)"), "state": str, "at": str, "to": str,
           "peers": [int], "away?": bool, "unread?": int, "timer?": object}
 # The form of each row, by the first of these keys that it has.
@@ -52,7 +54,7 @@ SHAPES = {"version": {"version": int, "machine?": str, "release?": str, "asked?"
                       "outside": str, "space?": str, "with_stacks?": bool},
           "reading": {"reading": int, "began?": float, "seconds?": (int, float), "warnings": [str]},
           "unreadable": UNREADABLE, "pid": OWNER, "socket": SOCKET,
-          "listening": {"listening": {str: [int]}}, "parents": {"parents": {re.compile(r"[0-9]{1,9}"): [int, int]}},
+          "listening": {"listening": {str: [int]}}, "parents": {"parents": {re.compile(r"[0-9]{1,9}"): [PID, int]}},
           "stacks": {"stacks": int, "by": str, "still": {str: [str]}, "text": str},
           "end": {"end": (int, str), "processes?": int}}
 # What each process that was read says of itself, but for one that has ended and for the collector.
@@ -219,6 +221,7 @@ class Machine:
         self.lists: Dict[Tuple[str, ...], List[str]] = {}
         self.unseen: Dict[str, str] = {}  # what stands for what no process is, and why that is unknown
         self.stand_ins: Dict[int, str] = {}  # what those are called in lists that can't be read
+        self.awaited: Dict[Owner, List[Tuple[str, str]]] = {}  # at which file each thread of a process waits, if asked
 
     def with_file(self, key: str, mode: str = "") -> List[Owner]:
         """Returns the processes that have a file, open in a way."""
@@ -348,7 +351,7 @@ def rows_of(text: str, path: str) -> List[Row]:
         if kind == "pid":
             odd = odd or (".threads" if "threads" not in row and row["state"] not in ENDED else None)
             odd = odd or next((".threads.args" for thread in row.get("threads", ()) if "args" not in thread
-                               and thread.get("call", RUNNING) != RUNNING), None)
+                               and thread.get("call", RUNNING) not in (RUNNING, NO_CALL)), None)
         if odd is not None:
             raise Refusal(f"{shown(path)}:{number}: {EXPECTED}, and in this line {quote(odd[1:])} isn't as these have "
                           "it")

@@ -18,8 +18,8 @@ from ..sketch import LIMIT, SYSTEM, Process, Sketch, blocked, garbled, goes_on, 
 from ..snapshots import APART, Reading
 from . import State
 from .base import Parser, Snapshot, one_line
-from .mariadb_text import Look, Row, looks_of, words_in
-from .sessions import SLACK, Limits, client_words, connections_of, end_of_socket, with_limits, words_for
+from .mariadb_text import LINES, Look, words_in
+from .sessions import SLACK, Limits, Row, client_words, connections_of, end_of_socket, with_limits, words_for
 
 LIMITS, TABLES = "session-limits", "named-tables"  # assumptions
 ENDLESS = 100_000_000  # innodb_lock_wait_timeout that stands for no limit
@@ -34,6 +34,7 @@ STRONG = re.compile(r"EXCLUSIVE$|NO_WRITE|NO_READ_WRITE|READ_ONLY|FTWRL|BACKUP_W
 WEAK = "MDL_INTENTION_EXCLUSIVE"
 CHANGES_TABLES = ("alter", "drop", "truncate", "rename", "lock", "create", "optimize", "flush", "repair", "backup")
 ENDS_WAIT = re.compile(r"get_lock\s*\(.*,\s*(-?\d{1,9}(?:\.\d{1,6})?)\s*\)", re.I | re.S)
+NAMES_LOCK = re.compile(r"get_lock\s*\(\s*('[^']*')", re.I)
 NO_PLUGIN = "the server doesn't show who has a metadata lock: its plugin metadata_lock_info isn't there"
 
 
@@ -55,7 +56,7 @@ class MariadbParser(Parser):
 
     def read(self, state: State) -> List[Reading]:
         return [Reading(look.path, "server", [look], machine=look.end["machine"], time=look.taken)
-                for look in looks_of(state.text, state.path)]
+                for look in LINES.looks(state.text, state.path, Look)]
 
     def prepare(self, snapshot: Server) -> None:
         snapshot.look = snapshot.readings[0].rows[0]
@@ -126,9 +127,9 @@ class MariadbParser(Parser):
         if match:
             limits = self.limit(row, "the limit of GET_LOCK", max(float(match[1]), 0), row["time"])
         part: Part = (wakers("owns", [owner]),) if owner else (unseen("unshown", "who has its lock isn't shown"),)
-        more.update(operation="get_lock", note=f"lock of GET_LOCK for {words_for(row['time'] or 0)}: {query_of(row)}")
-        return blocked(name, any_of(*part, *limits, *self.statement_limit(row, snapshot.look)),
-                       [SYSTEM, premise(LIMITS)], **more)
+        more.update(operation="get_lock", note=f"{lock_of(row)} for {words_for(row['time'] or 0)}: {query_of(row)}")
+        parts = with_limits([part], (*limits, *self.statement_limit(row, snapshot.look)))
+        return blocked(name, parts, [SYSTEM, premise(LIMITS)], **more)
 
     def at_metadata(self, name: str, row: Row, kind: str, snapshot: Server, more: Dict[str, Any]) -> Process:
         """One that waits for a metadata lock, of a table whose name stands in its statement."""
@@ -164,7 +165,10 @@ class MariadbParser(Parser):
         if command == SLEEP:
             more.update(operation="idle")
             parts = any_of(unseen("client"), unseen("to-come", "its wait_timeout"))
-            return rests(name, "has nothing to do", parts, [SYSTEM], **more)
+            has = held_by(row["thread"], look)
+            why = f"sleeps for {words_for(row['time'] or 0)}, and has {has[0]}; {client_words(end_of_client(row))}" \
+                if has else "has nothing to do"
+            return rests(name, why, parts, [SYSTEM], **more)
         if state == USER_SLEEP:
             more.update(operation="timed sleep")
             return goes_on(name, "sleeps", [premise(LIMIT)], Sign.SLEEPS, **more)
@@ -177,14 +181,30 @@ class MariadbParser(Parser):
         return goes_on(name, "is at work", [SYSTEM], **more)
 
     def finish(self, sketch: Sketch, snapshots: List[Server]) -> None:
-        """Adds the limits, who serves which connection, and warnings."""
+        """Adds the limits, who serves which connection, and warnings. One through a socket of Unix has no ends here.
+        """
         self.limits.add_to(sketch)
         sketch.warnings += list(self.warnings)
         names = {process.name for process in sketch.processes}
         for snapshot in reversed(snapshots):
             sketch.connections.update(connections_of({
-                name: [end] for number, name in snapshot.names.items() if name in names
-                for end in [end_of_client(snapshot.rows_by_id[number])] if end}))
+                name: [end_of_client(snapshot.rows_by_id[number]) or f"session {name}"]
+                for number, name in snapshot.names.items() if name in names}))
+
+
+def lock_of(row: Row) -> str:
+    """Returns the lock of GET_LOCK in words for which a connection waits."""
+    names = set(NAMES_LOCK.findall(row["info"] or ""))
+    return f"lock {one_line(names.pop(), 40)} of GET_LOCK" if len(names) == 1 else "lock of GET_LOCK"
+
+
+def held_by(number: int, look: Look) -> List[str]:
+    """Returns in words the locks of a connection for which others wait, but for those of rows."""
+    waiting = [row for row in look.of("thread") if "odd" not in row]
+    kinds = {match[1].lower() for row in waiting for match in [METADATA.fullmatch(row["state"] or "")] if match}
+    return [*(lock_of(row) for row in waiting if row["state"] == USER_LOCK and row["user_lock"] == number),
+            *(" of ".join(filter(None, [lock["type"].lower(), lock["name"]])) for lock in look.of("metadata")
+              if lock["metadata"] == number and lock["mode"] != WEAK and lock["type"].lower() in kinds)]
 
 
 def more_of(row: Row, trx: Optional[Row], look: Look) -> Dict[str, Any]:
@@ -193,7 +213,7 @@ def more_of(row: Row, trx: Optional[Row], look: Look) -> Dict[str, Any]:
     count += [str(trx[key]) for key in ("transaction", "started", "wait_started")] if trx else []
     is_here = look.end["machine"] and look.end["process"] and row["tid"]
     is_counted = row["query_id"] is not None or trx is not None
-    return {"site": f"connection {row['thread']}", "remedy": f"kill {row['thread']}",
+    return {"site": f"connection {row['thread']}", "remedy": f"KILL {row['thread']}",
             "thread": f"{look.end['process']}/{row['tid']}" if is_here else "",
             "frames": [row["user"] or "connection"], "operation": row["state"] or row["command"],
             "objects": count if is_counted else [], "count": " ".join(count) if is_counted else None,
@@ -251,7 +271,7 @@ def metadata_parts(row: Row, kind: str, snapshot: Server) -> List[Part]:
             holders = things.setdefault((lock["schema"], lock["name"]), {})
             if is_other and keeps_out:
                 holders[snapshot.names[lock["metadata"]]] = "owns"
-    before = [other for other in snapshot.look.of("thread") if is_before(other, row, kind)]
+    before = [other for other in snapshot.look.of("thread") if is_before(other, row)]
     for (_, name), holders in things.items():
         for other in before:
             if kind != "table metadata lock" or str(name).lower() in words_in(other["info"] or ""):
@@ -264,8 +284,8 @@ def metadata_parts(row: Row, kind: str, snapshot: Server) -> List[Part]:
     return any_of(wakers("listed", names), unseen("unshown", why)) if names else []
 
 
-def is_before(other: Row, row: Row, kind: str) -> bool:
-    """Whether another connection waits for a lock of this kind, in a way that keeps others out, and began before."""
+def is_before(other: Row, row: Row) -> bool:
+    """Whether another connection waits for a lock of that kind, in a way that keeps others out, and began before."""
     if "odd" in other or other["state"] != row["state"] or not takes_strong(other):
         return False
     return None not in (other["query_id"], row["query_id"]) and other["query_id"] < row["query_id"]

@@ -3,15 +3,11 @@ is refused: its last line counts the others."""
 from __future__ import annotations
 
 import re
-from dataclasses import dataclass, field
 from functools import cached_property
 from typing import Any, Dict, List, Optional, Tuple
 
-from ..files import Refusal, shown
-from .sessions import Lines
+from .sessions import Lines, Row, ServerLook
 
-Row = Dict[str, Any]
-EXPECTED = "lines of take-mariadb are expected"
 NONE = type(None)
 TEXT, WHOLE = (str, NONE), (int, NONE)
 NUMBER = (int, float, NONE)
@@ -29,22 +25,16 @@ SHAPES: Dict[str, Row] = {
     "held": {"held": str, "table": TEXT, "index": TEXT, "data": TEXT},
     "metadata": {"metadata": int, "mode": str, "type": str, "schema": TEXT, "name": TEXT},
     "end": {"end": int, "process": int, "machine": str, "taken": [float, float]}}
-LINES = Lines("cmh-mariadb ", EXPECTED, SHAPES, "thread")
+LINES = Lines("cmh-mariadb ", "lines of take-mariadb are expected", SHAPES, "thread", "end")
+# What tells the rows of a kind from each other.
+KEYS: Dict[str, Tuple[str, ...]] = {"thread": ("thread",), "transaction": ("of",), "held": ("held",)}
 
 
-@dataclass(eq=False)
-class Look:
-    """One look at a server: its rows by their kinds, and where its text was read."""
-
-    path: str
-    rows: Dict[str, List[Row]] = field(default_factory=dict)
-
-    def of(self, kind: str) -> List[Row]:
-        return self.rows.get(kind, [])
-
-    @property
-    def head(self) -> Row:
-        return self.rows["look"][0]
+class Look(ServerLook):
+    def check(self) -> None:
+        is_one = len(self.of("end")) == len(self.of("limits")) == 1
+        self.check_count(is_one and self.end["end"] == sum(map(len, self.rows.values())) - 1)
+        self.check_once(KEYS)
 
     @property
     def limits(self) -> Row:
@@ -79,36 +69,6 @@ class Look:
         table = str(row["table"]).replace("`", "").rpartition(".")[2]
         index = f" by {row['index']}" if row["index"] not in ("PRIMARY", None) else ""
         return f"row {table}({row['data']}){index}" if row["data"] else f"table {table}"
-
-
-def looks_of(text: str, path: str) -> List[Look]:
-    """Returns the looks of a state. Raises Refusal if it is none, or isn't whole."""
-    looks: List[Look] = []
-    for number, line in enumerate(text.replace("\r\n", "\n").split("\n"), 1):
-        if not line.strip():
-            continue
-        kind, row = LINES.row(line, f"{shown(path)}:{number}")
-        if kind == "look":
-            looks.append(Look(path))
-        if not looks or "end" in looks[-1].rows:
-            raise Refusal(f"{shown(path)}:{number}: {EXPECTED}, and a look begins with its time")
-        looks[-1].rows.setdefault(kind, []).append(row)
-    if not looks:
-        raise Refusal(f"{shown(path)}:1: {EXPECTED}")
-    for look in looks:
-        check(look)
-    return looks
-
-
-def check(look: Look) -> None:
-    """Raises Refusal if a look isn't whole, or has a row twice."""
-    is_whole = len(look.of("end")) == len(look.of("limits")) == 1
-    if not is_whole or look.end["end"] != sum(map(len, look.rows.values())) - 1:
-        raise Refusal(f"{shown(look.path)}: a look isn't whole: its count of rows doesn't fit")
-    for kind, key in (("thread", "thread"), ("transaction", "of"), ("held", "held")):
-        names = [row[key] for row in look.of(kind)]
-        if len(set(names)) != len(names):
-            raise Refusal(f"{shown(look.path)}: a row of {kind} stands twice in a look")
 
 
 def words_in(text: str) -> List[str]:

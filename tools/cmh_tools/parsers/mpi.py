@@ -7,6 +7,7 @@ waits polls, and nothing counts how often it has waited: two stacks alike may sh
 """
 from __future__ import annotations
 
+import functools
 import itertools
 import re
 from collections import Counter
@@ -102,6 +103,7 @@ class Rank:
         """Its process, on its machine where that stands there."""
         return f"{self.pid} on {self.host}" if self.host else self.pid
 
+    @functools.cached_property
     def operation(self) -> str:
         """The MPI call that it is in, or nothing."""
         if any(FINALIZE.match(step["function"]) for step in self.frames):
@@ -117,7 +119,7 @@ class Rank:
 
     def is_together(self) -> bool:
         """Whether it is in a call that needs all of a communicator, or of the world."""
-        operation = self.operation()
+        operation = self.operation
         return operation == "MPI_Finalize" or COLLECTIVES.search(operation) is not None
 
     def name(self) -> str:
@@ -132,10 +134,11 @@ class Rank:
     def more(self) -> Dict[str, Any]:
         """What tells its wait from the next, and the note."""
         frames = [frame(step["function"], step["file"], step["line"]) for step in self.own]
-        operation = self.operation()
+        operation = self.operation
         note = " ".join([operation, *(["in", frames[0]] if frames else [])]).strip()
-        return {"site": self.host or "node-1", "frames": frames, "operation": operation, "objects": self.values(),
-                "note": note, "is_collective": COLLECTIVES.search(operation) is not None, "count": self.count,
+        return {"site": self.host or "node-1", "thread": f"{self.pid}/", "frames": frames, "operation": operation,
+                "objects": self.values, "note": note, "count": self.count,
+                "is_collective": COLLECTIVES.search(operation) is not None,
                 "meeting": self.name() if WAITS.search(operation) else ""}
 
     def between(self, place: int, polls: Rank) -> Tuple[Rank, Dict[str, Any]]:
@@ -146,6 +149,7 @@ class Rank:
         more = made.more()
         return made, {**more, "frames": [*polls.more()["frames"][:1], *more["frames"][1:]]}
 
+    @functools.cached_property
     def values(self) -> List[str]:
         """The arguments of the job's own function that made the call. Then those of its callers, but for `main`, that
         have a name of their own, and are no addresses."""
@@ -230,14 +234,14 @@ class MpiParser(Parser):
                     raise Refusal(f"{shown(reading.path)}: rank {rank.number} is process {rank.process_id()} here, and "
                                   f"{before} before: states of one job are expected, and of one process for each rank")
         self.polls = {rank.own[0]["function"]: rank for rank in reversed(ranks)
-                      if rank.own and POLLS.search(rank.operation())}
+                      if rank.own and POLLS.search(rank.operation)}
         say_missing(readings, pids, [rank.size for rank in ranks])
 
     def prepare(self, snapshot: Ranks) -> None:
         snapshot.ranks = {rank.number: rank for rank in snapshot.rows()}
         names = [one.name() for rank in snapshot.ranks.values() for one in (rank, *rank.threads)]
         snapshot.names = self.names = self.names if self.names == names else names
-        working = [rank.name() for rank in snapshot.ranks.values() if rank.operation() != "MPI_Finalize"]
+        working = [rank.name() for rank in snapshot.ranks.values() if rank.operation != "MPI_Finalize"]
         snapshot.to_finalize = all_of(working, "comes", premise(FINALIZED))
         places = {rank.name(): rank.more()["note"] for rank in snapshot.ranks.values() if rank.is_together()}
         threads = [thread for rank in snapshot.ranks.values() for thread in rank.threads]
@@ -255,16 +259,16 @@ class MpiParser(Parser):
         if rank.fault or not rank.frames:
             return garbled(rank.name(), rank.fault or "no stack could be read", site=more["site"])
         step = next((step for step, one in enumerate(rank.own) if one["function"] in self.polls), None)
-        if step is not None and not rank.suffix and (not rank.operation() or POLLS.search(rank.operation())):
+        if step is not None and not rank.suffix and (not rank.operation or POLLS.search(rank.operation)):
             rank, more = rank.between(step, self.polls[rank.own[step]["function"]])
         made = without_call(rank, more) if not more["operation"] else in_call(rank, snapshot, more)
         made.because += [] if rank.suffix else [premise(ONE_THREAD)]
-        inside = next((thread for thread in subject.threads if thread.operation()), None)
+        inside = next((thread for thread in subject.threads if thread.operation), None)
         if made.sign is Sign.SLEEPS and inside is not None:
-            made.become_unknown(f"it sleeps, while another thread of it is in {inside.operation()}")
+            made.become_unknown(f"it sleeps, while another thread of it is in {inside.operation}")
         threads = [thread.name() for thread in subject.threads]
         beside = (wakers("same-process", threads, premise(ONE_THREAD)),) if threads else ()
-        made.parts = [(*part, *beside) for part in made.parts]
+        made.parts = [(*part, *beside) for part in made.parts] if beside else made.parts
         return made
 
 
@@ -306,7 +310,7 @@ def partner_of(rank: Rank, snapshot: Ranks, operation: str) -> Tuple[List[Wakers
 def likely_partner(rank: Rank, snapshot: Ranks) -> List[Wakers]:
     """Returns the rank that an argument of the job's own function is likely to mean, by its name, if it is one
     alone."""
-    values = dict(value.split("=", 1) for value in rank.values() if "=" in value)
+    values = dict(value.split("=", 1) for value in rank.values if "=" in value)
     numbers = {value for key, value in values.items() if LIKELY.fullmatch(key) and NUMBER.fullmatch(value)}
     others = [snapshot.ranks[number].name() for number in map(int, numbers)
               if number in snapshot.ranks and number != rank.number]
@@ -415,7 +419,8 @@ def stacks_of(text: str) -> Tuple[List[Tuple[str, List[Match[str]]]], str]:
     stacks: List[Tuple[str, List[Match[str]]]] = []
     fault = ""
     for number, thread in in_order:
-        one = ENTRY.sub(r"\1=", re.sub(r"\n {4,}(?=\S)", " ", thread))
+        one = re.sub(r"\n {4,}(?=\S)", " ", thread) if "\n    " in thread else thread
+        one = ENTRY.sub(r"\1=", one) if "@entry=" in one else one
         frames = list(FRAME.finditer(one))
         if [int(step["at"]) for step in frames] != list(range(len(STEP.findall(one)))):
             fault = "its frames don't run from #0 up, each understood: some are missing, or of another rank"

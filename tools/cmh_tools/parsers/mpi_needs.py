@@ -2,6 +2,7 @@
 has the lock of a window."""
 from __future__ import annotations
 
+import functools
 import re
 from dataclasses import dataclass, field
 from typing import Any, Dict, Iterable, List, NamedTuple, Tuple
@@ -40,6 +41,8 @@ def need_of(thread: Thread, job: Job, row: Row) -> Need:
     if kind == OTHER and not name_of(row).startswith(("File_", *NEIGHBORS)) or not 0 <= row["comm"] < len(comms):
         return open_to(f"the record doesn't say whom {thread.operation()} waits for")
     comm = comms[row["comm"]]
+    if not is_of(row, comm):
+        return open_to("its communicator has no such call of its number")
     if comm["id"] in job.odd:
         return open_to("the records of its communicator differ in who belongs to it")
     if kind in (RECEIVE, SEND, POLL):
@@ -50,6 +53,14 @@ def need_of(thread: Thread, job: Job, row: Row) -> Need:
                  for name in rank.names()]
         return open_to("the record doesn't tell its communicator from others of these ranks", wakers("reaches", names))
     return need_of_window(thread, job, comm, row) if kind == LOCK else need_of_meeting(thread, job, comm, row)
+
+
+def is_of(row: Row, comm: Row) -> bool:
+    """Whether a collective call may be one of a communicator: as the last of that, it has its name and its root."""
+    if not ALL <= row["kind"] <= OTHER or row["number"] < max(comm["number"], 1):
+        return True
+    return (comm["number"], comm["name"], comm["root"]) == (
+        row["number"], row.get("name", comm["name"]), row["partner"])
 
 
 # Messages
@@ -120,9 +131,15 @@ class Late:
     def because(self) -> Tuple[str, ...]:
         return (SYSTEM, premise(MEET)) if self.differs else (SYSTEM,)
 
+    @functools.cached_property
+    def all(self) -> List[Part]:
+        """The parts of a wait for all late ones, which those who have come share."""
+        return [self.parts[number] for number in self.ranks]
+
     def all_of(self, ranks: Iterable[int], beside: Part = ()) -> List[Part]:
         """Returns the parts of a wait for all of some late ones, any of whose threads may come."""
-        return [(*self.parts[number], *beside) for number in ranks]
+        return self.all if ranks is self.ranks and not beside else [
+            (*self.parts[number], *beside) for number in ranks]
 
 
 def late_of(job: Job, comm: Row, row: Row, name: str) -> Late:

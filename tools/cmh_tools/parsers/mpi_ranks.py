@@ -249,6 +249,8 @@ def fault_of(row: Row) -> str:
     """Returns why the record of a rank isn't all of its calls, or nothing."""
     if "threads" not in row:
         return ""
+    if row["pid"] not in [thread["tid"] for thread in row["threads"]]:
+        return "its first thread isn't among its threads"
     if row["fortran"] is not False:
         return ("the Fortran part of MPI is loaded, whose calls leave no record" if row["fortran"] else
                 "it can't be seen whether the Fortran part of MPI is loaded, whose calls leave no record")

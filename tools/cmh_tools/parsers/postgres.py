@@ -19,8 +19,8 @@ from . import State
 from .base import Parser, Snapshot, one_line
 from .pgbouncer import end_of, seconds_for
 from .pgbouncer import Row as Client
-from .postgres_text import Look, Row, looks_of, seconds_of
-from .sessions import SLACK, Limits, client_words, connections_of, end_of_socket, with_limits, words_for
+from .postgres_text import LINES, Look, seconds_of
+from .sessions import SLACK, Limits, Row, client_words, connections_of, end_of_socket, with_limits, words_for
 
 DETECTOR = "deadlock detector"
 LIMITS, DISK = "session-limits", "disk"  # assumptions
@@ -29,6 +29,8 @@ IDLE, IN_TRANSACTION, ACTIVE = "idle", ("idle in transaction", "idle in transact
     ("active", "fastpath function call")
 HIDDEN = "this role may not see what it does: grant pg_monitor to it"
 LACKS = "the console of pgbouncer shows no {}, so nobody is seen through it"
+OTHER_BASES = "backends of other databases are left out, {} in all: dbname=postgres shows those of all"
+OF_ALL = {"postgres", "template1"}  # databases of which one asks for those of all
 # Wait events of type IPC at which a leader waits for its workers, and a worker for its leader.
 FOR_WORKERS = ("ExecuteGather", "MessageQueueReceive", "ParallelFinish", "HashBuildHashInner", "BgWorkerShutdown",
                "ParallelCreateIndexScan", "ParallelBitmapScan")
@@ -47,8 +49,9 @@ class Server(Snapshot):
     look: Look
     names: Dict[int, str]
     rows_by_pid: Dict[int, Row]
-    wanted: Set[int]
+    wanted: Dict[int, str]  # what others want of each backend: which lock, or nothing where it is a session of a pool
     pooled: Set[int]
+    apart: Set[int]  # those of other databases that have nothing to do with this one
 
 
 class PostgresParser(Parser):
@@ -63,7 +66,7 @@ class PostgresParser(Parser):
 
     def read(self, state: State) -> List[Reading]:
         return [Reading(look.path, "server", [look], machine=look.machine, time=look.taken)
-                for look in looks_of(state.text, state.path)]
+                for look in LINES.looks(state.text, state.path, Look)]
 
     def begin(self, readings: List[Reading]) -> None:
         """Sees how long each wait has lasted in the last look that shows it."""
@@ -82,16 +85,19 @@ class PostgresParser(Parser):
         snapshot.look = snapshot.readings[0].rows[0]
         snapshot.rows_by_pid = {row["backend"]: row for row in snapshot.look.of("backend")}
         snapshot.names = {pid: name_of(row) for pid, row in snapshot.rows_by_pid.items()}
-        snapshot.wanted = {pid for row in snapshot.look.of("backend") if "odd" not in row
-                           for pid in row["blocked_by"] or ()}
-        pooler = snapshot.look.pooler
+        pooler, locks = snapshot.look.pooler, snapshot.look.waited_for
         snapshot.pooled = set() if pooler is None else {
             pid for row in pooler.waiting() for pid in pooler.sessions_for(row)[0]}
-        snapshot.wanted |= snapshot.pooled
+        snapshot.wanted = dict.fromkeys(snapshot.pooled, "")
+        for row in snapshot.look.of("backend"):
+            lock = locks.get(row["backend"])
+            what = told(lock, row["backend"], snapshot.look) if lock is not None else "a lock that others want"
+            snapshot.wanted.update(dict.fromkeys((row["blocked_by"] or ()) if "odd" not in row else (), what))
+        snapshot.apart = apart_in(snapshot.look)
 
     def processes(self, snapshot: Server) -> Iterable[Tuple[str, Row]]:
-        return [*(("backend", row) for row in snapshot.look.of("backend")
-                  if row["backend"] in snapshot.wanted or not is_of_server(row)),
+        return [*(("backend", row) for row in snapshot.look.of("backend") if row["backend"] not in snapshot.apart
+                  and (row["backend"] in snapshot.wanted or not is_of_server(row))),
                 *(("prepared", row) for row in snapshot.look.of("prepared")),
                 *(("client", row) for row in waiting_in(snapshot.look))]
 
@@ -227,8 +233,11 @@ class PostgresParser(Parser):
         if state == IDLE and row["backend"] in snapshot.pooled:
             return self.at_client(name, row, {"idle_session_timeout": row["state_change"]}, snapshot, more)
         if state == IDLE:  # (a notice of another session may come to its client)
+            has = snapshot.wanted.get(row["backend"])
+            why = f"is idle{since(row['state_change'], look)}, and has {has}; {client_words(end_of_client(row))}" \
+                if has else "has nothing to do"
             parts = any_of(unseen("client"), unseen("to-come"))
-            return rests(name, "has nothing to do", parts, [SYSTEM], **{**more, "operation": state})
+            return rests(name, why, parts, [SYSTEM], **{**more, "operation": state})
         if state in (*ACTIVE, None) and kind is None:
             return goes_on(name, "computes", [SYSTEM], **more)
         if state in ACTIVE and kind == "Client":
@@ -246,7 +255,9 @@ class PostgresParser(Parser):
             parts = any_of(unseen("client"), unseen("to-come"))
             return rests(name, "has an open transaction", parts, [SYSTEM], **more)
         parts = with_limits(any_of(unseen("client")), self.timeouts(row, snapshot.look, starts))
-        why = f"{row['state']}{since(row['state_change'], snapshot.look)}; {client_words(end_of_client(row))}"
+        has = snapshot.wanted[row["backend"]]
+        why = f"{row['state']}{since(row['state_change'], snapshot.look)}{f', has {has}' if has else ''}; " \
+            f"{client_words(end_of_client(row))}"
         return blocked(name, parts, [SYSTEM, premise(LIMITS)], reason=why, **more)
 
     # Clients of pgbouncer
@@ -257,7 +268,7 @@ class PostgresParser(Parser):
         look, name, lasted = snapshot.look, name_of_client(client), seconds_for(client)
         assert look.pooler is not None and look.taken is not None
         limits = look.pooler.limits_of(client, name, self.limits, self.last - look.time)
-        parts = with_limits([look.pooler.part_of(client, snapshot.names)], limits)
+        parts = any_of(*look.pooler.part_of(client, snapshot.names), *limits)  # (none of which its client may set)
         stamp, (begin, end), first = f"{client['ptr']} since {client['request_time']}", look.taken, self.first
         is_same, is_another = look.taken == first or end - lasted < first[0], begin - lasted > first[1]
         return blocked(name, parts, [SYSTEM, premise(LIMITS)], operation="pool", count=stamp if is_same else None,
@@ -276,9 +287,31 @@ class PostgresParser(Parser):
             sketch.connections.update(connections_of({
                 name_of_client(row): [end_of(row)] for row in waiting_in(snapshot.look) if end_of(row)}))
             sketch.warnings += [LACKS.format(", ".join(snapshot.look.lacks))] if snapshot.look.lacks else []
+            sketch.warnings += [OTHER_BASES.format(len(snapshot.apart))] if snapshot.apart else []
         hidden = sum(process.reason == HIDDEN for process in sketch.processes)
         if hidden:
             sketch.warnings.append(f"{HIDDEN}, for {hidden} of them")
+
+
+def apart_in(look: Look) -> Set[int]:
+    """Returns the backends of other databases that neither block one of the database that was asked, directly or not,
+    nor are blocked by one, and aren't of a client that it has too. Of a database for all there are none."""
+    rows = [row for row in look.of("backend") if "odd" not in row]
+    mine = [row for row in rows if row["datid"] == look.head["database"]]
+    clients = {client_of(row) for row in mine}
+    near = {row["backend"] for row in rows if row["datname"] is None or client_of(row) in clients}
+    ties = [{row["backend"], *(row["blocked_by"] or ())} for row in rows if row["blocked_by"]]
+    while True:
+        new = set().union(*(tie for tie in ties if not near.isdisjoint(tie))) - near
+        if not new:
+            break
+        near |= new
+    is_of_all = not mine or mine[0]["datname"] in OF_ALL
+    return set() if is_of_all else {row["backend"] for row in rows} - near
+
+
+def client_of(row: Row) -> Tuple[Any, ...]:
+    return row["application_name"], row["usename"], row["client_addr"]
 
 
 def is_of_server(row: Row) -> bool:

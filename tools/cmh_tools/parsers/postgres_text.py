@@ -7,15 +7,13 @@ from collections import Counter
 from dataclasses import dataclass, field
 from datetime import datetime
 from functools import cached_property
-from typing import Any, Dict, Iterable, List, Optional, Tuple
+from typing import Dict, List, Optional, Tuple
 
 from ..files import Refusal, shown
 from .pgbouncer import LIMITS as OF_POOLER
 from .pgbouncer import MARK, Pooler, pooler_of
-from .sessions import Lines
+from .sessions import Lines, Row, ServerLook
 
-Row = Dict[str, Any]
-EXPECTED = "lines of take-postgres are expected"
 NONE = type(None)
 TIME = re.compile(r"(\d{4}-\d\d-\d\dT\d\d:\d\d:\d\d)(\.\d{1,6})?([+-]\d\d:\d\d)")
 NUMBER = re.compile(r"\d{1,12}")
@@ -40,6 +38,7 @@ SHAPES: Dict[str, Row] = {
     "end": {"end": int}, "taken": {"taken": [float, float], "machine": str}}
 # What tells the rows of a kind from each other, and how many of the kind a look has.
 KEYS = {"backend": ("backend",), "prepared": ("gid",), "setting": ("setting",), "set": ("set", "role", "database")}
+LINES = Lines("cmh-postgres ", "lines of take-postgres are expected", SHAPES, "backend", "taken")
 
 
 def seconds_of(text: str, where: str = "") -> float:
@@ -50,16 +49,12 @@ def seconds_of(text: str, where: str = "") -> float:
         return datetime.fromisoformat(match[1] + match[3]).timestamp() + float(match[2] or 0)
     except (AssertionError, ValueError, OverflowError) as error:
         raise Refusal(f"{where}: {shown(text)} is no time") from error
-LINES = Lines("cmh-postgres ", EXPECTED, SHAPES, "backend")
 
 
 @dataclass(eq=False)
-class Look:
-    """One look at a server: its rows by their kinds, where its text was read, and when it was taken, and where if the
-    processes of the server are of that machine."""
+class Look(ServerLook):
+    """One look, with when it was taken, and where if the processes of the server are of that machine."""
 
-    path: str
-    rows: Dict[str, List[Row]] = field(default_factory=dict)
     machine: str = ""
     taken: Optional[Tuple[float, float]] = None
     console: List[str] = field(default_factory=list)  # lines of pgbouncer's, if it was asked
@@ -70,12 +65,27 @@ class Look:
     def time(self) -> float:
         return seconds_of(self.rows["look"][0]["look"])
 
-    @property
-    def head(self) -> Row:
-        return self.rows["look"][0]
+    def takes(self, line: str) -> bool:
+        is_of_pooler = line.startswith(MARK)
+        self.console += [line] if is_of_pooler else []
+        return is_of_pooler
 
-    def of(self, kind: str) -> List[Row]:
-        return self.rows.get(kind, [])
+    def add(self, kind: str, row: Row, where: str) -> None:
+        for value in row.values():
+            if isinstance(value, str) and TIME.fullmatch(value):
+                seconds_of(value, where)
+        super().add(kind, row, where)
+
+    def check(self) -> None:
+        ends, taken = self.of("end"), self.of("taken")
+        number = sum(map(len, self.rows.values())) - len(ends) - len(taken)
+        self.check_count(len(ends) == 1 and ends[0]["end"] == number)
+        self.check_once(KEYS)
+        if self.console and taken:  # (without its time a look is cut off there)
+            self.pooler, self.lacks = pooler_of(self.console, shown(self.path))
+            self.pooler.find_clients(self.of("backend"))
+        if taken:
+            self.taken, self.machine = (taken[0]["taken"][0], taken[0]["taken"][1]), taken[0]["machine"]
 
     @cached_property
     def waited_for(self) -> Dict[int, Row]:
@@ -115,50 +125,3 @@ def milliseconds(text: str) -> Optional[float]:
     """Returns a limit in seconds, as a setting has it: in milliseconds where it has no unit."""
     match = re.fullmatch(r"\s*(\d{1,12})\s*(us|ms|s|min|h|d|)\s*", text)
     return int(match[1]) * UNITS[match[2]] if match else None
-
-
-def looks_of(text: str, path: str) -> List[Look]:
-    """Returns the looks of a state. Raises Refusal if it is none, or isn't whole."""
-    looks: List[Look] = []
-    lines: Iterable[Tuple[int, str]] = enumerate(text.replace("\r\n", "\n").split("\n"), 1)
-    for number, line in ((number, line) for number, line in lines if line.strip()):
-        if looks and line.startswith(MARK):
-            looks[-1].console.append(line)
-            continue
-        kind, row = row_of(line, f"{shown(path)}:{number}")
-        if kind == "look":
-            looks.append(Look(path))
-        if not looks or kind != "look" and "taken" in looks[-1].rows:
-            raise Refusal(f"{shown(path)}:{number}: {EXPECTED}, and a look begins with its time")
-        looks[-1].rows.setdefault(kind, []).append(row)
-    if not looks:
-        raise Refusal(f"{shown(path)}:1: {EXPECTED}")
-    for look in looks:
-        check(look)
-    return looks
-
-
-def row_of(line: str, where: str) -> Tuple[str, Row]:
-    """Returns the kind of a line and its row. What isn't as it should be in the row of a backend is kept, as 'odd'."""
-    kind, row = LINES.row(line, where)
-    for value in row.values():
-        if isinstance(value, str) and TIME.fullmatch(value):
-            seconds_of(value, where)
-    return kind, row
-
-
-def check(look: Look) -> None:
-    """Raises Refusal if a look isn't whole, or has a row twice."""
-    ends, taken = look.of("end"), look.of("taken")
-    number = sum(map(len, look.rows.values())) - len(ends) - len(taken)
-    if len(ends) != 1 or ends[0]["end"] != number:
-        raise Refusal(f"{shown(look.path)}: a look isn't whole: its count of rows doesn't fit")
-    for kind, keys in KEYS.items():
-        names = [tuple(row[key] for key in keys) for row in look.of(kind)]
-        if len(set(names)) != len(names):
-            raise Refusal(f"{shown(look.path)}: a row of {kind} stands twice in a look")
-    if look.console and taken:  # (without its time a look is cut off there)
-        look.pooler, look.lacks = pooler_of(look.console, shown(look.path))
-        look.pooler.find_clients(look.of("backend"))
-    if taken:
-        look.taken, look.machine = (taken[0]["taken"][0], taken[0]["taken"][1]), taken[0]["machine"]

@@ -16,6 +16,7 @@ import re
 from dataclasses import dataclass
 from typing import Any, Dict, Iterator, List, Optional
 
+from ..files import Refusal
 from ..model import Part, Sign, unseen
 from ..sketch import Process, Sketch
 from ..snapshots import APART, GROWN, ONCE, PARTS, WHOLE, Reading
@@ -24,7 +25,7 @@ from .base import Parser, Snapshot, without_sleep
 from .python_connections import connections_of
 from .python_frames import is_of_frames, looks_of_frames
 from .python_job import Job, machine_of
-from .python_names import NEED_ALL, Names, Standing, lasting_objects, main_task, operation_of, own_frames
+from .python_names import NEED_ALL, Names, Standing, lasting_objects, main_task, operation_of, own_frames, public_name
 from .python_tasks import Waits
 from .python_text import Frame, Look, Row, is_number, looks_of
 from .python_waits import Wait, is_job, unsure
@@ -120,9 +121,14 @@ class PythonParser(Parser):
         looks = [reading.rows[0] for reading in readings]
         self.names = Names(looks)
         places = {look.place() for look in looks}
+        hosts = {(look.machine(), look.place()[0]) for look in looks if look.machine()}
+        if len({machine for machine, _ in hosts}) < len(hosts):
+            raise Refusal(f"{readings[0].path}: its states have two names of one machine")
         self.is_alone = len(places) == 1
         for look in looks:
             self.looks.setdefault(look.place(), []).append(look)
+        for own in self.looks.values():
+            mark_woken(own)
         for reading, look in zip(readings, looks):
             reading.site = self.names.processes[look.place()]
             lost = [child for child in look.children if look.place(child) not in places]
@@ -202,6 +208,14 @@ class PythonParser(Parser):
         sketch.warnings += dict.fromkeys(line for look in looks for line in look.warnings)
 
 
+def mark_woken(looks: List[Look]) -> None:
+    """Marks in all looks at a process the threads that have woken up within one of them: who looks again and again is
+    asleep all through another one, and at the same place."""
+    woken = {key for look in looks for key, row in look.threads.items() if row.more.get("new_stops")}
+    for row in (look.threads[key] for look in looks for key in woken & look.threads.keys()):
+        row.more["woke"] = True
+
+
 def stops_of(thread: Optional[Row]) -> Optional[int]:
     """How often a thread has stopped to wait, or None if that isn't known."""
     stops = thread.more.get("stops") if thread is not None else None
@@ -253,9 +267,23 @@ def process_at(subject: Subject, frames: List[Frame], wait: Wait, standing: Opti
     sign = sign_of(subject, wait, operation, own, is_job(frames))
     if wait.sign is Sign.SLEEPS:
         operation, objects = f"timed {operation or 'wait'}", lasting_objects(standing) if standing else []
-    note = f"{operation} in {own[0]}" if operation and own else own[0] if own else operation
+    called = package_call(frames) or (f"{operation} {awaited_by(standing)}".rstrip() if standing else operation)
+    note = f"{called} in {own[0]}" if called and own else own[0] if own else called
     return Process(subject.name, sign, wait.parts, wait.reason, list(wait.because), subject.job.site, note, own,
                    operation, objects, wait.count, subject.kernel_thread(), is_collective=operation in NEED_ALL)
+
+
+def awaited_by(standing: Standing) -> str:
+    """Returns the class of what a task awaits by no call of the library, or nothing."""
+    awaited = standing.row.more.get("waits")
+    is_bare = isinstance(awaited, dict) and not standing.standard and not standing.call.get("words")
+    return str(awaited.get("type", "")).rpartition(".")[2] if isinstance(awaited, dict) and is_bare else ""
+
+
+def package_call(frames: List[Frame]) -> str:
+    """Returns the function of a package that the job's own code has called, such as that of a pool, or nothing."""
+    outer = next((outer for outer, own in zip(frames, frames[1:]) if own.kind == "own"), None)
+    return public_name(outer) if outer is not None and outer.kind == "package" and frames[0].kind != "own" else ""
 
 
 def sign_of(subject: Subject, wait: Wait, operation: str, own: List[str], has_job: bool) -> Sign:
@@ -266,9 +294,15 @@ def sign_of(subject: Subject, wait: Wait, operation: str, own: List[str], has_jo
         return Sign.TICKS if is_idle else Sign.SLEEPS
     if wait.sign is not Sign.BLOCKED:
         return wait.sign
-    awaits_next = RECEIVES.fullmatch(operation) and is_in_own_loop(subject, own)
+    awaits_next = (RECEIVES.fullmatch(operation) or awaits_data(subject)) and is_in_own_loop(subject, own)
     awaits_end = operation == FOR_THE_END and subject.is_main() and is_in_start(own)
     return Sign.RESTS if accepts or awaits_next or awaits_end else Sign.BLOCKED
+
+
+def awaits_data(subject: Subject) -> bool:
+    """Whether a task awaits a future that a connection has."""
+    awaited = subject.row.more.get("waits")
+    return isinstance(awaited, dict) and awaited.get("id") in subject.job.look.arriving
 
 
 def is_in_own_loop(subject: Subject, own: List[str]) -> bool:

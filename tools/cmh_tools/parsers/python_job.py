@@ -55,6 +55,7 @@ class Job:
                                          *(key for key, caller in look.callers.items() if caller.cancelling)])
         self.releasing = self.names_of(row.key for row in look.rows() if row.more.get("releases") is not False)
         self.acting = acting_in(look, names)
+        self.idle_timers = self.names_of(key for key, caller in look.callers.items() if not caller.is_waking)
         self.handlers = self.names_of(key for key, coming in self.coming.items() if not coming.is_end)
         self.unshown = why_unshown(look)
         self.process_enders = tuple(self.enders())
@@ -89,8 +90,9 @@ class Job:
         """Those who may end a wait at an object of the runtime, for the one of this name: all else of its process."""
         names = [other for other in self.acting if other != name] if len(self.acting) <= FEW else self.acting
         handlers = (wakers("handles", self.handlers),) if self.handlers else ()
+        timers = (wakers("repeats", self.idle_timers),) if self.idle_timers else ()
         lost = (unseen("unshown", self.unshown),) if self.unshown else ()
-        return (wakers("same-process", names, premise(INSIDE)), *handlers, *lost)
+        return (wakers("same-process", names, premise(INSIDE)), *timers, *handlers, *lost)
 
     def cancellers(self, key: Any, is_work: bool = True) -> Part:
         """Those who may end a task, a future or a child: who has it in a variable, and whose code may cancel any. Of
@@ -128,7 +130,8 @@ class Job:
 
 def acting_in(look: Look, names: Names) -> List[str]:
     """The names of all of a process who may do something there."""
-    keys = [*(row.key for row in look.rows() if not is_idle(row)), *look.asked, *look.callers]
+    callers = [key for key, caller in look.callers.items() if caller.is_waking]
+    keys = [*(row.key for row in look.rows() if not is_idle(row)), *look.asked, *callers]
     return [name for name in (names.of(look, key) for key in keys) if name is not None]
 
 

@@ -13,6 +13,7 @@ if TYPE_CHECKING:
     from .python_job import Job
 
 NEED_ALL = ("Barrier.wait",)  # operations that need all of several
+PACKAGE_AWAITS = "await of a package"  # of a task that no code of the program's own began, as a server's for a client
 UNNAMED = re.compile(r"Task-\d+$")
 
 
@@ -173,7 +174,8 @@ def operation_of(standing: Standing) -> Tuple[str, List[str]]:
         objects = [str(own[key]) for key in ("id", "pid") if isinstance(own, dict) and own.get(key)] + objects
         return public_name(run[-1]), [each for each in dict.fromkeys(objects) if each]
     if not call.get("words"):
-        return "await" if awaited else "", objects
+        is_own = any(line.kind == "own" for line in standing.frames)
+        return ("await" if is_own else PACKAGE_AWAITS) if awaited else "", objects
     if not on or on.get("type") == "module":
         return call["words"].replace("?.", ""), objects
     kind = {"lock": "Lock"}.get(on["type"], on["type"])

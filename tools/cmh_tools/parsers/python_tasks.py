@@ -188,7 +188,7 @@ def task_wait(row: Row, standing: Standing) -> Wait:
         wait = by_library(row, standing, line)
         if wait is not None:
             return wait
-    if is_outside(standing):
+    if is_outside(standing) or awaited.get("id") in standing.look.arriving:
         return outside_wait(standing)
     return blocked(any_of(*standing.job.same_process(standing.name), *standing.job.cancellers(awaited.get("id"))))
 

@@ -10,7 +10,7 @@ import os
 import re
 from dataclasses import dataclass, field
 from functools import lru_cache
-from typing import Any, Dict, List, NamedTuple, Optional, Set, Tuple
+from typing import Any, Dict, List, NamedTuple, Optional, Sequence, Set, Tuple
 
 from ..files import Refusal, shown
 from . import State
@@ -27,17 +27,17 @@ HEAD = {"version": int, "process": str, "pid": int, "seconds": (int, float), "un
 FRAME = ({"in": str, "file": str, "line": NUMBER, "has?": {str: object}}, ERROR)
 # What the rows of threads and tasks have alike: `holds`, `ends`, `cancels` and `releases` may be missing in older ones.
 PLACE = {"of": int, "name": str, "moved": bool, "frames": [FRAME], "holds?": (type(None), [str], ERROR),
-         "ends?": ([str], ERROR), "cancels?": (bool, ERROR), "releases?": bool, "taken?": [str], "again?": bool,
-         "error?": str, "at?": object, "inside?": object}  # (the last two: of old states)
+         "ends?": ([str], ERROR), "cancels?": (bool, ERROR), "releases?": bool, "taken?": [str], "around?": [str],
+         "again?": bool, "error?": str, "at?": object, "inside?": object}  # (the last two: of old states)
 # The form of each row of a state, by the first of these keys that it has.
 ROWS: Dict[str, Dict[str, Any]] = {
     "runs": {"of": int, "runs": str, "thread": NUMBER, "current": TEXT, "callers?": ({str: bool}, ERROR),
-             "callbacks?": [str], "signals?": [str]},
+             "waking?": ([str], ERROR), "arriving?": ([str], ERROR), "callbacks?": [str], "signals?": [str]},
     "thread": {**PLACE, "thread": int, "native": NUMBER, "daemon": bool, "main": bool, "stops": NUMBER, "spent": NUMBER,
                "new_stops?": NUMBER, "asleep?": FLAG, "loop": TEXT, "call": (type(None), {str: object}),
                "connections?": object},
     "task": {**PLACE, "task": str, "number": int, "loop": str, "wait": int, "waits": object, "limit": bool,
-             "sets": [str], "parent?": str, "completes?": object},
+             "sets": [str], "parent?": str, "completes?": object, "connections?": object, "asks?": object},
     "asked": {"of": int, "asked": str, "loop": str, "name": str},
     "child": {"of": int, "child": NUMBER, "name": str, "ended": FLAG},
     "semaphore": {"of": int, "semaphore": TEXT, "count": int},
@@ -88,10 +88,11 @@ class Row:
 @dataclass
 class Caller:
     """What event loops will call for a timer, a socket or a signal, as 'server Desk.answer': the keys of these loops,
-    and of those whose tasks it may cancel."""
+    and of those whose tasks it may cancel, and whether it may end another wait."""
 
     loops: List[Any] = field(default_factory=list)
     cancelling: List[Any] = field(default_factory=list)
+    is_waking: bool = False
 
 
 class Coming(NamedTuple):
@@ -107,8 +108,9 @@ class Coming(NamedTuple):
 class Look:
     """A state of one OS process. `seconds` is the time between the two looks that cmh_state takes, `head` its first
     row, `children` the OS processes that it has begun and not seen end. `semaphores` has the locks of multiprocessing
-    that it has taken, and `queues` the queues of it that it has. `pools` and `holders` keep what is looked up in it
-    again and again: who does the work of each future, and who has each task or child in a variable."""
+    that it has taken, and `queues` the queues of it that it has. `arriving` has the futures that what comes by a
+    connection ends. `pools` and `holders` keep what is looked up in it again and again: who does the work of each
+    future, and who has each task or child in a variable."""
 
     where: str
     process: str
@@ -121,6 +123,7 @@ class Look:
     loops: Dict[Any, Dict[str, Any]] = field(default_factory=dict)
     asked: Dict[Any, Dict[str, Any]] = field(default_factory=dict)
     callers: Dict[str, Caller] = field(default_factory=dict)
+    arriving: Set[str] = field(default_factory=set)
     semaphores: Set[str] = field(default_factory=set)
     queues: Set[str] = field(default_factory=set)
     is_whole: bool = True
@@ -239,7 +242,8 @@ def note_missing(open_looks: Dict[Any, Look], path: str, at: int) -> None:
 
 
 def row_of(text: str) -> Optional[Dict[str, Any]]:
-    """The object of a line, or None. One that has a key twice is none."""
+    """The object of a line, or None. One that has a key twice is none, or in which something isn't as it is described.
+    """
     try:
         row = json.loads(text, object_pairs_hook=object_of)
     except (ValueError, RecursionError):
@@ -248,9 +252,12 @@ def row_of(text: str) -> Optional[Dict[str, Any]]:
 
 
 def object_of(pairs: List[Tuple[str, Any]]) -> Dict[str, Any]:
+    """Returns an object of a line. What it describes has its form: a name is a text, and a gather has what is gathered.
+    """
     made = dict(pairs)
-    if len(made) < len(pairs):
-        raise ValueError("a key stands twice")
+    if len(made) < len(pairs) or not isinstance(made.get("id", ""), str) or (
+            made.get("type") == "gather" and not isinstance(made.get("all"), list)):
+        raise ValueError("a key stands twice, or a value isn't as it is described")
     return made
 
 
@@ -297,21 +304,10 @@ def are_alike(look: Look) -> bool:
 def add_row(look: Look, row: Dict[str, Any], path: str, at: int) -> None:
     """Adds a row to its look. One that is of no known form, or stands twice, counts as missing."""
     kind = next((key for key in ROWS if key in row), "")
-    is_known = kind != "" and fits(row, ROWS[kind]) and is_described(row)
+    is_known = kind != "" and fits(row, ROWS[kind])
     if not is_known or kind not in OLDER and not keep_row(look, kind, row):
         look.is_whole = False
         look.warnings.append(f"{shown(path)}:{at}: this line of a state isn't understood, so what it shows is missing")
-
-
-def is_described(value: Any) -> bool:
-    """Whether all that a row describes has its form: a name is a text, and a gather has what is gathered."""
-    if isinstance(value, list):
-        return all(map(is_described, value))
-    if not isinstance(value, dict):
-        return True
-    is_gather = value.get("type") == "gather"
-    return isinstance(value.get("id", ""), str) and isinstance(value.get("all"), list) >= is_gather \
-        and all(map(is_described, value.values()))
 
 
 def keep_row(look: Look, kind: str, row: Dict[str, Any]) -> bool:
@@ -339,6 +335,14 @@ def add_callers(look: Look, loop: Dict[str, Any]) -> None:
         caller = look.callers.setdefault(name, Caller())
         caller.loops.append(loop["runs"])
         caller.cancelling += [loop["runs"]] if is_cancelling else []
+        caller.is_waking |= not name.startswith("timer ") or name in row_of_names(loop, "waking", [name])
+    look.arriving.update(row_of_names(loop, "arriving"))
+
+
+def row_of_names(loop: Dict[str, Any], key: str, older: Sequence[str] = ()) -> Sequence[str]:
+    """Returns what the row of a loop has by a key, or as much as an older one stands for."""
+    names = loop.get(key)
+    return names if isinstance(names, list) else older
 
 
 def callers_of(loop: Dict[str, Any]) -> Optional[Dict[str, bool]]:

@@ -25,7 +25,8 @@ PRIVATE_TYPES = ("lock", "RLock", "SimpleQueue")
 OUTSIDE = re.compile(r"(socket|ssl|selectors|select|subprocess|asyncio\.(streams|\w+_events|sslproto|subprocess)|http"
                      r"|multiprocessing\.connection|urllib|socketserver|xmlrpc)\.")
 OUTSIDE_MODULES = ("posix", "select", "_io", "_socket", "_ssl", "_multiprocessing")
-OUTSIDE_TYPES = ("socket", "SSLSocket", "Connection", "TextIOWrapper", "BufferedReader", "FileIO")
+POLLS = ("epoll", "poll")  # classes of the module `select`
+OUTSIDE_TYPES = ("socket", "SSLSocket", "Connection", "TextIOWrapper", "BufferedReader", "FileIO", *POLLS)
 WORKERS = re.compile(r"concurrent\.futures\.(thread\._worker|process\.(_process_worker|_ExecutorManagerThread\.run"
                      r"|_queue_management_worker))$"
                      r"|multiprocessing\.pool\.(worker|(\w+\.)?_handle_(tasks|results|workers))$"
@@ -99,8 +100,9 @@ def by_sleep(standing: Standing) -> Optional[Wait]:
 
 def by_step(standing: Standing) -> Optional[Wait]:
     """One that has moved runs. In a function of the module `select` it may only look again and again, with a limit."""
-    more = standing.row.more
-    if standing.call.get("module") == "select" and more.get("asleep") is True and more.get("new_stops"):
+    more, on = standing.row.more, standing.call.get("on")
+    is_polling = standing.call.get("module") == "select" or isinstance(on, dict) and on.get("type") in POLLS
+    if is_polling and more.get("asleep") is True and (more.get("new_stops") or more.get("woke")):
         return limited("it looks again and again")
     return goes("it moved between two looks") if more.get("moved") is True else None
 
@@ -178,16 +180,20 @@ def by_dead_owner(standing: Standing, lock: Dict[str, Any]) -> Wait:
 
 def by_block(standing: Standing, lock: Dict[str, Any], most: int = 1) -> Optional[Wait]:
     """The wait for a lock that doesn't show its owner: for the one whose code has taken it for a block, or for the most
-    that may have it so. Code that names `release` may give it back too. None if they are fewer, or more."""
+    that may have it so. Code that names `release` may give it back too, and where an inner block may have done so, all
+    of the process may have it. None if they are fewer, or more."""
     if lock.get("locked") is False:
         return unsure("its lock is free, so it is about to go on")
     look, job = standing.look, standing.job
-    keys = [row.key for row in look.rows() if lock.get("id") in row.more.get("taken", ())]
+    known = {key: [row.key for row in look.rows() if lock.get("id") in row.more.get(key, ())]
+             for key in ("taken", "around")}
+    keys = known["taken"] or known["around"]
     if len(keys) != most:
         return None
     names = [name for key in keys for name in (job.owners(key) if key in look.threads else job.names_of([key]))]
     wait = blocked(any_of(wakers("owns", list(dict.fromkeys(names)), premise(BLOCK))), premise(BLOCK))
-    return wait.beside(wakers("releases", job.releasing)) if job.releasing else wait
+    able = () if known["taken"] else job.same_process(standing.name)
+    return wait.beside(*able, *([wakers("releases", job.releasing)] if job.releasing else []))
 
 
 # Joins
@@ -351,6 +357,8 @@ def idle_wait(standing: Standing) -> Optional[Wait]:
     processes of a pool; else None."""
     if not has_no_work(standing.frames):
         return None
+    if is_job(standing.frames):  # (whose work comes from another process)
+        return resting(WORK, any_of(unseen("outside")))
     idle = resting(WORK, any_of(*standing.job.same_process(standing.name)))
     return keeper_wait(standing, idle) if any(KEEPERS.match(line.at) for line in standing.frames) else idle
 

@@ -13,7 +13,7 @@ from typing import Any, Dict, List
 
 from ..files import Refusal, shown
 from ..model import ANYBODY, Sign, Strength, Wakers, any_of, of_list, wakers
-from ..sketch import Process, Sketch, garbled, goes_on, lists_of_wakers, premise, rests, unknown
+from ..sketch import Process, Sketch, garbled, goes_on, has_how, lists_of_wakers, premise, rests, unknown
 from ..snapshots import APART, Reading
 from . import State
 from .base import Break, Parser, Snapshot
@@ -32,6 +32,14 @@ NO_PUBLISHER = "no service is known to publish to a queue that it consumes"
 def movers_of(service: Service, snapshot: Snapshot) -> str:
     """Returns what shows that a message may come to a queue of a service by itself, or nothing."""
     return next(filter(None, map(service.broker.routes.mover, service.queues)), "")
+
+
+def row_of(process: Process) -> Dict[str, List[str]]:
+    """Returns that a service has a connection, and of one at work who is likely to send what its client waits for."""
+    if not has_how(process, "client"):
+        return {"serves": [process.name]}
+    groups = (group for part in process.parts for group in part if group.how == "guess")
+    return {"serves": [process.name], "gives": [name for group in groups for name in group.names()]}
 
 
 class RabbitmqParser(Parser):
@@ -143,8 +151,9 @@ class RabbitmqParser(Parser):
         """Says what wasn't understood, and takes back that one goes on whose message was ready in all states."""
         rows = snapshots[0].rows()
         sketch.warnings += rows[0].broker.warnings if rows else []
-        sketch.connections = {end: {"serves": [process_name(service.name)]} for service in rows
-                              for end in [service.client_end] if end and not service.is_double}
+        ends = {process_name(service.name): service.client_end for service in rows if not service.is_double}
+        sketch.connections = {end: row_of(process) for process in sketch.processes
+                              for end in [ends.get(process.name)] if end}
         sketch.groups.update({f"key:{key}": list(expressions) for key, expressions in self.keys.items()})
         here = {process.name for process in sketch.processes}
         names = dict.fromkeys(name for who in lists_of_wakers(sketch.processes) for name in who)

@@ -14,6 +14,8 @@ Row = Dict[str, Any]
 LOOKS_ON = re.compile(r"(?i).*(?:heart.?beat|(?<![a-z])beat|metric|monitor|statistic|(?<![a-z])stats|watch|health|alive"
                       r"|gauge|probe|pulse|dashboard|telemetry|uptime).*")
 SLEEPS = ("nanosleep", "clock_nanosleep")
+# Where one of several threads has nothing to do without a limit: for whoever comes, or in the loop of a runtime.
+AT_REST = ("accept", "accept4", "pause", "epoll_wait", "epoll_pwait", "epoll_pwait2")
 ITSELF = "itself"  # at what only its own process ends, as a mutex
 COMPUTES, SLEEPING, AT, ELSEWHERE, OPEN = "computes", "sleeps", "at a connection", "elsewhere", "open"
 
@@ -34,22 +36,29 @@ class Activity(NamedTuple):
 
 def activities(rows: List[Row], ticking: Dict[int, bool]) -> Dict[str, Activity]:
     """Returns what clients do, by their connections. `ticking` has the threads that come back to the same sleep."""
-    return {row["connection"]: activity_of(row["threads"], ticking)._replace(
+    return {row["connection"]: activity_of(row["threads"], ticking, row["connection"])._replace(
         is_deaf=row.get("is_deaf", False), process=row.get("process", 0)) for row in rows}
 
 
-def activity_of(threads: List[Row], ticking: Dict[int, bool]) -> Activity:
+def activity_of(threads: List[Row], ticking: Dict[int, bool], connection: str) -> Activity:
+    """Returns what the threads of a client do. Of those that each wait at a connection, its own one tells most."""
     living = [thread for thread in threads if thread["state"] not in "ZX"]
     if any(thread["state"] in "Tt" for thread in living):  # (somebody holds it)
         return Activity(OPEN)
     if len(living) == 1:
         return single(living[0])._replace(is_sure=True)
-    rest = [single(thread) for thread in living if thread["tid"] not in ticking and thread.get("at") != ITSELF]
+    rest = [single(thread) for thread in living if thread["tid"] not in ticking and thread.get("at") != ITSELF
+            and not is_at_rest(thread)]
     kinds = {activity.kind for activity in rest}
     first = next((kind for kind in (COMPUTES, ELSEWHERE, SLEEPING, OPEN) if kind in kinds), "")
     if first or not rest:
         return Activity(first or OPEN)
-    return rest[0] if len({activity.connection for activity in rest}) == 1 else Activity(OPEN)
+    places = {activity.connection: activity for activity in rest}
+    return places.get(connection, rest[0] if len(places) == 1 else Activity(OPEN))
+
+
+def is_at_rest(thread: Row) -> bool:
+    return thread["state"] == "S" and thread.get("call") in AT_REST and not (thread.get("limit") or thread.get("at"))
 
 
 def single(thread: Row) -> Activity:

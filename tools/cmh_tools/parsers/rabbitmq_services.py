@@ -48,7 +48,8 @@ class Service:
         service, _, site = self.name.partition("@")
         note = f"consumes {', '.join(self.queues)}" if self.queues else "consumes nothing"
         return {"site": site or None, "frames": [service], "operation": "consume" if self.queues else "publish",
-                "objects": sorted(self.queues), "note": note, "count": None if self.is_double else self.count}
+                "objects": sorted(self.queues), "note": note, "count": None if self.is_double else self.count,
+                "thread": f"{self.does.process}/" if self.does.process else ""}
 
     def grown_since(self, earlier: Service) -> Tuple[bool, bool]:
         """Returns whether it has sent something since an earlier state, and whether it has got something."""

@@ -3,14 +3,17 @@ break waits off. What a limit is called stands among the processes, so that an a
 from __future__ import annotations
 
 import json
-from typing import Any, Dict, List, NamedTuple, Optional, Tuple
+from dataclasses import dataclass, field
+from typing import Any, Dict, List, NamedTuple, Optional, Tuple, Type, TypeVar
 
 from ..files import Refusal, shown
-from ..model import Part, Sign
-from ..sketch import LIMIT, Sketch, goes_on, premise
+from ..model import Part, Sign, wakers
+from ..sketch import LIMIT, OF_SERVER, Sketch, goes_on, premise
 from .base import misfits
 
+Row = Dict[str, Any]
 SLACK = 2.0  # seconds by which a wait may outlast its limit, until that is carried out
+OWN_LIMITS = "session-limits"  # stands for limits that sessions have set for themselves
 UNITS = ((86400, "d"), (3600, "h"), (60, "min"), (1, "s"))
 
 
@@ -20,16 +23,75 @@ def words_for(seconds: float) -> str:
     return f"{seconds / size:,.0f} {unit}"
 
 
+@dataclass(eq=False)
+class ServerLook:
+    """One look at a server: its rows by their kinds, and where its text was read."""
+
+    path: str
+    rows: Dict[str, List[Row]] = field(default_factory=dict)
+
+    @property
+    def head(self) -> Row:
+        return self.rows["look"][0]
+
+    def of(self, kind: str) -> List[Row]:
+        return self.rows.get(kind, [])
+
+    def takes(self, line: str) -> bool:
+        """Whether it keeps a line that isn't the server's."""
+        return False
+
+    def add(self, kind: str, row: Row, where: str) -> None:
+        self.rows.setdefault(kind, []).append(row)
+
+    def check(self) -> None:
+        """Raises Refusal if it isn't whole, or has a row twice."""
+
+    def check_count(self, is_whole: bool) -> None:
+        if not is_whole:
+            raise Refusal(f"{shown(self.path)}: a look isn't whole: its count of rows doesn't fit")
+
+    def check_once(self, keys: Dict[str, Tuple[str, ...]]) -> None:
+        """Raises Refusal if two rows of a kind have the same keys."""
+        for kind, words in keys.items():
+            names = [tuple(row[word] for word in words) for row in self.of(kind)]
+            if len(set(names)) != len(names):
+                raise Refusal(f"{shown(self.path)}: a row of {kind} stands twice in a look")
+
+
+AnyLook = TypeVar("AnyLook", bound=ServerLook)
+
+
 class Lines(NamedTuple):
-    """The lines of JSON that a recipe prints: what each begins with, what they are, the shape of each kind of row, and
-    the kind of which a row is kept that isn't as it should be, as 'odd'."""
+    """The lines of JSON that a recipe prints: what each begins with, what they are, the shape of each kind of row, the
+    kind of which a row is kept that isn't as it should be, as 'odd', and the kind of the last row of a look."""
 
     mark: str
     expected: str
-    shapes: Dict[str, Dict[str, Any]]
+    shapes: Dict[str, Row]
     kept: str
+    last: str
 
-    def row(self, line: str, where: str) -> Tuple[str, Dict[str, Any]]:
+    def looks(self, text: str, path: str, look: Type[AnyLook]) -> List[AnyLook]:
+        """Returns the looks of a state. Raises Refusal if it is none, or isn't whole."""
+        looks: List[AnyLook] = []
+        for number, line in enumerate(text.replace("\r\n", "\n").split("\n"), 1):
+            if not line.strip() or looks and looks[-1].takes(line):
+                continue
+            where = f"{shown(path)}:{number}"
+            kind, row = self.row(line, where)
+            if kind == "look":
+                looks.append(look(path))
+            if not looks or kind != "look" and self.last in looks[-1].rows:
+                raise Refusal(f"{where}: {self.expected}, and a look begins with its time")
+            looks[-1].add(kind, row, where)
+        if not looks:
+            raise Refusal(f"{shown(path)}:1: {self.expected}")
+        for one in looks:
+            one.check()
+        return looks
+
+    def row(self, line: str, where: str) -> Tuple[str, Row]:
         """Returns the kind of a line and its row."""
         try:
             row = json.loads(line[len(self.mark):]) if line.startswith(self.mark) else None
@@ -60,11 +122,16 @@ class Limits:
         wanted = {name for process in sketch.processes for part in process.parts for group in part
                   for name in group.names()}
         names = dict.fromkeys(name for name in self.names.values() if name in wanted)
-        sketch.processes += [goes_on(name, "a limit", [premise(LIMIT)], Sign.SLEEPS, frames=[name]) for name in names]
+        sketch.processes += [goes_on(name, OF_SERVER, [premise(LIMIT)], Sign.SLEEPS, frames=[name]) for name in names]
+        if OWN_LIMITS in wanted:
+            sketch.processes.append(goes_on(OWN_LIMITS, OF_SERVER, [premise(OWN_LIMITS)], Sign.SLEEPS,
+                                            frames=[OWN_LIMITS]))
 
 
 def with_limits(parts: List[Part], limits: Part) -> List[Part]:
-    return [(*part, *limits) for part in parts]
+    """Returns the parts of a wait that limits break off too: those in force, and one that the session may have set for
+    itself, as by SET lock_timeout."""
+    return [(*part, *limits, wakers("own-limit", [OWN_LIMITS])) for part in parts]
 
 
 def end_of_socket(address: Optional[str], port: Optional[int]) -> str:
@@ -76,7 +143,7 @@ def end_of_socket(address: Optional[str], port: Optional[int]) -> str:
 
 def client_words(end: str) -> str:
     """Returns in words that a client isn't in the state, which has an end of a connection, and what shows it."""
-    return f"its client{f' at {end}' if end else ''} isn't in the state: take it too, by --with"
+    return f"its client{f' at {end}' if end else ''} wasn't looked at: use --with"
 
 
 def connections_of(processes: Dict[str, List[str]]) -> Dict[str, Dict[str, List[str]]]:

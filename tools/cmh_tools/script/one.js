@@ -60,22 +60,19 @@ function stateParts(row) {
     const lines = state.querySelector("pre").textContent.split("\n");
     const pattern = patternsOf(row).find((some) => lines.some((line) => some.test(line)));
     return (pattern ? placesIn(lines, pattern) : []).flatMap(([at, some]) => {
-      const way = make("button", {type: "button", textContent: state.dataset.name + ", line " + (at + 1)});
-      way.addEventListener("click", () => showLine(state, at));
+      const way = wayTo("", state.dataset.name + ", line " + (at + 1), () => showLine(state, at));
       return [way, codeOf(some.map((line) => partOfLine(line, pattern)))];
     });
   });
 }
 
-function waysOf(row) {
-  const inTable = make("button", {type: "button", id: "torow", textContent: "Its row"});
-  inTable.addEventListener("click", () => { const line = showRow(row, true); line.scrollIntoView({block: "center"}); });
-  const box = data.box[row];
-  if (!boxElement(box)) { return [inTable]; }
-  const inPicture = make("button", {type: "button", id: "tobox", textContent: "Its box"});
-  inPicture.addEventListener("click", () => focusBox(box));
-  return [inTable, inPicture];
+function wayTo(id, words, act) {
+  const way = make("button", {type: "button", id, textContent: words});
+  way.addEventListener("click", act);
+  return way;
 }
+
+function wayToBox(box) { return boxElement(box) ? [wayTo("tobox", "Its box", () => focusBox(box))] : []; }
 
 function fillPanel(title, ways, parts) {
   if (panel.hidden) { cameFrom = document.activeElement; }
@@ -93,7 +90,8 @@ function textOf(numbers) { return numbers.map((it) => data.texts[it]); }
 function showOne(row) {
   const [whom, more] = whomOf(row), by = waitersOf(row), frames = textOf(data.frames[row] || []);
   const site = data.texts[data.site[row]], place = data.texts[data.place[row]];
-  fillPanel(data.names[row], waysOf(row), [
+  const inTable = wayTo("torow", "Its row", () => showRow(row, true).scrollIntoView({block: "center"}));
+  fillPanel(data.names[row], [inTable, ...wayToBox(data.box[row])], [
     ...partOf("Answer", ...answerParts(row)),
     ...(data.change[row] ? partOf("Since then", "It " + data.texts[data.change[row]]) : []),
     ...(site ? partOf("Site", site) : []),
@@ -112,12 +110,9 @@ function showBox(box) {
   query.box = box;
   element("ofbox").textContent = "Of one box: " + data.boxes[box][0] + " ×";
   update();
-  const inTable = make("button", {type: "button", id: "torow", textContent: "Its rows"});
-  inTable.addEventListener("click", () => { goTo(0, true); list.scrollIntoView({block: "center"}); });
-  const inPicture = make("button", {type: "button", id: "tobox", textContent: "Its box"});
-  inPicture.addEventListener("click", () => focusBox(box));
-  fillPanel(data.boxes[box][0], [inTable, inPicture], [...partOf("Where", data.boxes[box].slice(1).join("; ")),
-    ...partOf("Who", ...linksOf(rows, 0, 60, ", "))]);
+  const inTable = wayTo("torow", "Its rows", () => { goTo(0, true); list.scrollIntoView({block: "center"}); });
+  fillPanel(data.boxes[box][0], [inTable, ...wayToBox(box)], [
+    ...partOf("Where", data.boxes[box].slice(1).join("; ")), ...partOf("Who", ...linksOf(rows, 0, 60, ", "))]);
   relateBox(box, true);
 }
 

@@ -5,6 +5,7 @@ const list = element("list"), body = document.querySelector("#table tbody");
 const query = {words: "", answer: "", root: "", site: "", place: "", change: "", box: -1, sort: "", isDown: false};
 const table = {lines: [], open: new Set(), current: 0, height: 28, isTall: false};
 const few = 200, spare = 10;
+const choices = ["answer", "root", "site", "place", "change"];
 
 // Returns a line for each row, or, if alike ones are folded, one for each group, and below it its rows if it is open.
 function linesOf(rows) {
@@ -68,8 +69,6 @@ function draw() {
   if (hadFocus) { (element("line" + table.current) || list).focus({preventScroll: true}); }
 }
 
-function isDrawn(at) { return element("line" + at) !== null; }
-
 // Has a line in sight, and as the current one.
 function goTo(at, takesFocus) {
   table.current = Math.max(0, Math.min(at, table.lines.length - 1));
@@ -111,8 +110,9 @@ function showRow(row, takesFocus) {
 }
 
 function clearQuery() {
-  Object.assign(query, {words: "", answer: "", root: "", site: "", place: "", change: "", box: -1});
-  ["text", "answer", "root", "site", "place", "change"].forEach((id) => { element(id).value = ""; });
+  Object.assign(query, {words: "", box: -1});
+  choices.forEach((id) => { query[id] = ""; });
+  ["text", ...choices].forEach((id) => { element(id).value = ""; });
 }
 
 function sortBy(at) {
@@ -125,10 +125,9 @@ function sortBy(at) {
 function turnFold(at) {
   const key = data.alike[table.lines[at].row], top = list.scrollTop;
   if (!table.open.delete(key)) { table.open.add(key); }
-  const current = at;
   update();
   list.scrollTop = top;
-  goTo(current, true);
+  goTo(at, true);
 }
 
 // Marks the rows in sight that wait for one, and for whom it waits.
@@ -181,16 +180,14 @@ function optionsOf(select, column) {
 }
 
 function startTable() {
-  optionsOf(element("site"), "site");
-  optionsOf(element("place"), "place");
-  optionsOf(element("change"), "change");
+  ["site", "place", "change"].forEach((id) => optionsOf(element(id), id));
   for (let root = 1; root <= data.roots; root += 1) {
     element("root").append(make("option", {value: String(root), textContent: "root " + root}));
   }
   element("root").parentNode.hidden = data.roots < 2;
   element("fold").checked = number > 400;
   element("fold").parentNode.hidden = new Set(data.alike).size === number;
-  ["answer", "root", "site", "place", "change"].forEach((id) => element(id).addEventListener("change", (event) => {
+  choices.forEach((id) => element(id).addEventListener("change", (event) => {
     query[id] = event.target.value;
     update();
   }));
