@@ -83,6 +83,7 @@ class Browser:
             self.session = self.ask("Target.attachToTarget", targetId=target, flatten=True)["sessionId"]
             for domain in ("Page", "Network", "Log", "Runtime", "Accessibility"):
                 self.ask(f"{domain}.enable")
+            self.ask("Performance.enable", timeDomain="threadTicks")
         except BaseException:
             self.close()
             raise
@@ -151,6 +152,11 @@ class Browser:
         if "exceptionDetails" in found:
             raise RuntimeError(json.dumps(found["exceptionDetails"])[:600])
         return found["result"].get("value")
+
+    def worked(self) -> float:
+        """Returns for how many ms a processor has worked for the thread of the page."""
+        found = {row["name"]: row["value"] for row in self.ask("Performance.getMetrics")["metrics"]}
+        return 1000 * float(found["TaskDuration"])
 
     def log(self) -> list[str]:
         """Returns what the console and the browser itself have said of the page."""

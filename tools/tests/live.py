@@ -4,7 +4,7 @@ import re
 import tempfile
 from typing import NamedTuple
 
-from common import DUMP, EXPLAIN, TOOLS
+from common import TOOLS, call, dump_command, explain_command
 from harness import PROGRAM, read, run
 
 EXAMPLES = f"{TOOLS}/examples"
@@ -23,10 +23,11 @@ class Answer(NamedTuple):
 
 def answer(system, raws, facts=None):
     with tempfile.TemporaryDirectory(prefix="cmh-") as room:
-        made = run([*DUMP, system, *raws, *(["--facts", facts] if facts else []), "-o", f"{room}/dump.json"])
+        words = [system, *raws, *(["--facts", facts] if facts else []), "-o", f"{room}/dump.json"]
+        made = call(dump_command.command, words)
         if made.status:
             raise RuntimeError(made.err)
-        status, text, _ = run([*EXPLAIN, f"{room}/dump.json", "--all"])
+        status, text, _ = call(explain_command.command, [f"{room}/dump.json", "--all"])
         report = run([PROGRAM, "analyse"], read(f"{room}/dump.json")).out
         names = {short: name for name, short in json.loads(read(f"{room}/dump.notes.json"))["names"].items()}
     head = re.match(r"[A-Z ]+: \d+ process(?:es)?: (\d+) stuck(?:, (\d+) likely stuck)?, (\d+) undecided, "

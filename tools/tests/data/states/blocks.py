@@ -158,10 +158,36 @@ class Store:
         with self.first, open(os.devnull):
             stay()
 
+    def chosen_(self):
+        with self.first if self.second.locked() else self.second:
+            stay()
+
+    def branch_2(self):
+        if self.second.locked():
+            time.sleep(0)
+        else:
+            with self.second:
+                stay()
+
+    def nothing_(self):
+        with self.first, Nothing():
+            stay()
+
+    def nothing_2(self):
+        with self.first:
+            with Nothing(), self.second:
+                stay()
+
     def condition_(self):
         with self.news:
             ready.release()
             self.news.wait()
+
+
+# What a function likely has: around a block that may have given it back, or by a name that is stored elsewhere, which
+# stands for another lock in the last two.
+AROUND = {"unlocked_": "1", "locked_again_2": "1", "below_": "1", "nothing_": "1", "nothing_2": "1",
+          "hold_in_block": "1", "stored_since_": "?", "stored_elsewhere_": "2"}
 
 
 def stay():
@@ -178,13 +204,14 @@ def try_threads():
         time.sleep(0.05)
         names = {hex(id(store.first)): "1", hex(id(store.second)): "2", hex(id(store.news._lock)): "news"}
         frames = stacks.stack_of(sys._current_frames()[thread.ident])
-        compare(name, ends.inside_thread(frames)["taken"], names, name.split("_")[-1])
+        compare(name, ends.inside_thread(frames), names, name.split("_")[-1])
 
 
-def compare(name, found, names, wanted):
-    found = "".join(sorted(names.get(it, "?") for it in found))
-    if found != wanted:
-        print(f"{name}: {found!r} and not {wanted!r}")
+def compare(name, row, names, taken):
+    for key, wanted in ("taken", taken), ("around", AROUND.get(name, "")):
+        found = "".join(sorted(names.get(value, "?") for value in row[key]))
+        if found != wanted:
+            print(f"{name}: {key} {found!r} and not {wanted!r}")
 
 
 # Coroutines.
@@ -235,8 +262,8 @@ async def try_coroutines():
     for work, what, lock, wanted in rows:
         task = asyncio.ensure_future(work(what))
         await asyncio.sleep(0.05)
-        found = ends.inside_task(task.get_coro())["taken"]
-        compare(work.__name__, found, {hex(id(what if lock is None else lock)): "1"}, wanted)
+        names = {hex(id(what if lock is None else lock)): "1"}
+        compare(work.__name__, ends.inside_task(task.get_coro()), names, wanted)
 
 
 if sys.version_info >= (3, 9):  # (the steps of 3.8 aren't read)

@@ -645,6 +645,8 @@ def main():
         os.wait()
         return
     time.sleep(float(os.environ.get("SETTLE", "2")))
+    if "TAKER" in os.environ:  # (it looks itself, in place of the collector)
+        os.execv(os.environ["TAKER"], [os.environ["TAKER"], "linux", str(pid), *more])
     try:
         subprocess.run([sys.executable, program, "--pid", str(pid), "--seconds", seconds, *more], check=True, **as_user)
     finally:

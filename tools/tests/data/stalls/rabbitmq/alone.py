@@ -8,6 +8,7 @@ ends the wait in time.
 """
 import os
 import signal
+import subprocess
 import sys
 import threading
 import time
@@ -140,11 +141,12 @@ JOBS = {
 }
 
 
-def main():
-    for job in reversed(JOBS[sys.argv[1]]):
-        if os.fork() == 0:
-            signal.signal(signal.SIGTERM, signal.SIG_DFL)
-            job()
+def main(name, number=None):
+    if number is not None:
+        JOBS[name][int(number)]()
+    os.setpgid(0, 0)
+    for number in reversed(range(len(JOBS[name]))):
+        subprocess.Popen([sys.executable, __file__, name, str(number)])
         time.sleep(1)
     time.sleep(2)
     signal.signal(signal.SIGTERM, lambda *_: os.killpg(0, signal.SIGKILL))
@@ -153,5 +155,4 @@ def main():
 
 
 if __name__ == "__main__":
-    os.setpgid(0, 0)
-    main()
+    main(*sys.argv[1:])

@@ -1,4 +1,5 @@
-"""Services of a broker that stall, or are slow, each a process of its own. Usage: clients.py SERVICE [stuck|slow]
+"""Services of a broker that stall, or are slow, each a process of its own. Usage: clients.py SERVICE [stuck|slow], or
+clients.py rpc_clients|rpc_threads[_slow], which starts all, and prints `ready` once they have done what they can.
 
 The feeder gives an order once the one before it is done. Within its handler the order asks for a price, by a connection
 of its own, `order-rpc`. At the third question the prices ask the orders for the customer within theirs, which read no
@@ -6,6 +7,8 @@ questions meanwhile, or compute for a long time. `pricing` does so in its only t
 `threads` in a thread beside the one that reads, with a heartbeat.
 """
 import os
+import signal
+import subprocess
 import sys
 import threading
 import time
@@ -117,5 +120,24 @@ def beat():
         time.sleep(1)
 
 
+CASES = {"rpc_clients": ["pricing", "order", "feeder"], "rpc_threads": ["threads", "order", "feeder"]}
+
+
+def start(name):
+    modes = ["slow" if name.endswith("_slow") else "stuck"]
+    children = []
+    signal.signal(signal.SIGTERM, lambda *_: sys.exit())
+    for service in CASES[name.replace("_slow", "")]:
+        children.append(subprocess.Popen([sys.executable, __file__, service, *(modes if not children else [])]))
+        time.sleep(1)
+    time.sleep(3)
+    print("ready", flush=True)
+    try:
+        children[0].wait()
+    finally:
+        for child in children:
+            child.kill()
+
+
 if __name__ == "__main__":
-    globals()[sys.argv[1]](*sys.argv[2:])
+    start(sys.argv[1]) if sys.argv[1].startswith("rpc_") else globals()[sys.argv[1]](*sys.argv[2:])

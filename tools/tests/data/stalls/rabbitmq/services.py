@@ -76,7 +76,7 @@ def delay(arguments, policy=None):
     Service("worker", "work")
     Service("feeder", "done")
     if policy:
-        subprocess.run([os.environ["CTL"], "-q", "set_policy", "late", "^delayed$", policy], check=True)
+        subprocess.run(["rabbitmqctl", "-q", "set_policy", "late", "^delayed$", policy], check=True)
     leave()
 
 
@@ -362,7 +362,7 @@ def payment(limit):
     """A shop has asked for a payment, and waits until it is made. Of two cashiers the first has it at work, and asks
     the shop within its handler, which reads no questions meanwhile. The second one would make it at once. The broker
     has a limit for the first one, in milliseconds, or none."""
-    subprocess.run([os.environ["CTL"], "-q", "eval", f"application:set_env(rabbit, consumer_timeout, {limit})."],
+    subprocess.run(["rabbitmqctl", "-q", "eval", f"application:set_env(rabbit, consumer_timeout, {limit})."],
                    check=True, stdout=subprocess.DEVNULL)
     channel = declare(("payments", "payment.asked"), ("receipts", "payment.made"), ("questions", "payment.unclear"))
     channel.queue_declare("answers")
