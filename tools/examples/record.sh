@@ -9,6 +9,17 @@ trap 'end_all; rm -rf "$work"' EXIT
 # Runs $TAKER on what stalls, where it is set, in place of the record's own reading: with the system, and whom to take.
 hand_over() { [ -z "${TAKER:-}" ] || { "$TAKER" "$@"; exit; }; }
 
+# Makes what several runs need that share a folder $BUILT, once: runs a command that makes NAME in the folder `built`.
+# Usage: once NAME COMMAND..
+built=${BUILT:-$work/built}
+once() {
+    mkdir -p "$built"
+    (flock 9 && { [ -e "$built/$1.made" ] || { "${@:2}" && : > "$built/$1.made"; }; }) 9> "$built/$1.lock"
+}
+
+# (It takes half the processor time so.)
+javac() { command javac -J-XX:TieredStopAtLevel=1 -J-XX:+UseSerialGC "$@"; }
+
 # A port from 10000 to 29999 that nobody has. The three after it are this run's own too.
 port=$((10000 + 4 * ($$ % 5000)))
 while (exec 3<> "/dev/tcp/127.0.0.1/$port") 2> /dev/null; do port=$((port + 4)); done
@@ -45,12 +56,21 @@ has_rested() {
         /^{reductions,/ { if (process in count && count[process] != $0) exit 1; count[process] = $0 }'
 }
 
-# Starts as many ranks of a program.
+# Makes the ocean model of a file, as if it lay in /srv/job.
+make_halo() {
+    cp "$1" "$built" && cd "$built"
+    mpicc -g -fdebug-prefix-map="$built"=/srv/job -o halo halo.c
+}
+
+# Starts as many ranks of a program. Those that wait compute, so all of them share one processor.
 run_ranks() {
     ranks=$1 program=$2
     shift
-    TMPDIR=$work timeout -k 10 600 nice mpirun --oversubscribe --allow-run-as-root -np "$ranks" "$@" >&2 & started+=($!)
+    TMPDIR=$work timeout -k 10 600 nice taskset -c "$(one_processor)" mpirun --oversubscribe --allow-run-as-root \
+        -np "$ranks" "$@" >&2 & started+=($!)
 }
+
+one_processor() { sed -n 's/^Cpus_allowed_list:\t\([0-9]*\).*/\1/p' /proc/self/status; }
 
 await_ranks() { until [ "$(pgrep -fc "^$program ")" -ge "$ranks" ]; do kill -0 "${started[0]}"; sleep 0.2; done; }
 
@@ -86,11 +106,13 @@ nobody=()
 # Starts a PostgreSQL server for this run alone, with more options, and names it for its clients.
 own_postgres() {
     bin=$(ls -d /usr/lib/postgresql/*/bin "$(dirname "$(command -v initdb || echo /)")" 2> /dev/null | head -n 1)
-    mkdir -m 777 "$work/postgres" "$work/socket"
+    mkdir -p -m 777 "$work/postgres" "$work/socket" "$built"
     chmod 755 "$work"
-    "${nobody[@]}" "$bin/initdb" -D "$work/postgres/data" -U shop --auth=trust --no-locale -E UTF8 -N > "$work/log"
+    once cluster "${nobody[@]}" "$bin/initdb" -D "$built/cluster" -U shop --auth=trust --no-locale -E UTF8 -N \
+        > "$work/log"
+    "${nobody[@]}" cp -r "$built/cluster" "$work/postgres/data"
     export PGHOST=$work/socket PGPORT=$port PGUSER=shop PGDATABASE=postgres
-    "${nobody[@]}" timeout 900 "$bin/postgres" -D "$work/postgres/data" -k "$PGHOST" -p "$port" -F -h 127.0.0.1 \
+    "${nobody[@]}" timeout -k 10 900 "$bin/postgres" -D "$work/postgres/data" -k "$PGHOST" -p "$port" -F -h 127.0.0.1 \
         -c max_connections=40 "$@" > "$work/log" 2>&1 & servers+=($!)
     until psql -qXAtc 'select 1' > /dev/null 2>&1; do await_server $!; done
 }
@@ -102,13 +124,13 @@ own_pgbouncer() {
         listen_addr=127.0.0.1 "listen_port=$pool" unix_socket_dir= auth_type=trust "auth_file=$work/users" \
         "admin_users=$PGUSER" "$@" > "$work/pgbouncer.ini"
     chmod 644 "$work/users" "$work/pgbouncer.ini"
-    "${nobody[@]}" timeout 900 pgbouncer -q "$work/pgbouncer.ini" > "$work/log" 2>&1 & started+=($!)
+    "${nobody[@]}" timeout -k 10 900 pgbouncer -q "$work/pgbouncer.ini" > "$work/log" 2>&1 & started+=($!)
     until ask_pool 'show version' > /dev/null 2>&1; do await_server $!; done
 }
 ask_pool() { psql -qXAtc "$1" -h 127.0.0.1 -p "$pool" pgbouncer; }
-# Waits a moment for a server that starts, or prints why it has ended.
+# Waits a moment for a server that starts, or prints why it has ended, or doesn't answer.
 await_server() {
-    kill -0 "$1" || { cat "$work/log" >&2; exit 1; }
+    kill -0 "$1" && [ $SECONDS -lt 300 ] || { cat "$work/log" >&2; exit 1; }
     sleep 0.1
 }
 
@@ -118,11 +140,24 @@ own_mariadb() {
     chmod 755 "$work"
     "${nobody[@]}" mariadb-install-db --no-defaults --datadir="$work/mariadb/data" --skip-test-db \
         --auth-root-authentication-method=normal > "$work/log" 2>&1
-    "${nobody[@]}" timeout 900 "$(command -v mariadbd || echo /usr/sbin/mariadbd)" --no-defaults \
+    "${nobody[@]}" timeout -k 10 900 "$(command -v mariadbd || echo /usr/sbin/mariadbd)" --no-defaults \
         --datadir="$work/mariadb/data" --socket="$work/mariadb/s" --port="$port" --bind-address=127.0.0.1 \
         --pid-file="$work/mariadb/pid" --innodb-flush-log-at-trx-commit=0 "$@" > "$work/log" 2>&1 & servers+=($!)
     mkdir -p "$work/home"
     printf '[client]\nuser=root\nprotocol=tcp\nhost=127.0.0.1\nport=%s\n' "$port" > "$work/home/.my.cnf"
     export HOME=$work/home
-    until mariadb -e 'select 1' > /dev/null 2>&1; do await_server $!; done
+    # (Some have waited for a thread of their own at the start, and taken nobody.)
+    until mariadb --connect-timeout=10 -e 'select 1' > /dev/null 2>&1; do await_server $!; done
+}
+
+# Starts a broker for this run alone, at $PORT, with a plugin where one is named.
+own_broker() {
+    own_epmd '"broker-1"'
+    export RABBITMQ_NODENAME=mq@broker-1 RABBITMQ_MNESIA_BASE=$work RABBITMQ_LOG_BASE=$work PORT=$((port + 1))
+    export RABBITMQ_DIST_PORT=$((port + 2)) RABBITMQ_ENABLED_PLUGINS_FILE=$work/plugins
+    export RABBITMQ_CONFIG_FILE=$work/rabbitmq.conf PATH=/usr/lib/rabbitmq/bin:$PATH
+    echo "listeners.tcp.1 = 127.0.0.1:$PORT" > "$RABBITMQ_CONFIG_FILE"
+    [ $# = 0 ] || echo "[$1]." > "$work/plugins"
+    timeout 900 rabbitmq-server >&2 & started+=($!)
+    until rabbitmqctl -q await_startup >&2; do kill -0 $!; sleep 1; done
 }
