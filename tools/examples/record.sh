@@ -2,9 +2,9 @@
 # end by themselves too, ten minutes later, where a run is killed.
 
 work=$(mktemp -d)
-started=() servers=()
+started=() servers=() slot=
 end_all() { kill "${started[@]}" 2> /dev/null || true; kill -QUIT "${servers[@]}" 2> /dev/null || true; wait; }
-trap 'end_all; rm -rf "$work"' EXIT
+trap 'end_all; rm -rf "$work" "$slot"' EXIT
 
 # Runs $TAKER on what stalls, where it is set, in place of the record's own reading: with the system, and whom to take.
 hand_over() { [ -z "${TAKER:-}" ] || { "$TAKER" "$@"; exit; }; }
@@ -20,9 +20,13 @@ once() {
 # (It takes half the processor time so.)
 javac() { command javac -J-XX:TieredStopAtLevel=1 -J-XX:+UseSerialGC "$@"; }
 
-# A port from 10000 to 29999 that nobody has. The three after it are this run's own too.
-port=$((10000 + 4 * ($$ % 5000)))
-while (exec 3<> "/dev/tcp/127.0.0.1/$port") 2> /dev/null; do port=$((port + 4)); done
+# A port from 10000 to 29999 that nobody has. The three after it are this run's own too: a folder says so to those that
+# begin at the same time.
+until [ -n "$slot" ]; do
+    port=$((10000 + 4 * (SRANDOM % 5000)))
+    (exec 3<> "/dev/tcp/127.0.0.1/$port") 2> /dev/null || ! mkdir "${TMPDIR:-/tmp}/cmh-port-$port" 2> /dev/null ||
+        slot=${TMPDIR:-/tmp}/cmh-port-$port
+done
 
 # Starts an epmd for this run alone, so that its nodes meet those of no other. Nodes find names of hosts in the file
 # `hosts`, and a cookie that the first one makes in the folder.
