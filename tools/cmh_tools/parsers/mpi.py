@@ -71,6 +71,7 @@ INNER_WAITS = re.compile(r"(__GI_)?_*(new_)?(pthread_(cond|mutex|rwlock|barrier|
 LIMITED = re.compile(r"(timed|clock)(wait|lock|join|rdlock|wrlock)")
 
 Counts = Dict[str, List[Tuple[int, str]]]
+KEPT = 65536  # texts of stacks whose frames are kept
 FEW = 200  # of more ranks all waits share the list, with the one that waits in it: so it takes time linear in them
 
 
@@ -408,9 +409,10 @@ def lost_of(text: str) -> str:
     return ""
 
 
+@functools.lru_cache(maxsize=KEPT)
 def stacks_of(text: str) -> Tuple[List[Tuple[str, List[Match[str]]]], str]:
     """Returns the frames of the first thread and then of each other one, each with its number, and what isn't
-    understood of them."""
+    understood of them. Who hasn't moved has the same text in the next reading."""
     parts = THREAD.split(text)
     heads = (NUMBER_OF_THREAD.search(head[0]) for head in THREAD.finditer(text))
     texts = {place: (head[1] if head else place, stack) for place, head, stack in zip(parts[1::2], heads, parts[2::2])}
