@@ -386,13 +386,7 @@ class Screen:
 
     def ends(self) -> List[str]:
         """Returns where the waits end: at whom who isn't understood, who goes on, or who has nothing to do."""
-        rows: List[Tuple[int, str, str]] = []  # how many wait, who these are, and for whom
-        for index, others in self.this.unknown_ones(NAMES):
-            reason = shown(self.this.process(index).why_unknown())
-            name = UNSEEN if self.this.process(index).frames == [REST] else \
-                f"{self.name(index)}{self.place_words(index)}"
-            words = STAND_INS.get(name) or f"{name}{f': {reason}' if reason else ''}"
-            rows.append((others.number, self.waiting_words(others.number, others.nearest), words))
+        rows = self.unknown_rows()
         for index, others in self.this.idle_ones(NAMES):
             rows.append((others.number, self.waiting_words(others.number, others.nearest), f"{self.name(index)}, which "
                          f"{shown(self.this.process(index).reason) or 'has nothing to do'}"))
@@ -411,6 +405,25 @@ class Screen:
         more = [f"  and {len(rows) - ENDS:,} more, by --all"] if rows[ENDS:] else []
         waiting = sorted({index for freed in self.movers.values() for index in freed})
         return [*self.waiting_lines(waiting), *lines, *more]
+
+    def unknown_rows(self) -> List[Tuple[int, str, str]]:
+        """Returns of those who aren't understood how many wait for them, who these are, and for whom; those that nobody
+        waits for, and who aren't understood for the same reason, share one."""
+        rows: List[Tuple[int, str, str]] = []
+        alike: Dict[str, List[int]] = {}
+        for index, others in self.this.unknown_ones(NAMES):
+            reason = shown(self.this.process(index).why_unknown())
+            name = UNSEEN if self.this.process(index).frames == [REST] else \
+                f"{self.name(index)}{self.place_words(index)}"
+            if reason and not others.number and name not in (UNSEEN, *STAND_INS):
+                alike.setdefault(reason, []).append(index)
+                continue
+            words = STAND_INS.get(name) or f"{name}{f': {reason}' if reason else ''}"
+            rows.append((others.number, self.waiting_words(others.number, others.nearest), words))
+        for reason, members in alike.items():
+            place = self.place_words(members[0]) if len(members) == 1 else ""
+            rows.append((0, "", f"{self.some(map(self.name, members))}{place}: {reason}"))
+        return rows
 
     def waiting_lines(self, members: List[int]) -> List[str]:
         """Returns at what some wait of whom it isn't known who frees them; those that wait alike share a line."""
@@ -577,7 +590,8 @@ class Screen:
     def to_see_more(self) -> List[str]:
         """Returns the commands that say more. Where a long path makes the second one wide, it has what differs."""
         roots, room = self.this.roots.roots, self.width - HEAD
-        first = [self.waits.processes[index].name for index in (roots[0] if roots else self.this.undecided)[:1]]
+        undecided = sorted(self.this.undecided, key=lambda index: self.waits.subjects[index].sign is not Sign.BLOCKED)
+        first = [self.waits.processes[index].name for index in (roots[0] if roots else undecided)[:1]]
         options = [f"--why {name}" for name in [*map(quoted, first), "NAME"]]
         texts = [self.more.asks(options[0]), *(f"or {option} in place of --all" for option in options)]
         why = [next(text for text in texts if len(text) <= room)] if first else []
