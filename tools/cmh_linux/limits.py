@@ -3,13 +3,14 @@ from __future__ import annotations
 
 import contextlib
 import os
+import platform
 import re
 import struct
 import time
 from typing import Dict, Iterable, List, Optional, Tuple
 
-from .calls import QUEUES
-from .proc import Memory, Row, int32, try_slurp
+from .calls import QUEUES, calls_of
+from .proc import Memory, Row, field, int32, try_slurp
 
 IN_MILLISECONDS = {"poll": 2, "epoll_wait": 3, "epoll_pwait": 3}  # calls with their limit's argument, as a number
 AS_TIMES = {"ppoll": 2, "pselect6": 4, "select": 4, "epoll_pwait2": 3, "rt_sigtimedwait": 2, "semtimedop": 3,
@@ -18,6 +19,7 @@ AS_TIMES = {"ppoll": 2, "pselect6": 4, "select": 4, "epoll_pwait2": 3, "rt_sigti
 OPERATION, BY_CLOCK = 127, 256  # of a futex: what it does, and that its limit is by the clock
 WAITS, LOCKS = 0, (6, 7)  # of these a limit is how long, or a time of the clock; of others when it ends
 IS_A_TIME = 1  # TIMER_ABSTIME
+DAY = 86400.0
 RAN_AT = re.compile(r"^se\.exec_start *: *([0-9.]+)", re.M)
 PROCESSOR = 36  # its place in `stat`, behind the name: the one where a thread has last run
 
@@ -42,6 +44,23 @@ def limits_of(call: str, args: List[int], memory: Memory) -> Tuple[Optional[floa
     with contextlib.suppress(OSError, OverflowError):
         return (value, None) if clock is None else (None, round(value - time.clock_gettime(clock), 3))
     return None, None
+
+
+def far_limits(pid: str) -> Dict[str, float]:
+    """Returns in how many seconds the limits of those threads of a process end that wait for more than a day, each by
+    the number that the process itself has for it."""
+    found: Dict[str, float] = {}
+    memory, calls = Memory(f"/proc/{pid}"), calls_of(platform.machine())
+    for tid in os.listdir(f"/proc/{pid}/task"):
+        words = try_slurp(f"/proc/{pid}/task/{tid}/syscall").split()
+        numbers = [int(word, 16) for word in words[1:]]
+        is_known = len(numbers) > 6 and numbers[6] >> 32
+        ends = limits_of(calls.get(int(words[0]), ""), numbers, memory)[1] if is_known else None
+        if ends is not None and ends > DAY:
+            inner = field(try_slurp(f"/proc/{pid}/task/{tid}/status"), "NSpid").split()
+            found[inner[-1] if inner else tid] = ends
+    memory.close()
+    return found
 
 
 def clock_of(call: str, args: List[int]) -> Optional[int]:

@@ -21,6 +21,8 @@ from ..snapshots import APART, CUT, ONCE, OVERLAP, PARTS, WHOLE, Moments, Readin
     overlap, snapshots_of
 from . import State
 
+DAY = 86400.0
+UNITS = ((2 * DAY, DAY, "days"), (7200.0, 3600.0, "h"), (120.0, 60.0, "min"), (0.0, 1.0, "s"))
 KEPT = 65536  # lists of reasons whose assumptions are kept
 COUNT = range(1 << 63)  # the shape of a number that counts something
 Check = Callable[[Any], Optional[str]]
@@ -318,3 +320,9 @@ def without_sleep(functions: List[str]) -> List[str]:
 def one_line(text: str, width: int = 200) -> str:
     """Returns the beginning of a text on one line."""
     return re.sub(r"\s+", " ", text.strip())[:width]
+
+
+def duration(seconds: float) -> str:
+    """Returns a time as people say it: '27 h'."""
+    least, unit, name = next(row for row in UNITS if seconds >= row[0] or not row[0])
+    return f"{seconds / unit:.3g} {name}" if seconds < 1000 * unit else f"{seconds / unit:,.0f} {name}"

@@ -4,7 +4,7 @@ from __future__ import annotations
 
 import json
 import re
-from typing import Any, Dict, Iterator, List, Optional, Tuple
+from typing import Any, Dict, Iterator, List, Match, Optional, Tuple
 
 from ..files import Refusal, shown
 from .jvm_misfits import add_faults
@@ -19,6 +19,7 @@ LIMITS = re.compile(r"java\.(lang\.(Virtual)?Thread\.(sleep\w*|parkNanos)|util\.
                     r"(Nanos|Until))")
 INNER = 8  # frames among which these are
 VIRTUAL = "\n# cmh virtual "  # before the JSON that take-jvm has of virtual threads, behind what jstack prints
+FAR = re.compile(r"^# cmh limits (\{.*\})$", re.M)  # limits of waits that end in more than a day, in seconds
 UNMARKED = re.compile(r" {6}(?=[^\s-]\S*\()(?!at )")  # before a frame of JDK 21, which has no 'at'
 
 
@@ -37,6 +38,7 @@ def read_dumps(path: str, text: str) -> List[Dump]:
             begin = text.find(VIRTUAL, start, end)
             if begin >= 0:
                 add_virtual(dump, read_file_json(name, text[begin + len(VIRTUAL):end].split("\n")[0]))
+            add_limits(dump, FAR.search(text, start, end))
         return dumps
     lines = text.split("\n")
     if any(FILE_THREAD.fullmatch(line) for line in lines[:50]):
@@ -57,6 +59,22 @@ def add_virtual(dump: Dump, more: Dump) -> None:
             frame.marks = [(kind, names.get(thing, thing)) for kind, thing in frame.marks]
         dump.threads.append(thread)
     dump.has_virtual, dump.lost = True, dump.lost or more.lost
+
+
+def add_limits(dump: Dump, found: Optional[Match[str]]) -> None:
+    """Adds to threads that wait with a limit far away in how many seconds it ends."""
+    limits = numbers_of(found[1]) if found else {}
+    for thread in dump.threads:
+        thread.far = limits.get(thread.native, 0.0) if thread.state == "TIMED_WAITING" else 0.0
+
+
+def numbers_of(text: str) -> Dict[str, float]:
+    """Returns the numbers of an object of JSON, or none where one of its values is something else."""
+    try:
+        rows = json.loads(text)
+    except ValueError:
+        return {}
+    return rows if all(type(value) in (int, float) for value in rows.values()) else {}
 
 
 def same_objects(thread: Thread, own: Thread) -> Iterator[Tuple[str, str]]:

@@ -194,8 +194,8 @@ def is_at_rest(thread: Thread) -> bool:
 
 
 def has_limit(thread: Thread) -> bool:
-    """Whether the wait of a thread has a limit."""
-    return thread.state == "TIMED_WAITING" or not thread.state and place_of(thread).has(LIMITED)
+    """Whether the wait of a thread has a limit, and none far away."""
+    return not thread.far and (thread.state == "TIMED_WAITING" or not thread.state and place_of(thread).has(LIMITED))
 
 
 @lru_cache(maxsize=4096)

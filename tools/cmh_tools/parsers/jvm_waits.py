@@ -11,7 +11,7 @@ from typing import Dict, Iterable, List, Optional, Set
 from ..model import Part, Sign, Strength, Wakers, all_of, any_of, unseen, wakers
 from ..sketch import INNER, LIMIT, REST, SYSTEM, TIMER, Process, blocked, garbled, goes_on, premise, rests, unknown
 from ..snapshots import ONCE
-from .base import Snapshot
+from .base import Snapshot, duration
 from .jvm_frames import (AGAIN, BARRIER, CLEANER, COMPUTES, CONDITION, FROM_OUTSIDE, FUTURE, HAS_TASK, HAS_TIMER,
                          INTERRUPTIBLY, LONG, MEETS, NEVER_MEANT, OF_LOCKS, OF_QUEUES, OUTSIDE, POOLS_OWN, READS,
                          READS_OUTSIDE, READS_PIPE, REENTRANT, SLEEP, SOCKETS, YIELDS, Place, awaits_task, caller_of,
@@ -132,6 +132,8 @@ def wait_of(thread: Thread, name: str, snapshot: Threads) -> Process:
         return wait_for_monitor(thread, name, snapshot)
     if is_limited:
         return wait_with_limit(thread, place, name, snapshot)
+    if thread.far:
+        return wait_for_ages(thread, place, name, snapshot)
     if thread.state == "WAITING":
         return wait_without_limit(thread, place, name, snapshot)
     if thread.state == "RUNNABLE":
@@ -186,6 +188,17 @@ def wait_with_limit(thread: Thread, place: Place, name: str, snapshot: Threads) 
     why = "sleeps" if place.has(SLEEP) else TIMER if place.has(HAS_TIMER) else "waits with a limit"
     return goes_on(name, why, [premise(LIMIT)], Sign.TICKS if is_own_loop(stack_of(thread)) else Sign.SLEEPS,
                    operation=f"timed {place.call}" if place.call else "")
+
+
+def wait_for_ages(thread: Thread, place: Place, name: str, snapshot: Threads) -> Process:
+    """A wait whose limit is none, as it ends in more than a day: of one that only sleeps that is all."""
+    ends = unseen("limit", f"its limit ends in {duration(thread.far)}")
+    if place.has(SLEEP):
+        return rests(name, f"sleeps for {duration(thread.far)}", any_of(*snapshot.cancelling(thread), ends), [SYSTEM],
+                     operation=place.call)
+    process = wait_without_limit(thread, place, name, snapshot)
+    process.parts = [(*part, ends) for part in process.parts]
+    return process
 
 
 def wait_for_pool(thread: Thread, name: str, snapshot: Threads) -> Process:

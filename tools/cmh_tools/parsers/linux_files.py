@@ -8,7 +8,8 @@ from ..model import Part, Sign, Wakers, any_of, unseen, wakers
 from ..sketch import LIMIT
 from .linux_children import FOR_SIGNAL, wait_for_end, wait_for_signals
 from .linux_frames import is_of_system
-from .linux_limits import DAY, duration, far_limit, timer_comes_in
+from .base import DAY, duration
+from .linux_limits import far_limit, timer_comes_in
 from .linux_text import MASTER, READS, SIGMASK, TERMINAL, WRITES, Machine, Owner, Row, Thread
 from .linux_waits import COMES, EPOLLS, FILES, MOVES, SETS, UNTIMED, Ease, Wait, against, int32, names_of_epoll, \
     not_shown, not_understood, users_of, with_end, with_sleeper

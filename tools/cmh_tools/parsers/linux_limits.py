@@ -7,19 +7,12 @@ import re
 from typing import Optional, Tuple
 
 from ..model import Part, wakers
+from .base import DAY, duration
 from .linux_text import Machine, Thread
 from .linux_waits import SLEEPS, has_limit
 
-DAY = 86400.0
 LEAST = 10.0  # so far off may the clocks of processors be by which it is known when a thread ran last
-UNITS = ((2 * DAY, DAY, "days"), (7200.0, 3600.0, "h"), (120.0, 60.0, "min"), (0.0, 1.0, "s"))
 COMES_IN = re.compile(r"it_value: \((\d+), (\d+)\)")  # of a timer of a descriptor
-
-
-def duration(seconds: float) -> str:
-    """Returns a time as people say it: '27 h'."""
-    least, unit, name = next(row for row in UNITS if seconds >= row[0] or not row[0])
-    return f"{seconds / unit:.3g} {name}" if seconds < 1000 * unit else f"{seconds / unit:,.0f} {name}"
 
 
 def limit_of(thread: Thread) -> Tuple[Optional[float], Optional[float]]:
