@@ -10,7 +10,7 @@ import types
 from .bytecode import blocks_at, stored_in
 from .calls import called_at, first_in
 from .frames import is_own
-from .objects import CALLED, Method, functions_of, is_a, is_library_module
+from .objects import CALLED, Method, functions_of, is_a, is_library_module, is_semaphore
 from .values import LOCK
 
 TYPE_CHECKING = False
@@ -76,7 +76,7 @@ def lock_in(value: Thing) -> Thing:
 
 
 def is_lock(value: Thing) -> bool:
-    return type(value) is LOCK or is_a(value, "asyncio.locks", "Lock") or is_a(value, "asyncio.locks", "Semaphore")
+    return type(value) is LOCK or is_a(value, "asyncio.locks", "Lock") or is_semaphore(value)
 
 
 def given_back(frame: Frame) -> Thing:

@@ -54,6 +54,10 @@ def is_a(value: object, module: str, name: str) -> bool:
     return isinstance(kind, type) and issubclass(type(value), kind)
 
 
+def is_semaphore(value: object) -> bool:
+    return is_a(value, "asyncio.locks", "Semaphore") or is_a(value, "threading", "Semaphore")
+
+
 def cells_of(callback: Thing, function: str) -> Dict[str, Thing]:
     """What a closure of this name sees, by name."""
     code = getattr(callback, "__code__", None)

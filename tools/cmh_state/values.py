@@ -9,7 +9,7 @@ import sys
 import termios
 import threading
 
-from .objects import callback_name, callbacks_of, cells_of, futures_in, is_a
+from .objects import callback_name, callbacks_of, cells_of, futures_in, is_a, is_semaphore
 
 TYPE_CHECKING = False
 if TYPE_CHECKING:
@@ -88,7 +88,7 @@ def describe_known(value: Thing, row: Row) -> Optional[Row]:
         return {**row, "lock": describe(value._lock)}
     if type(value) is LOCK or is_a(value, "asyncio.locks", "Lock"):
         return {**row, "locked": value.locked()}
-    if is_a(value, "asyncio.locks", "Semaphore"):
+    if is_semaphore(value):
         return {**row, "left": value._value, "most": getattr(value, "_bound_value", None)}
     if is_a(value, "asyncio.taskgroups", "TaskGroup"):
         return {**row, "all": [describe(task) for task in value._tasks if not task.done()]}

@@ -17,8 +17,9 @@ from .python_futures import all_waits, any_waits, by_future, by_futures, wait_of
 from .python_job import CANCEL, Job
 from .python_names import Standing, is_idle_loop, main_task
 from .python_text import Caller, Frame, Row, callers_of
-from .python_waits import (Wait, blocked, by_block, by_child, by_end, by_join, by_limit, by_lock, by_object, by_sleep,
-                           by_step, by_work, goes, idle_wait, is_outside, limited, outside_wait, resting, unsure)
+from .python_waits import (Wait, blocked, by_block, by_child, by_end, by_join, by_limit, by_lock, by_object,
+                           by_semaphore, by_sleep, by_step, by_takers, by_work, goes, idle_wait, is_outside, limited,
+                           outside_wait, resting, unsure)
 
 EVENTS = "waits for events"  # how a loop is idle
 COMING = {"server": "waits for a client", "signal": "waits for a signal", "timer": "waits for its time",
@@ -29,7 +30,7 @@ RUN = re.compile(r"asyncio\.(base_events\.(\w+\.)?(run_forever|run_until_complet
                  r"|events\.(\w+\.)?_run)$")
 STEP = re.compile(r"asyncio\.(events\.Handle\._run$|runners\.)")
 RULES: Sequence[Callable[[Standing], Optional[Wait]]] = (
-    by_work, by_sleep, by_limit, by_step, by_lock, by_join, by_end, by_child, by_future, by_futures)
+    by_work, by_sleep, by_limit, by_step, by_lock, by_semaphore, by_join, by_end, by_child, by_future, by_futures)
 
 
 class Waits:
@@ -220,9 +221,9 @@ def by_permit(standing: Standing, lock: Any) -> Optional[Wait]:
     if "locked" in lock:
         return by_block(standing, lock)
     left, most = lock.get("left"), lock.get("most")
-    if type(most) is not int or left != 0 or most < 1:
+    if left != 0:
         return None
-    return by_block(standing, lock, most)
+    return by_block(standing, lock, most) if type(most) is int and most > 0 else by_takers(standing, lock)
 
 
 def in_kernel(standing: Standing) -> Optional[Wait]:

@@ -196,6 +196,22 @@ def by_block(standing: Standing, lock: Dict[str, Any], most: int = 1) -> Optiona
     return wait.beside(*able, *([wakers("releases", job.releasing)] if job.releasing else []))
 
 
+def by_takers(standing: Standing, semaphore: Dict[str, Any]) -> Optional[Wait]:
+    """The wait for a permit, of which the state doesn't show how many there are: for those whose code has taken one for
+    a block, and for others who may have one besides. None if nobody has."""
+    keys = [row.key for row in standing.look.rows() if semaphore.get("id") in row.more.get("taken", ())]
+    owners = wakers("owns", standing.job.names_of(keys), premise(BLOCK))
+    return blocked(any_of(owners, *standing.job.same_process(standing.name))) if owners.who else None
+
+
+def by_semaphore(standing: Standing) -> Optional[Wait]:
+    is_wait = standing.frames and standing.frames[0].at == "threading.Condition.wait"
+    line = next((line for line in standing.standard if line.at == "threading.Semaphore.acquire" and is_wait), None)
+    semaphore: Any = line.has.get("self") if line is not None else None
+    is_empty = isinstance(semaphore, dict) and semaphore.get("left") == 0
+    return by_takers(standing, semaphore) if is_empty else None
+
+
 # Joins
 
 
