@@ -26,6 +26,7 @@ from .sketch import ALL, ANY, DONE, ENDED, GOING, MANY, RUNS, UNKNOWN, Process, 
 MOST = 5_000_000  # names in all lists; more would take more memory than a machine may have
 NAMED, ABLE = Strength.NAMED, Strength.ABLE
 OWNS, PROCESS = "owns", "same-process"  # hows
+NEAR = ("inside", "guess")  # those of able ones that are nearer to what is waited at than who merely reaches it
 JOINS = ("Thread.join", "pthread_join", "asyncio.wait", "await of a package", "ThreadPoolExecutor.awaitTermination")
 Key = Tuple[int, int]  # of a list: its length, and the sum of its hashes
 
@@ -230,7 +231,8 @@ class Waits:
 
     def left_of(self, index: int) -> List[int]:
         """Returns the nodes of a wait, but for those of one that waits for any whom the rule sets aside, as far as
-        others are left. A list that several share stays whole."""
+        others are left, and where some of these are near to what it waits at, for all others. A list that several
+        share stays whole."""
         if index >= self.number or self.kinds[index] != ANY:
             return self.left[index]
         part = self.subjects[index].parts[0]
@@ -241,7 +243,8 @@ class Waits:
             left = tuple(wakers if id(wakers.who) in self.shared else wakers._replace(who=names)
                          for wakers, names in rows if names)
             nodes = self.nodes_of_part(left) or nodes
-        return self.without_joiners(index, self.without_rivals(index, nodes))
+        near = [self.index[name] for wakers, names in rows if wakers.how in NEAR for name in names]
+        return self.without_joiners(index, self.without_rivals(index, near or nodes))
 
     @cached_property
     def wanting(self) -> Dict[int, List[int]]:

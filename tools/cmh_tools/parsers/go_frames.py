@@ -55,7 +55,8 @@ WAITS_OF_SYNC = re.compile(r"(?:internal/)?sync\.\(\*(?:Mutex\)\.(?:Lock|lockSlo
 NOT_OF_FILE = re.compile(r"(?i)sync\.\(\*(?!rlocker|copyChecker|noCopy)(\w+)\)\.\S+ "
                          r".*\bsync/(?!\1\.)(?:cond|mutex|once|rwmutex|waitgroup)\.go")
 RECEIVER = re.compile(r"(.+\.\(\*\w+(?:\[\.\.\.\])?\))\.\w+")  # of a method, with the package of its type
-TAKES_LOCK = frozenset(("sync.Mutex.Lock", "sync.RWMutex.Lock", "sync.RWMutex.RLock"))
+WRITER, MUTEX = "sync.RWMutex.Lock", "sync.(*Mutex)"
+TAKES_LOCK = frozenset(("sync.Mutex.Lock", WRITER, "sync.RWMutex.RLock"))
 WRAPPER = re.compile(r".*(?:\.gowrap\d+|·dwrap·\d+)")
 ACCEPTS = re.compile(r".*\.Accept")  # how a listener waits for the next connection
 CLOSURE = re.compile(r".*\.func[\d.]+")
@@ -264,9 +265,11 @@ def receiver_of(step: Frame) -> Optional[Tuple[str, str]]:
 
 
 def receivers_past_lock(goroutine: Goroutine, place: Place) -> List[Tuple[str, str]]:
-    """Returns of what a goroutine runs methods: but for that which only now takes a lock."""
+    """Returns of what a goroutine runs methods: but for that which only now takes a lock. A writer that waits for the
+    readers of a lock keeps others out already."""
     frames = [step for step in goroutine.frames if step.function not in OUTERMOST and is_jobs(step)]
-    inner = frames[1:] if place.operation in TAKES_LOCK else frames
+    is_writer = place.operation == WRITER and all(MUTEX not in step.function for step in goroutine.frames)
+    inner = frames[1:] if place.operation in TAKES_LOCK and not is_writer else frames
     return list(dict.fromkeys(filter(None, map(receiver_of, inner))))
 
 
