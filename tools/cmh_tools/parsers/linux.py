@@ -71,14 +71,15 @@ def site_of(owner: Owner) -> str:
 
 
 def begun_by(machine: Machine, asked: Set[int]) -> Dict[str, str]:
-    """Returns by the site of each process below one that was asked for the site of its parent."""
+    """Returns by the site of each process below one that was asked for, asked for itself or not, the site of its
+    parent."""
     sites: Dict[str, str] = {}
     for owner in machine.owners:
-        above = owner
-        while above.pid not in asked and above.parent in machine.by_pid and above.parent != above.pid:
-            above = machine.by_pid[above.parent]
-        if above.pid in asked and owner is not above:
-            sites[site_of(owner)] = site_of(machine.by_pid[owner.parent])
+        parent = above = machine.by_pid.get(owner.parent)
+        while above is not None and above.pid not in asked and above.parent != above.pid:
+            above = machine.by_pid.get(above.parent)
+        if parent is not None and above is not None and above.pid in asked:
+            sites[site_of(owner)] = site_of(parent)
     return sites
 
 
