@@ -46,10 +46,12 @@ SAME = "Nothing in a state tells one with nothing to do from one whose message w
 
 
 class More(NamedTuple):
-    """How the reader asks for more: the command, if it isn't the one that was typed, and whether it takes --true."""
+    """How the reader asks for more: the command, if it isn't the one that was typed, whether it takes --true, and the
+    command that looks anew, if whom it looked at is still there."""
 
     command: str = ""
     has_true: bool = False
+    look: str = ""
 
     def asks(self, option: str) -> str:
         return f"{self.command} {option}".lstrip()
@@ -386,7 +388,8 @@ class Screen:
 
     def ends(self) -> List[str]:
         """Returns where the waits end: at whom who isn't understood, who goes on, or who has nothing to do."""
-        rows = self.unknown_rows()
+        waiting = sorted({index for freed in self.movers.values() for index in freed})
+        rows = self.unknown_rows({*waiting})
         for index, others in self.this.idle_ones(NAMES):
             rows.append((others.number, self.waiting_words(others.number, others.nearest), f"{self.name(index)}, which "
                          f"{shown(self.this.process(index).reason) or 'has nothing to do'}"))
@@ -403,12 +406,11 @@ class Screen:
         rows.sort(key=lambda row: -row[0])
         lines = self.end_lines(rows[:ENDS]) or self.idle_lines()
         more = [f"  and {len(rows) - ENDS:,} more, by --all"] if rows[ENDS:] else []
-        waiting = sorted({index for freed in self.movers.values() for index in freed})
         return [*self.waiting_lines(waiting), *lines, *more]
 
-    def unknown_rows(self) -> List[Tuple[int, str, str]]:
+    def unknown_rows(self, told: Set[int]) -> List[Tuple[int, str, str]]:
         """Returns of those who aren't understood how many wait for them, who these are, and for whom; those that nobody
-        waits for, and who aren't understood for the same reason, share one."""
+        waits for, and who aren't understood for the same reason, share one, but for those that are told of besides."""
         rows: List[Tuple[int, str, str]] = []
         alike: Dict[str, List[int]] = {}
         for index, others in self.this.unknown_ones(NAMES):
@@ -416,10 +418,11 @@ class Screen:
             name = UNSEEN if self.this.process(index).frames == [REST] else \
                 f"{self.name(index)}{self.place_words(index)}"
             if reason and not others.number and name not in (UNSEEN, *STAND_INS):
-                alike.setdefault(reason, []).append(index)
+                alike.setdefault("" if index in told else reason, []).append(index)
                 continue
             words = STAND_INS.get(name) or f"{name}{f': {reason}' if reason else ''}"
             rows.append((others.number, self.waiting_words(others.number, others.nearest), words))
+        alike.pop("", None)
         for reason, members in alike.items():
             place = self.place_words(members[0]) if len(members) == 1 else ""
             rows.append((0, "", f"{self.some(map(self.name, members))}{place}: {reason}"))
@@ -517,7 +520,16 @@ class Screen:
         roots = self.this.roots.roots
         words = self.cure_words() if roots else self.end_words() or self.look_words() or self.wait_words()
         enough = self.cures.enough_words(0) if len(roots) == 1 else ""
+        if self.this.is_hidden_by_sleepers():
+            return self.to_look_for_longer(words)
         return [f"{text}." for text in (words, enough) if text]
+
+    def to_look_for_longer(self, words: str) -> List[str]:
+        """Returns how to look for longer, where some would be likely to be stuck if who sleeps only ticked."""
+        longer, others = "look for a minute, as who sleeps may only come back to its loop", f"or {words}." if words else ""
+        if not self.more.look:
+            return [f"{longer}, {others}" if others else f"{longer}."]
+        return list(filter(None, [f"{longer}:", AsItIs(f"{self.more.look} --seconds 60"), others]))
 
     def cure_words(self) -> str:
         cures = self.cures.least()

@@ -247,7 +247,7 @@ def explain(folder: Folder, asked: argparse.Namespace) -> int:
     proposals = keep_dump(folder, made, folder.at("dump.json"))
     if is_one:
         write_facts(folder, path, made.sketch, proposals)
-    explanation = answer(folder, asked)
+    explanation = answer(folder, asked, look_of(parts) if asked.timeout is None else "")  # (or nobody is left)
     if asked.guesses:
         say(NO_GUESSES)
     ways = more_ways(parts, explanation, folder) if asked.timeout is None else ()  # (of --timeout nobody is left)
@@ -308,14 +308,17 @@ def keep_dump(folder: Folder, dump: Dump, path: str) -> List[Proposal]:
     return asked
 
 
+def look_of(parts: List[Dict[str, Any]]) -> str:
+    """Returns the command that takes some systems anew, or nothing where it isn't known whom of them."""
+    words = " --with ".join(command_words([part["system"], *part["targets"]]) for part in parts)
+    return f"cmh-stall {words}" if any(part["targets"] for part in parts) else ""
+
+
 def more_ways(parts: List[Dict[str, Any]], explanation: Explanation, folder: Folder) -> Iterator[str]:
     """Yields the commands that would take more of a system than was taken, where that may change the answer."""
     status = explanation.status()
     is_open = status not in (0, STATUSES[Headline.DEADLOCK])
     at_futex = is_open and any(process.operation == "futex" for process in explanation.waits.processes)
-    if explanation.is_hidden_by_sleepers() and any(part["targets"] for part in parts):
-        words = " --with ".join(command_words([part["system"], *part["targets"]]) for part in parts)
-        yield f"Who sleeps may only tick, which a longer look shows: cmh-stall {words} --seconds 60"
     for part in parts:
         system, words = part["system"], command_words(part["targets"])
         if part["beside"] and status:
@@ -414,14 +417,14 @@ def check_part(folder: Folder, part: Dict[str, Any]) -> None:
         folder.name_of(folder.at(name))
 
 
-def answer(folder: Folder, asked: Optional[argparse.Namespace] = None) -> Explanation:
+def answer(folder: Folder, asked: Optional[argparse.Namespace] = None, look: str = "") -> Explanation:
     """Keeps the first screen of the answer to the dump of a folder there, and prints that, or what is asked of it, with
-    colours on a terminal. A copy, of which nothing is asked, has no name of its folder."""
+    colours on a terminal. `look` takes it anew. A copy, of which nothing is asked, has no name of its folder."""
     path, called = folder.at("dump.json"), shlex.quote(folder.path)
     dump, _ = load_noted(folder.read_bytes(path), path, notes_path(path), folder.read_text)
     has_all = asked is not None and (asked.all or asked.why is not None)
     explanation = Explanation(dump, has_all)
-    more = More(f"cmh-stall {called}", True) if asked else More("cmh-explain dump.json")
+    more = More(f"cmh-stall {called}", True, look) if asked else More("cmh-explain dump.json")
     index = None if asked is None or asked.why is None else index_of(dump, asked.why)
     folder.write([(folder.at("answer"), screen(explanation, more))])
     explanation.style = style_of_output()
