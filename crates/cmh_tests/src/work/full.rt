@@ -5,8 +5,9 @@ use super::{expect, expect_eq};
 use crate::graphs::part;
 use cmh_graph::{GraphFault, Verdict, WaitGraph};
 use cmh_process::Kind;
-use cmh_work::{NoGate, Plan, Record, Shape, analyse};
+use cmh_work::{Gate, NoGate, Plan, Record, Shape, analyse};
 use std::alloc::Global;
+use std::sync::atomic::{AtomicU64, Ordering};
 use std::test::Fail;
 
 /// 4,096 processes, four by four. The first two of each four wait for each other, and the third for the first. The
@@ -53,13 +54,39 @@ fn is_found(record: &Record) -> bool {
     }
 }
 
-/// One worker waits for no other, so the board and its hints serve each process up to the last.
+/// Counts those who come after ones of lower numbers, and adds up the numbers.
+#[derive(Drop)]
+struct Ascending {
+    next: AtomicU64,
+    came: AtomicU64,
+    sum: AtomicU64,
+}
+
+impl Gate for Ascending {
+    fn pass(&self, initiator: u32) {
+        let p = initiator as u64;
+        if self.next.swap(p.saturating_add(1), Ordering::SeqCst) <= p {
+            self.came.fetch_add(1, Ordering::SeqCst);
+        }
+        self.sum.fetch_add(p, Ordering::SeqCst);
+    }
+}
+
+/// One worker waits for no other, so the gate hears of each process in order, but for the active one, and the board and
+/// its hints serve each up to the last.
 #[test]
 fn the_board_serves_the_last_process(rt: HostRuntime) -> Result<(), Fail> {
     let alloc = rt.alloc();
     let graph = fours(alloc)?;
     let plan = Plan::new(alloc, 1, &[60, 0, 1_000], &[])?;
-    let analysis = analyse(&rt, alloc, &graph, &plan, &NoGate)?;
+    let gate = Ascending {
+        next: AtomicU64::new(0),
+        came: AtomicU64::new(0),
+        sum: AtomicU64::new(0),
+    };
+    let analysis = analyse(&rt, alloc, &graph, &plan, &gate)?;
+    expect_eq(&rt, gate.came.load(Ordering::SeqCst), 4_095);
+    expect_eq(&rt, gate.sum.load(Ordering::SeqCst), 8_386_557);
     expect_eq(&rt, analysis.records().len(), 4_095);
     for record in analysis.records() {
         assert!(rt; is_found(record), "record of {}", record.initiator);
