@@ -25,6 +25,7 @@ EVENTS = "waits for events"  # how a loop is idle
 COMING = {"server": "waits for a client", "signal": "waits for a signal", "timer": "waits for its time",
           "reader": "waits for data", "connection": "waits for data"}
 LIMIT_OF_FUTEX = 3  # which argument that is
+OF_PROCESS = 128  # in what is done at a futex: it is one of this process alone
 # Frames of a thread that runs an event loop, also of one that isn't asyncio's own.
 RUN = re.compile(r"asyncio\.(base_events\.(\w+\.)?(run_forever|run_until_complete|_run_once)|runners\.(\w+\.)?run"
                  r"|events\.(\w+\.)?_run)$")
@@ -82,12 +83,14 @@ class Waits:
         return any(row.more.get("state") == "R" or by_work(Standing(self.job, row, row.frames)) for row in rows)
 
     def at_futex(self, standing: Standing) -> Optional[Wait]:
-        """The wait of a thread at a lock of its process, without a limit; else None. Where another one computes, it may
-        have that lock or not, so nothing is known."""
+        """The wait of a thread at a lock of its process alone, without a limit; else None. Where another one computes, it
+        may have that lock or not, so nothing is known."""
         row = standing.row
         if self.computes:
             return None
         if row.more.get("call") != "futex" or len(row.more.get("args", ())) < LIMIT_OF_FUTEX + 1 or is_limited(row):
+            return None
+        if not int(row.more["args"][1], 16) & OF_PROCESS:  # (as a semaphore of multiprocessing is)
             return None
         why = f"{self.tool()} doesn't show who has what it waits for"
         return Wait(Sign.BLOCKED, any_of(*standing.job.same_process(standing.name), unseen("unshown", why)), why)
