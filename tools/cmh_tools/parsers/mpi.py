@@ -79,7 +79,8 @@ FEW = 200  # of more ranks all waits share the list, with the one that waits in 
 class Rank:
     """A rank as one reading shows it, or with a `suffix` another thread of it. `threads` are those that run code of the
     job's, `fault` says what of it isn't understood, and `cut` which of its other threads isn't shown whole. `peers` are
-    the others of its process, and `count` is how often it has given up its processor."""
+    the others of its process, and `count` is how often it has given up its processor: one that polls in
+    a call of MPI doesn't."""
 
     pid: str
     number: int
@@ -138,7 +139,7 @@ class Rank:
         operation = self.operation
         note = " ".join([operation, *(["in", frames[0]] if frames else [])]).strip()
         return {"site": self.host or "node-1", "thread": f"{self.pid}/", "frames": frames, "operation": operation,
-                "objects": self.values, "note": note, "count": self.count,
+                "objects": self.values, "note": note, "count": self.count if self.suffix else None,
                 "is_collective": COLLECTIVES.search(operation) is not None,
                 "meeting": self.name() if WAITS.search(operation) else ""}
 
@@ -265,7 +266,7 @@ class MpiParser(Parser):
         made = without_call(rank, more) if not more["operation"] else in_call(rank, snapshot, more)
         made.because += [] if rank.suffix else [premise(ONE_THREAD)]
         inside = next((thread for thread in subject.threads if thread.operation), None)
-        if made.sign is Sign.SLEEPS and inside is not None:
+        if made.sign in (Sign.SLEEPS, Sign.TICKS) and inside is not None:
             made.become_unknown(f"it sleeps, while another thread of it is in {inside.operation}")
         threads = [thread.name() for thread in subject.threads]
         beside = (wakers("same-process", threads, premise(ONE_THREAD)),) if threads else ()
@@ -326,9 +327,10 @@ def without_call(rank: Rank, more: Dict[str, Any]) -> Process:
         return unknown(name, f"it is in {inside}, and the state doesn't show what it waits for", **more)
     inner = rank.inner_wait() if rank.peers else ""
     if SLEEPS.match(top) or LIMITED.search(inner):
-        more["operation"] = "timed sleep" if SLEEPS.match(top) else "timed wait"
+        more.update(operation="timed sleep" if SLEEPS.match(top) else "timed wait", count=rank.count)
         functions = without_sleep([step["function"] for step in rank.own])
-        in_loop = rank.suffix and len(functions) == 1  # (of its own thread)
+        is_of_main = not rank.suffix and functions[-1:] == ["main"]  # (which calls what a rank is there for)
+        in_loop = len(functions) - is_of_main == 1
         return goes_on(name, "it sleeps", [premise(LIMIT)], Sign.TICKS if in_loop else Sign.SLEEPS, **more)
     if inner:
         why = "the state doesn't show which thread of its process wakes it"
@@ -359,6 +361,7 @@ def reading_of(path: str, heading: Match[str], text: str, counts: Counts) -> Rea
     size = SIZE.search(heading[0])
     rank = Rank(head["pid"], int(head["rank"]), head["host"] or "", stacks[0][1] if stacks else [],
                 int(size[1]) if size else 0, fault or lost_of(text))
+    rank.count = count_at(counts, stacks[0][0], heading.start()) if stacks else None
     if not all(stack and OUTERMOST.match(stack[-1]["function"]) for _, stack in stacks[1:]):
         rank.cut = "the stack of another thread of it isn't whole, so that one may send for it"
     elif not rank.fault:
