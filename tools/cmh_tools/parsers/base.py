@@ -23,6 +23,7 @@ from . import State
 
 DAY = 86400.0
 UNITS = ((2 * DAY, DAY, "days"), (7200.0, 3600.0, "h"), (120.0, 60.0, "min"), (0.0, 1.0, "s"))
+LOOPS = re.compile(r"(?i).*\.(?:\w*loop|(?:run|serve|monitor)\w*)")
 KEPT = 65536  # lists of reasons whose assumptions are kept
 COUNT = range(1 << 63)  # the shape of a number that counts something
 Check = Callable[[Any], Optional[str]]
@@ -315,6 +316,11 @@ def without_sleep(functions: List[str]) -> List[str]:
     """Returns functions but for the innermost one, if it only sleeps for the next one, as its name says."""
     is_sleep = functions[1:] and SLEEPS.fullmatch(functions[0].partition(" (")[0].partition("<")[0])
     return functions[1:] if is_sleep else functions
+
+
+def is_loop(function: str) -> bool:
+    """Whether a function is one that a thread, a task or a goroutine is there for, by its name."""
+    return LOOPS.fullmatch(function) is not None
 
 
 def one_line(text: str, width: int = 200) -> str:

@@ -21,9 +21,9 @@ from ..model import COMES, Part, Sign, Wakers, all_of, any_of, unseen, wakers
 from ..sketch import GOING, LIMIT, SYSTEM, Process, Sketch, blocked, garbled, goes_on, premise, rests, unknown
 from ..snapshots import APART, CUT, GONE, ONCE, Reading
 from . import State
-from .base import Parser, Reach, Snapshot, without_sleep
+from .base import Parser, Reach, Snapshot, is_loop, without_sleep
 from .go_frames import (CONNECTION, NEEDS_ALL, WATCHER, Call, Place, accepts_for_library, callers_in, cut_short,
-                        entry_of, is_at_connection, is_jobs, is_loop, is_of_runtime, lacks_wait, misplaced, own_calls,
+                        entry_of, is_at_connection, is_jobs, is_of_runtime, lacks_wait, misplaced, own_calls,
                         receiver_locked, receivers_past_lock, serves_request, takes_state)
 from .go_starters import MAIN, UNSEEN, Starters, unseen_starter
 from .go_text import ADDRESS, AGAIN, LOOKED, TAKER, WHERE, Dump, Goroutine, read_dumps

@@ -7,6 +7,7 @@ from functools import lru_cache
 from typing import Dict, Iterable, List, Optional, Set, Tuple
 
 from ..sketch import frame
+from .base import is_loop
 from .go_text import ADDRESS, TAKER, Frame, Goroutine
 
 STANDARD = frozenset(
@@ -60,7 +61,6 @@ TAKES_LOCK = frozenset(("sync.Mutex.Lock", WRITER, "sync.RWMutex.RLock"))
 WRAPPER = re.compile(r".*(?:\.gowrap\d+|·dwrap·\d+)")
 ACCEPTS = re.compile(r".*\.Accept")  # how a listener waits for the next connection
 CLOSURE = re.compile(r".*\.func[\d.]+")
-LOOPS = re.compile(r"(?i).*\.(?:\w*loop|(?:run|serve|monitor)\w*)")  # what a goroutine is there for
 CHANNEL = re.compile(r"runtime\.chan(?:send|recv)")
 LOCK = re.compile(r"sync\.\(\*(?:Mutex|RWMutex|WaitGroup|Cond|Once)\)\.\w+|internal/sync\.\(\*Mutex\)\.\w+")
 CONDITION, WAITS_AT_IT = "sync.(*Cond).Wait", "sync.runtime_notifyListWait"
@@ -160,11 +160,6 @@ def own_calls(goroutine: Goroutine, callers: Set[Call]) -> List[Frame]:
         own.pop()
     is_begun = own[1:] and CLOSURE.fullmatch(own[-1].function) and is_loop(own[-2].function)
     return own[:-1] if is_begun else own
-
-
-def is_loop(function: str) -> bool:
-    """Whether a function is one that a goroutine is there for, by its name."""
-    return LOOPS.fullmatch(function) is not None
 
 
 def callers_in(goroutines: Iterable[Goroutine]) -> Set[Call]:

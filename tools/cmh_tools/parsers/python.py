@@ -21,7 +21,7 @@ from ..model import Part, Sign, unseen
 from ..sketch import Process, Sketch
 from ..snapshots import APART, GROWN, ONCE, PARTS, WHOLE, Reading
 from . import State
-from .base import Parser, Snapshot, without_sleep
+from .base import Parser, Snapshot, is_loop, without_sleep
 from .python_connections import connections_of
 from .python_frames import is_of_frames, looks_of_frames
 from .python_job import Job, machine_of
@@ -312,9 +312,10 @@ def is_in_own_loop(subject: Subject, own: List[str]) -> bool:
 
 def is_in_start(own: List[str]) -> bool:
     """Whether one waits in the function that it was started with. Of a main thread that is the function that its
-    program is run for. A function without a name only calls another one."""
+    program is run for. A function without a name only calls another one, as one may that calls the loop of a session.
+    """
     named = [line for line in own if "<lambda>" not in line.partition(" (")[0]]
-    return len(named) <= 1 or len(named) == 2 and MODULE in named[-1]
+    return len(named) <= 1 or len(named) == 2 and (MODULE in named[-1] or is_loop(named[0].partition(" (")[0]))
 
 
 def coming_of(subject: Subject) -> Process:
