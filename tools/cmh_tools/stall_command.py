@@ -24,7 +24,7 @@ from .facts import Facts, read_facts
 from .files import Failure, Refusal, decoded, say, shown, write_out
 from .folder import Folder, make_folder
 from .making import sketch_for
-from .model import Sign
+from .model import Sign, Wakers
 from .proposals import Proposal, propose
 from .redact import redacted_texts
 from .rule import STATUSES, Headline
@@ -331,6 +331,8 @@ def more_ways(parts: List[Dict[str, Any]], explanation: Explanation, folder: Fol
         if system == "go" and len(parts) == 1 and is_open and reads(explanation):
             for pid in listeners_at(part["targets"][0])[:1]:
                 yield f"Who is at the other ends of its connections: cmh-stall go {words} --with linux {pid}"
+        if system == "mpi" and is_open and any(group.how == "uncounted" for group in wakers_of(explanation)):
+            yield "Partners and tags are shown of a job that was begun with cmh_mpi.so: the page on MPI says how"
         if system == "linux" and status and all(other["system"] != "python" for other in parts):
             yield from to_see_python(part, folder)
         if system == "linux" and part["targets"] and at_futex and lacks_stacks(part, folder):
@@ -347,6 +349,12 @@ def waits_outside(explanation: Explanation) -> bool:
     """Whether somebody waits for an answer from outside, which may come from within."""
     return any(process.sign is Sign.BLOCKED and any(group.how == "outside" for part in process.parts for group in part)
                for process in explanation.waits.processes)
+
+
+def wakers_of(explanation: Explanation) -> Iterator[Wakers]:
+    """Yields all wakers, those too that are set aside."""
+    for process in explanation.original.waits.processes:
+        yield from (group for part in process.parts for group in part)
 
 
 def heap_words(explanation: Explanation) -> str:
