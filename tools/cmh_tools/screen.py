@@ -32,7 +32,7 @@ OTHERS = "of the others"
 ANY_OTHER = f"any {OTHERS}"
 FOR_WHICH = ": the state doesn't show which."
 NOT_SHOWN = ("listed", "reaches", "same-process", "inside", "subscribes", "guess")  # hows of those who may have it
-LINES = 10  # before what to do, if there is one group
+LINES, WORDS = 10, 60  # before what to do, and to the last member, if there is one group
 # Operations of those that wait for the end or the answer of others, and have nothing themselves that others want.
 FOR_OTHERS = re.compile(r"join|WaitGroup|CountDownLatch|HttpClient|http|sync$|invokeAll|awaitTermination", re.I)
 UNNAMED = re.compile(r"\S+\+0x[0-9a-f]+")  # a frame of a program without symbols
@@ -40,6 +40,7 @@ UNNAMED = re.compile(r"\S+\+0x[0-9a-f]+")  # a frame of a program without symbol
 NOUNS = {"jvm": "thread", "go": "goroutine", "mpi": "rank", "rabbitmq": "service"}
 SITES = {"backend ": "backend", "prepared transaction ": "prepared transaction", "connection ": "connection",
          "JVM ": "thread", "the Go program": "goroutine"}
+LENGTH = re.compile(r"(?:it )?(sleeps for [^,]+)")
 COLOURS = {Headline.DEADLOCK: "stuck", Headline.LIKELY: "likely", Headline.NONE: "not_stuck"}
 UNSEEN = "somebody who wasn't looked at"
 SAME = "Nothing in a state tells one with nothing to do from one whose message was lost."
@@ -217,7 +218,8 @@ class Screen:
             if len(self.this.roots.roots) > 1 else []
         behind, short = self.likely_behind(number), self.unless(members)
         wide, whole = self.member_lines(members), self.unless(members, 2)
-        self.is_head_long = self.is_head_long and self.has_room(lines, wide, behind, short)
+        is_brief = len(" ".join([*self.head(), *lines, *wide]).split()) <= WORDS
+        self.is_head_long = self.is_head_long and is_brief and self.has_room(lines, wide, behind, short)
         is_narrow = not any(self.has_room(lines, wide, behind, doubts) for doubts in (whole, short))
         who = self.member_lines(members, False) if is_narrow else wide
         for doubts in (whole, short):
@@ -493,7 +495,8 @@ class Screen:
     def sign_words(self, index: int) -> str:
         process = self.this.process(index)
         if process.reason == OF_SERVER or process.sign in (Sign.SLEEPS, Sign.POLLS):
-            return process.reason if process.reason == OF_SERVER else process.sign.value
+            length = LENGTH.match(process.reason)
+            return process.reason if process.reason == OF_SERVER else length[1] if length else process.sign.value
         return {Sign.TICKS: "ticks", Sign.GOES_ON: "goes on"}.get(process.sign) or self.this.goes_on_words(index)
 
     def place_words(self, index: int) -> str:
