@@ -137,11 +137,12 @@ class Browser:
         return message
 
     def open(self, path: str) -> None:
-        """Opens a file, with what stands behind a # in its address. What was logged before is gone."""
-        self.ask("Page.navigate", url="about:blank")
+        """Opens a file, with what stands behind a # in its address. What was logged before is gone. (A number makes
+        each address another one: where only what is behind a # changes, nothing is loaded.)"""
         self.run("return 1")
         self.events.clear()
-        self.ask("Page.navigate", url=f"file://{path}")
+        file, mark, place = path.partition("#")
+        self.ask("Page.navigate", url=f"file://{file}?{self.number}{mark}{place}")
         while not any(name == "Page.loadEventFired" for name, _ in self.events):
             self.next_message()
 
