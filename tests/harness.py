@@ -296,13 +296,14 @@ class Summary:
                 printed.append(line)
         return self.judge(name, "".join(printed), ran.returncode)
 
-    def run_side_by_side(self, commands: Iterable[tuple[str, Sequence[str]]], waiting: int = 0, **how: Any) -> None:
-        """Runs commands, each a name and its words, as many at a time as there are processors, and as those that mostly
-        wait. Passes on what each has printed, in their order."""
-
-        commands = list(commands)
-        with ThreadPoolExecutor(len(os.sched_getaffinity(0)) + waiting) as pool:
-            for (name, _), done in zip(commands, pool.map(lambda command: measured(command[1], **how), commands)):
+    def run_side_by_side(self, commands: Sequence[tuple[str, Sequence[str]]], waiting: Iterable[str],
+                         **how: Any) -> None:
+        """Runs commands, each a name and its words, as many at a time as there are processors, and beside them as many
+        of those whose names are given as ones that mostly wait. Passes on what each has printed, in their order."""
+        number, apart = len(os.sched_getaffinity(0)), {*waiting}
+        with ThreadPoolExecutor(number) as pool, ThreadPoolExecutor(number) as beside:
+            running = [(beside if name in apart else pool).submit(measured, words, **how) for name, words in commands]
+            for (name, _), done in zip(commands, (it.result() for it in running)):
                 print(f"== {name}\n{done.out}", end="", flush=True)
                 self.judge(name, done.out, done.status, f", {done.cost()}")
 
