@@ -259,7 +259,7 @@ def places():
 before = None
 while before != places():
     before = places()
-    time.sleep(2)
+    time.sleep(1)
 os.kill(os.getpid(), signal.SIGRTMAX)
 for attempt in range(600):
     time.sleep(0.1)
