@@ -49,7 +49,7 @@ def limits_of(call: str, args: List[int], memory: Memory) -> Tuple[Optional[floa
 def far_limits(pid: str) -> Dict[str, float]:
     """Returns in how many seconds the limits of those threads of a process end that wait for more than a day, each by
     the number that the process itself has for it."""
-    found: Dict[str, float] = {}
+    limits: Dict[str, float] = {}
     memory, calls = Memory(f"/proc/{pid}"), calls_of(platform.machine())
     for tid in os.listdir(f"/proc/{pid}/task"):
         words = try_slurp(f"/proc/{pid}/task/{tid}/syscall").split()
@@ -58,9 +58,9 @@ def far_limits(pid: str) -> Dict[str, float]:
         ends = limits_of(calls.get(int(words[0]), ""), numbers, memory)[1] if is_known else None
         if ends is not None and ends > DAY:
             inner = field(try_slurp(f"/proc/{pid}/task/{tid}/status"), "NSpid").split()
-            found[inner[-1] if inner else tid] = ends
+            limits[inner[-1] if inner else tid] = ends
     memory.close()
-    return found
+    return limits
 
 
 def clock_of(call: str, args: List[int]) -> Optional[int]:

@@ -529,7 +529,8 @@ class Screen:
 
     def to_look_for_longer(self, words: str) -> List[str]:
         """Returns how to look for longer, where some would be likely to be stuck if who sleeps only ticked."""
-        longer, others = "look for a minute, as who sleeps may only come back to its loop", f"or {words}." if words else ""
+        longer = "look for a minute, as who sleeps may only come back to its loop"
+        others = f"or {words}." if words else ""
         if not self.more.look:
             return [f"{longer}, {others}" if others else f"{longer}."]
         return list(filter(None, [f"{longer}:", AsItIs(f"{self.more.look} --seconds 60"), others]))

@@ -61,9 +61,9 @@ def add_virtual(dump: Dump, more: Dump) -> None:
     dump.has_virtual, dump.lost = True, dump.lost or more.lost
 
 
-def add_limits(dump: Dump, found: Optional[Match[str]]) -> None:
+def add_limits(dump: Dump, line: Optional[Match[str]]) -> None:
     """Adds to threads that wait with a limit far away in how many seconds it ends."""
-    limits = numbers_of(found[1]) if found else {}
+    limits = numbers_of(line[1]) if line else {}
     for thread in dump.threads:
         thread.far = limits.get(thread.native, 0.0) if thread.state == "TIMED_WAITING" else 0.0
 
@@ -71,10 +71,10 @@ def add_limits(dump: Dump, found: Optional[Match[str]]) -> None:
 def numbers_of(text: str) -> Dict[str, float]:
     """Returns the numbers of an object of JSON, or none where one of its values is something else."""
     try:
-        rows = json.loads(text)
+        rows: Dict[str, Any] = json.loads(text)
     except ValueError:
         return {}
-    return rows if all(type(value) in (int, float) for value in rows.values()) else {}
+    return dict(rows) if all(type(value) in (int, float) for value in rows.values()) else {}
 
 
 def same_objects(thread: Thread, own: Thread) -> Iterator[Tuple[str, str]]:

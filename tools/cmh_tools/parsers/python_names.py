@@ -105,9 +105,8 @@ def main_task(row: Row) -> Any:
 
 
 def is_idle_loop(frames: List[Frame]) -> bool:
-    """Whether the thread of an event loop waits for events."""
-    is_selecting = len(frames) > 1 and frames[0].at.startswith("selectors.")
-    return is_selecting and frames[1].at.startswith("asyncio.") and frames[1].at.endswith("._run_once")
+    """Whether the thread of an event loop waits for events: nothing else of asyncio calls a selector."""
+    return len(frames) > 1 and frames[0].at.startswith("selectors.") and frames[1].at.startswith("asyncio.")
 
 
 def actor_of(look: Look, key: Any) -> Any:

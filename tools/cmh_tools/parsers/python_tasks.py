@@ -83,8 +83,8 @@ class Waits:
         return any(row.more.get("state") == "R" or by_work(Standing(self.job, row, row.frames)) for row in rows)
 
     def at_futex(self, standing: Standing) -> Optional[Wait]:
-        """The wait of a thread at a lock of its process alone, without a limit; else None. Where another one computes, it
-        may have that lock or not, so nothing is known."""
+        """The wait of a thread at a lock of its process alone, without a limit; else None. Where another one computes,
+        it may have that lock or not, so nothing is known."""
         row = standing.row
         if self.computes:
             return None
