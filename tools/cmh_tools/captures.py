@@ -223,6 +223,19 @@ def with_sockets(captures: List[Capture]) -> List[Capture]:
     return [more if capture is first else capture for capture in captures]
 
 
+def without_debugger(captures: List[Capture]) -> List[Capture]:
+    """Returns captures without the frames of Python by a debugger, where Linux is looked at too: what is held wakes,
+    and Linux would see that nobody has stood still. Its own frames name functions of the program's libraries alone."""
+    bare = [capture for capture in captures if capture.system == "python" and capture.held()]
+    first = next((capture for capture in captures if capture.system == "linux"), None)
+    if first is None or not bare:
+        return captures
+    pids = [pid for capture in bare for pid in capture.targets]
+    say(f"python {' '.join(pids)}: its frames aren't read by gdb, which would wake whom Linux looks at")
+    more = replace(first, targets=list(dict.fromkeys([*first.targets, *pids])))
+    return [more if capture is first else capture for capture in captures if capture not in bare]
+
+
 def listeners_at(address: str) -> List[str]:
     """Returns the processes that listen at a port of this machine, as far as this user may see that."""
     host, _, port = address.rpartition(":")

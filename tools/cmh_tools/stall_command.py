@@ -14,7 +14,7 @@ from dataclasses import replace
 from typing import Any, Dict, Iterator, List, Optional, Sequence
 
 from .captures import (HEAP, SYSTEMS, Capture, captures_for, check_needs, fault_of, labels_of, listeners_at, take,
-                       with_sockets, with_stacks)
+                       way_to_python, with_sockets, with_stacks, without_debugger)
 from .command import Parser, dump_of_notes, is_notes, known_doubts, notes_path, run
 from .dump import Dump
 from .dump_command import NO_GUESSES, texts_of
@@ -116,7 +116,7 @@ def main(words: Sequence[str]) -> int:
         if asked.stacks and all(named[0] != "linux" for named in [asked.words, *asked.others]):
             made.error("--stacks is of Linux: linux PID --stacks")
         parts = [part for named in [asked.words, *asked.others] for part in captured(made, named, asked)]
-        parts = with_sockets([with_stacks(part) for part in parts] if asked.stacks else parts)
+        parts = without_debugger(with_sockets([with_stacks(part) for part in parts] if asked.stacks else parts))
         return stall(parts, asked)
     if asked.others or asked.output or asked.words[1:] or not os.path.lexists(f"{asked.words[0]}/{RECORD}"):
         made.error(f"{asked.words[0]} is neither one of {', '.join(SYSTEMS)} nor a folder that cmh-stall has made")
@@ -371,7 +371,8 @@ def to_see_python(part: Dict[str, Any], folder: Folder) -> Iterator[str]:
     for pid, path in dict(PYTHON.findall(text)).items():
         if pid in part["targets"]:
             package = "apt-get install gdb python3-dbg" if path.startswith("/usr/bin/") else "pip install py-spy"
-            yield f"To see inside of Python: {package} && cmh-stall python {command_words(part['targets'])}"
+            needed = "" if way_to_python([pid]) else f"{package} && "
+            yield f"To see inside of Python: {needed}cmh-stall python {command_words(part['targets'])}"
             return
 
 
