@@ -103,6 +103,36 @@ class Reports:
         beat.cancel()
 
 
+# Two threads have a door each of two, and want the other one as well. A third one wants its first, and main waits for
+# all. In the twin one takes long behind both doors.
+
+
+def pass_two(doors, others, is_slow):
+    with doors:
+        others.wait()
+        with doors if not is_slow else threading.Lock():
+            time.sleep(LONG if is_slow else 0)
+
+
+def pass_one(doors, others):
+    others.wait()
+    time.sleep(0.5)
+    with doors:
+        pass
+
+
+def load_trucks(is_slow):
+    doors, others = threading.Semaphore(2), threading.Barrier(3)
+    threads = [threading.Thread(target=pass_two, args=(doors, others, is_slow), name=f"truck-{number}")
+               for number in (1, 2)]
+    threads.append(threading.Thread(target=pass_one, args=(doors, others), name="truck-3"))
+    threading.Thread(target=beat, name="beat", daemon=True).start()
+    for thread in threads:
+        thread.start()
+    for thread in threads:
+        thread.join()
+
+
 # A service has done all its work in its pool, and waits for more.
 
 
@@ -130,6 +160,8 @@ JOBS: "dict[str, typing.Callable[[], object]]" = {
     "reports": lambda: asyncio.run(Reports(False).run()),
     "reports_slow": lambda: asyncio.run(Reports(True).run()),
     "pool_at_rest": wait_for_work,
+    "permits": lambda: load_trucks(False),
+    "permits_slow": lambda: load_trucks(True),
 }
 
 if __name__ == "__main__":
