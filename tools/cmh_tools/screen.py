@@ -32,7 +32,7 @@ OTHERS = "of the others"
 ANY_OTHER = f"any {OTHERS}"
 FOR_WHICH = ": the state doesn't show which."
 NOT_SHOWN = ("listed", "reaches", "same-process", "inside", "subscribes", "guess")  # hows of those who may have it
-LINES, WORDS = 10, 60  # before what to do, and to the last member, if there is one group
+LINES, WORDS = 10, 60  # before what to do, and to the end of a group
 # Operations of those that wait for the end or the answer of others, and have nothing themselves that others want.
 FOR_OTHERS = re.compile(r"join|WaitGroup|CountDownLatch|HttpClient|http|sync$|invokeAll|awaitTermination", re.I)
 UNNAMED = re.compile(r"\S+\+0x[0-9a-f]+")  # a frame of a program without symbols
@@ -218,12 +218,11 @@ class Screen:
             if len(self.this.roots.roots) > 1 else []
         behind, short = self.likely_behind(number), self.unless(members)
         wide, whole = self.member_lines(members), self.unless(members, 2)
-        is_brief = len(" ".join([*self.head(), *lines, *wide]).split()) <= WORDS
-        self.is_head_long = self.is_head_long and is_brief and self.has_room(lines, wide, behind, short)
-        is_narrow = not any(self.has_room(lines, wide, behind, doubts) for doubts in (whole, short))
+        self.is_head_long = self.is_head_long and self.has_room([*lines, *wide, *behind], short)
+        is_narrow = not any(self.has_room([*lines, *wide, *behind], doubts) for doubts in (whole, short))
         who = self.member_lines(members, False) if is_narrow else wide
         for doubts in (whole, short):
-            if self.has_room(lines, who, behind, doubts):
+            if self.has_room([*lines, *who, *behind], doubts):
                 return [*lines, *who, *behind, *doubts]
         return [*lines, *who[:-1 if who[-1].endswith(FOR_WHICH) else None], *behind, *short]
 
@@ -234,9 +233,10 @@ class Screen:
         return [f"  Likely behind {'it' if len(self.this.roots.roots[number]) == 1 else 'them'}: "
                 f"{self.some(names)}"] if names else []
 
-    def has_room(self, *parts: List[str]) -> bool:
-        """Returns whether the headline with some lines below it is as short as it should be."""
-        return self.height([*self.head(), *(line for lines in parts for line in lines)]) <= LINES
+    def has_room(self, group: List[str], doubts: List[str]) -> bool:
+        """Returns whether the headline with a group and its doubts is as short as it should be."""
+        words = sum(len(line.split()) for line in [*self.head(), *group])
+        return words <= WORDS and self.height([*self.head(), *group, *doubts]) <= LINES
 
     def unless(self, members: List[int], rows: int = 1) -> List[str]:
         """Returns the first few doubts on which it hangs that some are stuck, of so many rows each if that helps."""
