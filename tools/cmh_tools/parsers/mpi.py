@@ -327,10 +327,11 @@ def without_call(rank: Rank, more: Dict[str, Any]) -> Process:
         return unknown(name, f"it is in {inside}, and the state doesn't show what it waits for", **more)
     inner = rank.inner_wait() if rank.peers else ""
     if SLEEPS.match(top) or LIMITED.search(inner):
-        more.update(operation="timed sleep" if SLEEPS.match(top) else "timed wait", count=rank.count)
+        more["operation"] = "timed sleep" if SLEEPS.match(top) else "timed wait"
         functions = without_sleep([step["function"] for step in rank.own])
         is_of_main = not rank.suffix and functions[-1:] == ["main"]  # (which calls what a rank is there for)
         in_loop = len(functions) - is_of_main == 1
+        more["count"] = rank.count if in_loop or rank.suffix else None  # (one that naps in its work is at work)
         return goes_on(name, "it sleeps", [premise(LIMIT)], Sign.TICKS if in_loop else Sign.SLEEPS, **more)
     if inner:
         why = "the state doesn't show which thread of its process wakes it"
