@@ -18,6 +18,7 @@ from .stuck import Answer, Waits
 # Verdicts, beside ENDED.
 STUCK, LIKELY, UNDECIDED, NOT_STUCK = "stuck", "likely", "undecided", "not_stuck"
 START = -1  # no process
+MINUTE = 60  # seconds
 RUNNING, MESSAGE, COME = "runs", "message_in_transit", "all_have_come"  # why one goes on by itself
 # Systems of which nothing less can be restarted.
 WHOLE = {"mpi": "the MPI job"}
@@ -89,7 +90,11 @@ class Findings(Verdicts):
         return [at for at in self.well if self.waits.kinds[at] == RUNS or at in self.quiet]
 
     def is_hidden_by_sleepers(self) -> bool:
-        """Whether some would be likely to be stuck if those who sleep were seen to come back to their loops."""
+        """Whether some would be likely to be stuck if those who sleep were seen to come back to their loops, as a look
+        of a minute would show."""
+        times = self.dump.sketch.times
+        if times and times[-1][0] - times[0][1] >= MINUTE:
+            return False
         subjects = [subject._replace(sign=Sign.TICKS) if subject.sign is Sign.SLEEPS else subject
                     for subject in self.original.waits.subjects]
         return self.headline is Headline.NOT_KNOWN and bool(Decision(subjects).likely)

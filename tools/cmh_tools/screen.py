@@ -420,11 +420,11 @@ class Screen:
             name = UNSEEN if self.this.process(index).frames == [REST] else \
                 f"{self.name(index)}{self.place_words(index)}"
             if reason and not others.number and name not in (UNSEEN, *STAND_INS):
-                alike.setdefault("" if index in told else reason, []).append(index)
+                if index not in told:
+                    alike.setdefault(reason, []).append(index)
                 continue
             words = STAND_INS.get(name) or f"{name}{f': {reason}' if reason else ''}"
             rows.append((others.number, self.waiting_words(others.number, others.nearest), words))
-        alike.pop("", None)
         for reason, members in alike.items():
             place = self.place_words(members[0]) if len(members) == 1 else ""
             rows.append((0, "", f"{self.some(map(self.name, members))}{place}: {reason}"))
