@@ -23,7 +23,7 @@ PRIVATE = re.compile(r"(java\.util\.concurrent\.(?:CompletableFuture|FutureTask|
 AWAITS = re.compile(rf".*\${CONDITION}\.await\w*")
 # The object of a lock of the JDK at which its waiters are parked, with the class of that lock.
 OF_LOCKS = re.compile(r"(java\.util\.concurrent\.[\w.]+)\$(?:Nonfair|Fair)?Sync")
-PARK = re.compile(r"java\.util\.concurrent\.locks\.LockSupport\.park")
+PARK, SUPPORT = re.compile(r"java\.util\.concurrent\.locks\.LockSupport\.park"), re.compile(r".*\.LockSupport\.park")
 RUN = "java.lang.Thread.run"
 NEAR = 6  # frames in which a queue of the JDK stands above whoever waits in it
 
@@ -62,7 +62,9 @@ def misfit_of_park(stack: Stack, parked_class: str) -> str:
     methods = [method for method, _, _ in stack]
     is_in_queue = any(map(QUEUES.fullmatch, methods[:NEAR]))
     caller = methods[1] if methods[1:] else ""
-    if caller == RUN or QUEUES.fullmatch(caller) or caller and not (JDK.match(caller) or LIBRARY.match(caller)):
+    is_odd = SUPPORT.match(caller) and not PARK.match(caller)  # (as of another package, which has no such class)
+    if is_odd or caller == RUN or QUEUES.fullmatch(caller) or caller and not (
+            JDK.match(caller) or LIBRARY.match(caller)):
         return f"it is parked, and {caller} calls no such thing"
     parking = next((method for method in methods[1:] if not PARK.match(method)), "")
     if QUEUES.fullmatch(parking) and not PARKS.fullmatch(parking):

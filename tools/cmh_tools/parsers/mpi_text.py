@@ -131,6 +131,8 @@ def is_whole(thread: Row) -> bool:
         return "comm" not in thread and "requests" not in thread
     has_requests = kind in (ALL_OF, ANY_OF, POLL)
     has_one = kind not in (ALL_OF, ANY_OF) and not thread.get("requests")
+    if any(not 0 <= (request[-1] or 0) < 1 << 64 for request in thread.get("requests", [])):  # (a word of memory)
+        return False
     return kind in (0, *KINDS) and ("requests" in thread) == has_requests and ("comm" in thread) == has_one
 
 

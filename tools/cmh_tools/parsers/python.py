@@ -136,7 +136,7 @@ class PythonParser(Parser):
                 reading.missing = "its state isn't whole, so processes may be missing"
             elif lost:
                 reading.missing = f"it has begun process {lost[0]}, which isn't in the states"
-        if all(is_number(look.head.get("began")) for look in looks):
+        if are_timed(looks):
             readings.sort(key=lambda reading: float(reading.rows[0].head["began"]))
             for reading in readings:
                 reading.path = STATES
@@ -316,6 +316,17 @@ def is_in_start(own: List[str]) -> bool:
     """
     named = [line for line in own if "<lambda>" not in line.partition(" (")[0]]
     return len(named) <= 1 or len(named) == 2 and (MODULE in named[-1] or is_loop(named[0].partition(" (")[0]))
+
+
+def are_timed(looks: List[Look]) -> bool:
+    """Whether it is known when each look began: those of a process one after the other."""
+    last: Dict[Any, float] = {}
+    for look in looks:
+        began: Any = look.head.get("began")
+        if not is_number(began) or began < last.get(look.place(), began):
+            return False
+        last[look.place()] = began
+    return True
 
 
 def coming_of(subject: Subject) -> Process:
