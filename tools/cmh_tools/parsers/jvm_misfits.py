@@ -24,6 +24,7 @@ AWAITS = re.compile(rf".*\${CONDITION}\.await\w*")
 # The object of a lock of the JDK at which its waiters are parked, with the class of that lock.
 OF_LOCKS = re.compile(r"(java\.util\.concurrent\.[\w.]+)\$(?:Nonfair|Fair)?Sync")
 PARK, SUPPORT = re.compile(r"java\.util\.concurrent\.locks\.LockSupport\.park"), re.compile(r".*\.LockSupport\.park")
+OF_CLASS = re.compile(r"\.[A-Z$][^.]*\.")  # (as a package has no capital)
 RUN = "java.lang.Thread.run"
 NEAR = 6  # frames in which a queue of the JDK stands above whoever waits in it
 
@@ -66,6 +67,9 @@ def misfit_of_park(stack: Stack, parked_class: str) -> str:
     if is_odd or caller == RUN or QUEUES.fullmatch(caller) or caller and not (
             JDK.match(caller) or LIBRARY.match(caller)):
         return f"it is parked, and {caller} calls no such thing"
+    nameless = next((method for method in methods if JDK.match(method) and not OF_CLASS.search(method)), "")
+    if nameless:
+        return f"{nameless} is of no class of the JDK"
     parking = next((method for method in methods[1:] if not PARK.match(method)), "")
     if QUEUES.fullmatch(parking) and not PARKS.fullmatch(parking):
         return f"it is parked, and {parking} calls no such thing"
