@@ -150,10 +150,10 @@ class GoParser(Parser):
         snapshot.is_stopped = not any(goroutine.is_elsewhere for goroutine in rows)
         snapshot.callers = callers_in(rows)
         snapshot.has_signals = any(frame.function == SIGNALS for goroutine in rows for frame in goroutine.frames)
-        snapshot.everybody = wakers("same-process", [self.names[goroutine.number] for goroutine in rows
-                                                     if snapshot.places[goroutine.number].idle not in LIBRARYS])
+        own = [goroutine for goroutine in rows if snapshot.places[goroutine.number].idle not in LIBRARYS]
+        snapshot.everybody = wakers("same-process", [self.names[goroutine.number] for goroutine in own])
         snapshot.reach = Reach()
-        for goroutine in rows:
+        for goroutine in own:
             here = snapshot.places[goroutine.number].objects
             for address in dict.fromkeys(ADDRESS.findall(" ".join(frame.arguments for frame in goroutine.frames))):
                 if address not in here:

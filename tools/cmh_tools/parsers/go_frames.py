@@ -109,8 +109,18 @@ def misplaced(goroutines: Iterable[Goroutine]) -> Set[Tuple[str, str]]:
     """Returns the functions that stand at a file of another package, each with that, since lines between are lost, or
     their text is another one: one of the standard library does, or in its folders one of the job."""
     calls = {(step.function, step.path) for goroutine in goroutines for step in (*goroutine.frames, goroutine.creator)}
-    roots = {root_of(path)[0] for function, path in calls if is_standard(function, path) and root_of(path)[1]} - {""}
-    return {(function, path) for function, path in calls if is_at_another(function, path, roots)}
+    standard = {(package_of(function), root_of(path)[0]) for function, path in calls
+                if is_standard(function, path) and root_of(path)[1]}
+    roots = {root for _, root in standard} - {""}
+    homes = {root for package, root in standard if package == "runtime"} - {""}
+    return {(function, path) for function, path in calls
+            if is_at_another(function, path, roots) or is_stranger(path, homes)}
+
+
+def is_stranger(path: str, homes: Set[str]) -> bool:
+    """Whether a file lies in a folder of the runtime's sources, and is of no package of Go's own."""
+    root, is_in_library = root_of(path)
+    return root in homes and not is_in_library and not path.startswith(f"{root}/src/cmd/")
 
 
 def is_at_another(function: str, path: str, roots: Set[str]) -> bool:
