@@ -12,6 +12,14 @@ BY_KEY, STANDARD = (DIRECT, TOPIC), (DIRECT, TOPIC, "fanout", "headers")
 OF_THE_BROKER = "amq.rabbitmq."  # exchanges to which the broker itself publishes: logs, traces, events
 EXCHANGE, KEY, TTL = "dead-letter-exchange", "dead-letter-routing-key", "message-ttl"
 LIMITS = (TTL, "max-length", "max-length-bytes")  # by which messages leave a queue that nobody has refused
+# What the arguments and policies of a queue or an exchange may set, of which it is known what it does to messages.
+SETTINGS = frozenset((
+    *LIMITS, EXCHANGE, KEY, "alternate-exchange", "cancel-on-ha-failover", "consumer-timeout", "dead-letter-strategy",
+    "delivery-limit", "expires", "ha-mode", "ha-params", "ha-promote-on-failure", "ha-promote-on-shutdown",
+    "ha-sync-batch-size", "ha-sync-mode", "initial-cluster-size", "max-age", "max-in-memory-bytes",
+    "max-in-memory-length", "max-priority", "overflow", "queue-leader-locator", "queue-master-locator", "queue-mode",
+    "queue-type", "queue-version", "quorum-initial-group-size", "quorum-target-group-size", "single-active-consumer",
+    "stream-filter-size-bytes", "stream-max-segment-size-bytes", "target-group-size"))
 
 
 class Routes:
@@ -36,6 +44,9 @@ class Routes:
         self.settings = {str(row["name"]): {**policies.get(str(row.get("policy")), {}), **table_of(row["arguments"])}
                          for row in raw["list_queues"]}
         self.dead = {name: settings for name, settings in self.settings.items() if settings.get(EXCHANGE) is not None}
+        tables = [*policies.values(), *(table_of(row["arguments"]) for row in raw["list_queues"]),
+                  *(table_of(row.get("arguments")) for row in raw["list_exchanges"] if row["type"] in STANDARD)]
+        self.unknown = sorted({name for table in tables for name in table} - SETTINGS)
         for definition in policies.values():
             self.feed(definition.get("alternate-exchange"), "a policy hands on what an exchange can't route")
 
@@ -51,9 +62,11 @@ class Routes:
             self.fed[exchange] = f"{shown(why)} to exchange {shown(exchange)}, and the keys of these aren't known"
 
     def lost(self) -> str:
-        """Returns what the lists lack, or nothing: each queue has a binding of the default exchange, and what others
-        take messages to is listed, but for what came in between."""
+        """Returns what the lists lack, or nothing: each setting is one that is known, each queue has a binding of the
+        default exchange, and what others take messages to is listed, but for what came in between."""
         queues = self.settings
+        if self.unknown:
+            return f"an argument or a policy sets {shown(self.unknown[0])}, and it isn't known what that does"
         bare = next((name for name in queues if ("", name) not in self.bound.get(name, ())), None)
         if bare is not None:
             return f"queue {shown(bare)} has no binding of the default exchange"
