@@ -93,7 +93,7 @@ class JvmParser(Parser):
         snapshot.moved = {thing for thread in threads if not (thread.has_stood
                                                               and REENTRANT.fullmatch(thread.parked_class))
                           for thing in locks.objects.get(thread.key, [])}
-        snapshot.known_owners = {}
+        snapshot.known_owners, snapshot.known_runners, snapshot.known_able = {}, {}, {}
         snapshot.timers = [self.names[thread.key] for thread in threads if LIMITS_FUTURES.fullmatch(thread.name)
                            and thread.state != "WAITING"]
         snapshot.shows_owners = (snapshot.counts and not snapshot.lacks() and any(thread.owned for thread in threads)

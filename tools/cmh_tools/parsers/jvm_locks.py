@@ -11,7 +11,8 @@ from .jvm_text import CLASS_INIT, PARKED, Stack, Thread, stack_of
 
 NO_OBJECT = "no object reference available"
 RELOCK, INITIALISER = "waiting to re-lock in wait()", ".<clinit>"
-WRITES = re.compile(r"java\.util\.concurrent\.locks\.ReentrantReadWriteLock\$WriteLock\.\w+")
+WRITES, READS = (re.compile(rf"java\.util\.concurrent\.locks\.ReentrantReadWriteLock\${kind}Lock\.\w+")
+                 for kind in ("Write", "Read"))
 WAITS = ("java.lang.Object.wait", "java.lang.Object.wait0")
 JOIN = "java.lang.Thread.join"
 
@@ -70,8 +71,8 @@ class Locks:
     """All is by the keys of threads. `holders` has for each monitor who surely holds it, `perhaps` who holds it or has
     given back another one of several, `owners` who owns a lock of `java.util.concurrent`, `wanted` the monitor that a
     thread waits to enter, `objects` what it waits at, `initialisers` who runs the initialiser of a class, `beginners`
-    who runs that of any class and waits for none, and `writers` who waits for a lock of readers and writers in order
-    to write. `shown` is `found_owners` of a Dump.
+    who runs that of any class and waits for none, and `writers` and `readers` who waits for a lock of readers and
+    writers in order to write, or to read. `shown` is `found_owners` of a Dump.
     """
 
     def __init__(self, threads: List[Thread], shown: Dict[str, str]) -> None:
@@ -80,6 +81,7 @@ class Locks:
         self.owners: DefaultDict[str, List[str]] = defaultdict(list)
         self.initialisers: DefaultDict[str, List[str]] = defaultdict(list)
         self.writers: DefaultDict[str, List[str]] = defaultdict(list)
+        self.readers: DefaultDict[str, List[str]] = defaultdict(list)
         self.wanted: Dict[str, str] = {}
         self.objects: Dict[str, List[str]] = {}
         self.beginners: List[str] = []
@@ -117,8 +119,10 @@ class Locks:
         if wanted:
             self.wanted[thread.key] = wanted[0]
         self.objects[thread.key] = objects_of(thread, held)
-        for lock in marks_of(thread, PARKED)[:1] if is_in(WRITES, stack_of(thread)) else []:
-            self.writers[lock].append(thread.key)
+        for lock in marks_of(thread, PARKED)[:1]:
+            for pattern, waiting in ((WRITES, self.writers), (READS, self.readers)):
+                if is_in(pattern, stack_of(thread)):
+                    waiting[lock].append(thread.key)
 
     def monitor_holders(self, monitor: str, key: str) -> List[str]:
         """Returns who surely holds a monitor that a thread wants, or the first two if the state contradicts itself."""

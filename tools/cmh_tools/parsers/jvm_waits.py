@@ -6,6 +6,7 @@ have a reference to it by a heap, or else all other threads of the JVM. Who may 
 """
 from __future__ import annotations
 
+import re
 from typing import Dict, Iterable, List, Optional, Set
 
 from ..model import Part, Sign, Strength, Wakers, all_of, any_of, unseen, wakers
@@ -14,8 +15,8 @@ from ..snapshots import ONCE
 from .base import Snapshot, duration
 from .jvm_frames import (AGAIN, BARRIER, CLEANER, COMPUTES, CONDITION, FROM_OUTSIDE, FUTURE, HAS_TASK, HAS_TIMER,
                          INTERRUPTIBLY, LONG, MEETS, NEVER_MEANT, OF_LOCKS, OF_QUEUES, OUTSIDE, POOLS_OWN, READS,
-                         READS_OUTSIDE, READS_PIPE, REENTRANT, SLEEP, SOCKETS, YIELDS, Place, awaits_task, caller_of,
-                         has_jobs, has_limit, is_for_the_end, is_in, is_own_loop, is_receive, place_of, short)
+                         READS_OUTSIDE, READS_PIPE, REENTRANT, RUNS_TASK, SLEEP, SOCKETS, YIELDS, Place, awaits_task,
+                         caller_of, has_jobs, has_limit, is_for_the_end, is_in, is_own_loop, is_receive, place_of, short)
 from .jvm_heap import FUTURES, HOOK, JOIN, LOST, POOL, QUEUED, READERS, STREAM, SUPPLIED, HeapView, Reached, Wait
 from .jvm_locks import Locks
 from .jvm_rows import label_of
@@ -68,6 +69,8 @@ class Threads(Snapshot):
     moved: Set[str]
     shows_owners: bool
     known_owners: Dict[str, Part]
+    known_runners: Dict["re.Pattern[str]", Part]
+    known_able: Dict[str, Wakers]
     timers: List[str]
     scheduled: Set[str]
     of_file: Set[str]
@@ -80,9 +83,19 @@ class Threads(Snapshot):
         """Returns who may end the wait of a thread at an object of the runtime."""
         reached = self.heap.reach_of(thread)
         if reached is None:
-            able = self.everybody.able_but_main if thread.name == MAIN else self.everybody.able
+            able = self.everybody.able_but_main if thread.name == MAIN else self.able_beside(parked_at(thread))
             return (able, *self.everybody.repeats)
         return self.reaching("reaches", reached)
+
+    def able_beside(self, lock: str) -> Wakers:
+        """Returns all who may end a wait at an object. Who waits to read with a lock has nothing of it: a reader that
+        has it gets it once more at once."""
+        if lock not in self.locks.readers:
+            return self.everybody.able
+        if lock not in self.known_able:
+            names = (self.names[key] for key in self.locks.readers[lock])
+            self.known_able[lock] = self.everybody.able.without(names)
+        return self.known_able[lock]
 
     def cancelling(self, thread: Thread) -> Part:
         """Returns who may interrupt a thread, or cancel what it waits for."""
@@ -111,6 +124,16 @@ class Threads(Snapshot):
             names += [REST] if self.lacks() else []
             self.known_owners[inside] = (Wakers(names, Strength.AGAINST, "owns"),) if names else ()
         return self.known_owners[inside]
+
+    def runners(self, place: Place) -> Part:
+        """Returns those who run a task of the kind that one waits for: what one of them runs, or has still to run."""
+        task = next((task for call, task in RUNS_TASK if call.fullmatch(place.call)), None)
+        if task is None:
+            return ()
+        if task not in self.known_runners:
+            names = [self.names[thread.key] for thread in self.threads if is_in(task, stack_of(thread))]
+            self.known_runners[task] = (wakers("guess", names),) if names else ()
+        return self.known_runners[task]
 
     def breaking(self, place: Place) -> Part:
         """Returns who may end a wait at a barrier or for a future by a limit: that of a thread that waits there too, or
@@ -245,7 +268,8 @@ def wait_for_some(thread: Thread, place: Place, name: str, snapshot: Threads) ->
     if place.has(OUTSIDE):
         return wait_for_outside(thread, name, f"{place.call}: the state doesn't show what is outside of the JVM")
     reached = snapshot.heap.reach_of(thread)
-    part = (*snapshot.able(thread), *snapshot.owners(thread), *snapshot.breaking(place))
+    near = snapshot.runners(place) if reached is None else ()
+    part = (*near, *snapshot.able(thread), *snapshot.owners(thread), *snapshot.breaking(place))
     because = [premise(INNER if reached is None else REACHES)]
     is_receiver = is_receive(place) and is_own_loop(stack_of(thread))
     is_meant = reached is not None and reached.is_alone and not awaits_task(thread) and not NEVER_MEANT.fullmatch(
