@@ -1,10 +1,8 @@
 """The roots of a stall: the components of the stuck ones that no edge leaves, and who is stuck behind which of them.
 
 An edge leads from each stuck one to each stuck one of its list, for waits of both kinds, or through a hub, but not to
-those who may end its wait only in another way, as by a timer that nobody has started, nor to those who wait for the end
-of others of the list, as a main thread does. From one with a lock that others want, and that anybody of its process may
-free, none leads to those who wait for the same, as for a connection of a pool, and have no such lock. So a root isn't
-made by a pick, and is as small as it may be.
+those who may end its wait only in another way, as by a timer that nobody has started. Of a list where any one is enough
+it leads to those alone who are near, as `nearness` has it. So a root is as small as it may be.
 """
 from __future__ import annotations
 

@@ -285,7 +285,7 @@ class Screen:
                       for (what, whom, frames), alike in groups.items()}
         rows = list(groups.items())
         if rows[MEMBERS:]:  # (whose locks others want, isn't left out)
-            rows.sort(key=lambda row: self.waits.wanting.keys().isdisjoint(row[1]))
+            rows.sort(key=lambda row: self.waits.nearness.wanting.keys().isdisjoint(row[1]))
         shown_groups, left = rows[:MEMBERS], [alike for _, alike in rows[MEMBERS:]]
         names = [self.names_of(list(map(self.name, alike))) for _, alike in shown_groups]
         wide = max(map(len, names))

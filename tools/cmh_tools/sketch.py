@@ -92,6 +92,11 @@ class Process:
             return UNKNOWN
         return ALL if self.is_for_all() else ANY
 
+    @property
+    def entry(self) -> str:
+        """The function of the job's own that it was started with, as far as its frames show that."""
+        return self.frames[-1].partition(" (")[0] if self.frames else ""
+
     def is_for_all(self) -> bool:
         """Whether all of some have to come, or one who comes to an end does."""
         return len(self.parts) > 1 or COMES in [group.how for group in self.parts[0]]

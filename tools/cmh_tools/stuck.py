@@ -13,21 +13,18 @@ from __future__ import annotations
 
 from collections import Counter, deque
 from copy import copy
-from functools import cached_property
 from itertools import chain
 from typing import Callable, Container, Dict, Iterable, List, Optional, Sequence, Set, Tuple
 
 from .files import Refusal
 from .model import COMES, Part, Sign, Strength, Wakers, once
+from .nearness import NEAR, Nearness
 from .rule import Decision, Subject
-from .sketch import ALL, ANY, DONE, ENDED, GOING, MANY, RUNS, UNKNOWN, Process, Sketch, has_how, lists_of_wakers, \
-    shared_lists, shared_waits
+from .sketch import ALL, ANY, DONE, ENDED, GOING, MANY, RUNS, UNKNOWN, Process, Sketch, lists_of_wakers, shared_lists, \
+    shared_waits
 
 MOST = 5_000_000  # names in all lists; more would take more memory than a machine may have
 NAMED, ABLE = Strength.NAMED, Strength.ABLE
-OWNS, PROCESS = "owns", "same-process"  # hows
-NEAR = ("inside", "guess")  # those of able ones that are nearer to what is waited at than who merely reaches it
-JOINS = ("Thread.join", "pthread_join", "asyncio.wait", "await of a package", "ThreadPoolExecutor.awaitTermination")
 Key = Tuple[int, int]  # of a list: its length, and the sum of its hashes
 
 
@@ -58,11 +55,6 @@ def share_more(sketch: Sketch) -> bool:
         if counts[key] > 1:
             number += use_one_list(users_of_one, key == row[0], known, key)
     return number > 0
-
-
-def owners_of(parts: Sequence[Part]) -> List[str]:
-    """Returns those who have what a wait is for, as far as the system says so."""
-    return [name for part in parts for wakers in part if wakers.how == OWNS for name in wakers.names()]
 
 
 def is_plain(process: Process) -> bool:
@@ -136,6 +128,7 @@ class Waits:
 
     def number_nodes(self) -> None:
         """Sets whom each one still waits for, with the hubs of lists, and who waits for each."""
+        self.nearness = Nearness(self)
         self.has_ended = ENDED in self.kinds
         self.left: List[List[int]] = [[] for _ in self.processes]
         self.hubs: Dict[int, int] = {}
@@ -244,52 +237,7 @@ class Waits:
                          for wakers, names in rows if names)
             nodes = self.nodes_of_part(left) or nodes
         near = [self.index[name] for wakers, names in rows if wakers.how in NEAR for name in names]
-        return self.without_joiners(index, self.without_rivals(index, near or nodes))
-
-    @cached_property
-    def wanting(self) -> Dict[int, List[int]]:
-        """Those who wait for a lock of each one that has some."""
-        wanting: Dict[int, List[int]] = {}
-        for index, process in enumerate(self.processes):
-            names = owners_of(process.parts) if has_how(process, OWNS) else ()
-            for owner in names:
-                wanting.setdefault(self.index[owner], []).append(index)
-        return wanting
-
-    @cached_property
-    def at_same(self) -> Dict[Tuple[str, ...], List[int]]:
-        """Those who wait at one object by one operation, and have no lock that anybody waits for."""
-        rows: Dict[Tuple[str, ...], List[int]] = {}
-        for index, process in enumerate(self.processes):
-            if process.objects and index not in self.wanting:
-                rows.setdefault((process.operation, *process.objects), []).append(index)
-        return rows
-
-    def without_rivals(self, index: int, nodes: List[int]) -> List[int]:
-        """Returns the nodes of a list without those who wait for the same as one that has a lock which others wait for,
-        as for a connection of a pool: they lack it too, and have nothing. Only of one that anybody may free."""
-        if index not in self.wanting:
-            return nodes
-        process, part = self.processes[index], self.subjects[index].parts[0]
-        hows = [wakers.how for wakers in part if wakers.strength in (NAMED, ABLE)]
-        rivals = set(self.at_same.get((process.operation, *process.objects), ()))
-        if hows != [PROCESS] or not rivals:
-            return nodes
-        return [other for other in self.without_hubs(nodes) if other not in rivals] or nodes
-
-    def without_joiners(self, index: int, nodes: List[int]) -> List[int]:
-        """Returns the nodes of a list without those of the waiter's process that only wait for the end of others of it,
-        or of the waiter: they don't end its wait as the first, unless all have to come."""
-        process, inside = self.processes[index], {*nodes, index}
-        left = [node for node in nodes if node >= self.number or self.processes[node].site != process.site
-                or not self.is_joiner(node, inside)]
-        return left if {*left} - {index} and not process.is_collective else nodes
-
-    def is_joiner(self, index: int, whom: Set[int]) -> bool:
-        """Whether one can't go on before one of some others has ended."""
-        left = self.left[index]
-        is_behind = not whom.isdisjoint(left) if self.kinds[index] == ALL else whom.issuperset(left)
-        return self.processes[index].operation in JOINS and is_behind
+        return self.nearness.of(index, near or nodes)
 
     def has_hub(self, index: int) -> bool:
         return any(node >= self.number for node in self.left[index])

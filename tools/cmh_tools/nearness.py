@@ -1,0 +1,122 @@
+"""Who of those that may end a wait is likely to do it as the first. By this alone roots are as small as they may be: the
+rule decides without it who is stuck.
+
+Near is who stands inside of what is waited at, as in a method of it. One that has what others wait for, and that
+anybody of its process may free, is likely to wait for one of these: else it were stuck twice. Who only waits for the
+end of others of a list frees none of them.
+"""
+from __future__ import annotations
+
+from functools import cached_property
+from typing import TYPE_CHECKING, Dict, Iterable, List, Sequence, Set, Tuple
+
+from .model import Part, Strength
+from .sketch import ALL, ANY, has_how
+
+if TYPE_CHECKING:
+    from .stuck import Waits
+
+OWNS, PROCESS = "owns", "same-process"  # hows
+NEAR = ("inside", "guess")  # those of able ones that are nearer to what is waited at than who merely reaches it
+HAVE = (OWNS, "inside")  # those who have what is waited for, or are likely to have it
+JOINS = ("Thread.join", "pthread_join", "asyncio.wait", "await of a package", "ThreadPoolExecutor.awaitTermination")
+
+
+def owners_of(parts: Sequence[Part]) -> List[str]:
+    """Returns those who have what a wait is for, as far as the system says so."""
+    return [name for part in parts for wakers in part if wakers.how == OWNS for name in wakers.names()]
+
+
+class Nearness:
+    """Who is near to whom, of some waits."""
+
+    def __init__(self, waits: Waits) -> None:
+        self.waits = waits
+        self.lists: Dict[int, Set[int]] = {}  # those of hubs
+
+    @cached_property
+    def wanting(self) -> Dict[int, List[int]]:
+        """Those who wait for a lock of each one that has some."""
+        wanting: Dict[int, List[int]] = {}
+        for index, process in enumerate(self.waits.processes):
+            names = owners_of(process.parts) if has_how(process, OWNS) else ()
+            for owner in names:
+                wanting.setdefault(self.waits.index[owner], []).append(index)
+        return wanting
+
+    @cached_property
+    def at_same(self) -> Dict[Tuple[str, ...], List[int]]:
+        """Those who wait at one object by one operation, and have no lock that anybody waits for."""
+        rows: Dict[Tuple[str, ...], List[int]] = {}
+        for index, process in enumerate(self.waits.processes):
+            if process.objects and index not in self.wanting:
+                rows.setdefault((process.operation, *process.objects), []).append(index)
+        return rows
+
+    @cached_property
+    def behind(self) -> Dict[int, List[int]]:
+        """Those who wait for each one alone, as for a lock that it has, or since it stands inside of that."""
+        behind: Dict[int, List[int]] = {}
+        for index, subject in enumerate(self.waits.subjects):
+            for part in subject.parts if self.waits.kinds[index] == ANY else ():
+                names = {name for wakers in part if wakers.how in HAVE
+                         for name in self.waits.decision.left_of(wakers, part) if name != subject.name}
+                if len(names) == 1:
+                    behind.setdefault(self.waits.index[names.pop()], []).append(index)
+        return behind
+
+    def of(self, index: int, nodes: List[int]) -> List[int]:
+        """Returns those of the nodes of a list who are likely to free one as the first."""
+        return self.without_joiners(index, self.of_holder(index, nodes))
+
+    def of_holder(self, index: int, nodes: List[int]) -> List[int]:
+        """Returns the nodes of a list of one that has what others wait for, and that anybody of its process may free:
+        those who are behind it alone, and first of these who is there for something else than it. Where there are none,
+        those that don't wait for the same as it, as for a connection of a pool: they lack it too, and have nothing."""
+        process, parts = self.waits.processes[index], self.waits.subjects[index].parts
+        hows = [wakers.how for wakers in parts[0] if wakers.strength in (Strength.NAMED, Strength.ABLE)]
+        if hows != [PROCESS] or index not in self.behind and index not in self.wanting:
+            return nodes
+        near = [other for other in self.all_behind(index) if self.is_among(other, nodes)]
+        first = [other for other in near if self.waits.processes[other].entry != process.entry]
+        return first or near or self.without_rivals(index, nodes)
+
+    def all_behind(self, index: int) -> List[int]:
+        """Returns those that wait for one alone, or for one of these, in their order."""
+        todo, found = [index], {index}
+        for other in todo:
+            new = [waiter for waiter in self.behind.get(other, ()) if waiter not in found]
+            found.update(new)
+            todo += new
+        return sorted(found - {index})
+
+    def is_among(self, index: int, nodes: Iterable[int]) -> bool:
+        """Whether one is among some nodes, or in the list of a hub of these."""
+        return any(node == index or node >= self.waits.number and index in self.list_of(node) for node in nodes)
+
+    def list_of(self, hub: int) -> Set[int]:
+        if hub not in self.lists:
+            self.lists[hub] = set(self.waits.left[hub])
+        return self.lists[hub]
+
+    def without_rivals(self, index: int, nodes: List[int]) -> List[int]:
+        """Returns the nodes of a list of one with a lock without those who wait for the same as it, and have none."""
+        process = self.waits.processes[index]
+        rivals = set(self.at_same.get((process.operation, *process.objects), ()) if index in self.wanting else ())
+        others = [other for other in self.waits.without_hubs(nodes) if other not in rivals] if rivals else []
+        return others or nodes
+
+    def without_joiners(self, index: int, nodes: List[int]) -> List[int]:
+        """Returns the nodes of a list without those of the waiter's process that only wait for the end of others of it,
+        or of the waiter: they don't end its wait as the first, unless all have to come."""
+        processes = self.waits.processes
+        process, inside = processes[index], {*nodes, index}
+        left = [node for node in nodes if node >= self.waits.number or processes[node].site != process.site
+                or not self.is_joiner(node, inside)]
+        return left if {*left} - {index} and not process.is_collective else nodes
+
+    def is_joiner(self, index: int, whom: Set[int]) -> bool:
+        """Whether one can't go on before one of some others has ended."""
+        left = self.waits.left[index]
+        is_behind = not whom.isdisjoint(left) if self.waits.kinds[index] == ALL else whom.issuperset(left)
+        return self.waits.processes[index].operation in JOINS and is_behind
