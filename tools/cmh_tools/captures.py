@@ -98,6 +98,11 @@ class Capture:
         has_two = SYSTEMS[self.system].is_counted or READER in self.command or "--kill" in self.targets
         return 2 if has_two or seconds <= LONG else 3
 
+    def is_light(self) -> bool:
+        """Whether more looks cost the system little: none holds a process or dumps a heap, and none ends it."""
+        is_heavy = READER in self.command or self.has_stacks or bool({"--heap", "--kill"}.intersection(self.targets))
+        return not (is_heavy or self.held())
+
     def pause(self, seconds: float) -> float:
         """Returns the seconds from one look to the next."""
         return seconds / (self.looks(seconds) - 1)

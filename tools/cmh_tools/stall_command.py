@@ -8,6 +8,7 @@ import os
 import re
 import shlex
 import shutil
+import signal
 import tempfile
 import time
 from dataclasses import replace
@@ -39,6 +40,7 @@ from .timeout_command import add_options, seconds_of
 from .watch import KEPT, Check, watch
 
 RECORD = "stall.json"  # what a folder has, by which it is explained again
+SECONDS, LONGER = 5.0, 60.0  # from the first look to the last, and where only who sleeps leaves the answer open
 # A process in a state of Linux that runs Python.
 PYTHON = re.compile(r'^cmh-linux \{"pid": (\d+),.*"exe": "([^"]*/python3[^"/]*)"', re.M)
 NO_STACKS = '"with_stacks": false'  # in a state of Linux
@@ -74,8 +76,9 @@ def parser() -> Parser:
     add("words", metavar="SYSTEM TARGET", nargs="*", help="what to take, or a folder that was made before")
     add("--with", dest="others", metavar="WORD", nargs="+", action="append", default=[],
         help="take another SYSTEM TARGET.. at the same time, and join both")
-    add("--seconds", type=seconds_of, default=5.0,
-        help="the time from the first look to the last (5): beyond 10 there is a third one halfway")
+    add("--seconds", type=seconds_of,
+        help="the time from the first look to the last (5, and 60 more if the answer hangs on who sleeps): beyond 10 "
+        "there is a third one halfway")
     add("--stacks", action="store_true",
         help="of linux PID: read the stacks of those at a futex too, which holds each for a moment")
     add("--kill", action="store_true",
@@ -168,8 +171,8 @@ def look_at_service(parser: Parser, asked: argparse.Namespace) -> int:
         parser.error("--service UNIT stands alone: what is taken is its main process, and --keep is 1 or more")
 
     def look(pid: str, path: str, check: Check) -> int:
-        return stall(captures_for("linux", [pid], False, False), argparse.Namespace(**{**vars(asked), "output": path}),
-                     check)
+        more = {"output": path, "seconds": asked.seconds or SECONDS}
+        return stall(captures_for("linux", [pid], False, False), argparse.Namespace(**{**vars(asked), **more}), check)
 
     return watch(asked.service, asked.output or f"stalls-{asked.service}", asked.keep, look)
 
@@ -183,20 +186,48 @@ def part_row(part: Capture, seconds: float) -> Dict[str, object]:
 def stall(parts: List[Capture], asked: argparse.Namespace, check: Check = lambda: None) -> int:
     """Takes the states, keeps them, and explains them, once they are checked."""
     parts = [replace(part, label=label) for part, label in zip(parts, labels_of([part.system for part in parts]))]
+    seconds = asked.seconds or SECONDS
     for part in parts:
         check_needs(part)
-        say(f"{' '.join([part.system, *part.targets])}: {part.warning(asked.seconds)}")
+        say(f"{' '.join([part.system, *part.targets])}: {part.warning(seconds)}")
     with new_folder(asked.output or f"stall-{parts[0].system}-{time.strftime('%Y%m%d-%H%M%S')}") as folder:
-        with home_with(asked.cookie_file) as env:
-            texts = {name: text for states in take(parts, asked.seconds, env) for name, text in states.items()}
-        check()
-        record = {"version": 1, "parts": [part_row(part, asked.seconds) for part in parts]}
-        texts[RECORD] = json.dumps(record, indent=1) + "\n"
-        folder.write([(folder.at(name), text) for name, text in texts.items()])
-        status = explain(folder, asked)
+        keep_states(folder, parts, seconds, asked, check)
+        made = new_dump(folder) if asked.seconds is None and all(part.is_light() for part in parts) else None
+        if made is not None and Explanation(made).is_hidden_by_sleepers() and has_longer(folder, parts, asked):
+            made = None
+        status = explain(folder, asked, made)
     if status:
         say(f"This answer is kept in {shown(folder.path)}, with all that was seen")
     return status
+
+
+def keep_states(folder: Folder, parts: List[Capture], seconds: float, asked: argparse.Namespace,
+                check: Check = lambda: None) -> None:
+    """Takes the states within some seconds, and keeps them once they are checked."""
+    with home_with(asked.cookie_file) as env:
+        texts = {name: text for states in take(parts, seconds, env) for name, text in states.items()}
+    check()
+    record = {"version": 1, "parts": [part_row(part, seconds) for part in parts]}
+    texts[RECORD] = json.dumps(record, indent=1) + "\n"
+    folder.write([(folder.at(name), text) for name, text in texts.items()])
+
+
+def has_longer(folder: Folder, parts: List[Capture], asked: argparse.Namespace) -> bool:
+    """Takes the states anew, within a longer time. Returns whether they are there: Ctrl-C ends the look alone, and one
+    that has ended meanwhile leaves what was seen of it."""
+    try:
+        say(f"NOT KNOWN so far, as who sleeps may only come back to its loop: looking for {LONGER:g} s. Ctrl-C ends "
+            "that")
+        keep_states(folder, parts, LONGER, asked)
+    except Failure as failure:
+        say(f"{failure}. This is the answer by what was seen before")
+        return False
+    except SystemExit:
+        if SIGNALS.number != signal.SIGINT:
+            raise
+        SIGNALS.forget()
+        return False
+    return True
 
 
 @contextlib.contextmanager
@@ -233,17 +264,27 @@ def home_with(cookie: Optional[str]) -> Iterator[Dict[str, str]]:
 # From what is kept
 
 
-def explain(folder: Folder, asked: argparse.Namespace) -> int:
-    """Makes the dump of the states in a folder, and says the answer."""
+def new_dump(folder: Folder) -> Dump:
+    """Returns the dump of the states in a new folder, which has no facts yet."""
+    parts = parts_of(folder)
+    if len(parts) == 1:
+        return Dump(sketch_of_part(folder, parts[0], Facts()))
+    dumps = {folder.at(f"{part['label']}.json"): Dump(sketch_of_part(folder, part, Facts())) for part in parts}
+    texts = dict(row for path, dump in dumps.items() for row in texts_of(dump, path, []))
+    return Dump(sketch_for("join", list(map(notes_path, dumps)), Facts(), texts.__getitem__))
+
+
+def explain(folder: Folder, asked: argparse.Namespace, made: Optional[Dump] = None) -> int:
+    """Makes the dump of the states in a folder, unless it is there already, and says the answer."""
     parts = parts_of(folder)
     is_one = len(parts) == 1
     if not is_one:
         for part in parts:
-            made = Dump(sketch_of_part(folder, part, facts_of(folder, facts_path(folder, part["label"]))))
-            proposals = keep_dump(folder, made, folder.at(f"{part['label']}.json"))
-            write_facts(folder, facts_path(folder, part["label"]), made.sketch, proposals)
+            half = Dump(sketch_of_part(folder, part, facts_of(folder, facts_path(folder, part["label"]))))
+            proposals = keep_dump(folder, half, folder.at(f"{part['label']}.json"))
+            write_facts(folder, facts_path(folder, part["label"]), half.sketch, proposals)
     path = facts_path(folder)
-    made = Dump(sketch_of_parts(folder, parts, facts_of(folder, path)), numbers_in(folder))
+    made = made or Dump(sketch_of_parts(folder, parts, facts_of(folder, path)), numbers_in(folder))
     proposals = keep_dump(folder, made, folder.at("dump.json"))
     if is_one:
         write_facts(folder, path, made.sketch, proposals)

@@ -27,6 +27,10 @@ class Signals:
             self.is_held = True
             sys.exit(128 + number)
 
+    def forget(self) -> None:
+        """Goes on after a signal that has ended a part of the command alone. The next one ends it all."""
+        self.is_held, self.number = False, 0
+
     @contextlib.contextmanager
     def hold(self) -> Iterator[None]:
         """Holds signals back from what is done here as a whole."""
