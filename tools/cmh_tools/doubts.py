@@ -39,7 +39,7 @@ MORE = re.compile(", (?:and|or one) ")  # before what a clause says besides
 SIGNS = {
     Sign.TICKS: "ran its loop between the looks and woke nobody",
     Sign.SLEEPS: "sleeps",
-    Sign.POLLS: "ran {} again between the looks and woke nobody",
+    Sign.POLLS: "called {} again between the looks and woke nobody",
     Sign.GOES_ON: "goes on",
     Sign.UNKNOWN: "isn't understood",
     Sign.BLOCKED: "waits itself",
@@ -219,7 +219,7 @@ def subject(one: Doubt, who: str, reason: str = "") -> str:
     if HOWS[one.how][0] is Strength.AGAINST:
         return f"{who}, which {HOWS[one.how][1]}"
     if one.sign in SIGNS:
-        return f"{who}, which {SIGNS[one.sign].format(reason or 'its call')}"
+        return f"{who}, which {SIGNS[one.sign].format(f'{reason}()' if reason else 'its function')}"
     return f"{who}, which {told_reason(reason)}"
 
 

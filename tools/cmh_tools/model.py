@@ -66,7 +66,7 @@ HOWS: Dict[str, Tuple[Strength, str]] = {
     "inside": (Strength.ABLE, "stands inside of what it waits at"),
     "subscribes": (Strength.ABLE, "may send what it waits for"),
     "guess": (Strength.ABLE, "is likely to be the one, by the form of the state"),
-    "cancels": (Strength.AGAINST, "may cancel or fail a wait"),
+    "cancels": (Strength.AGAINST, "may cancel a wait"),
     "kills": (Strength.AGAINST, "may kill one that waits"),
     "closes": (Strength.AGAINST, "may close what one waits at"),
     "releases": (Strength.AGAINST, "may give back what another one has"),

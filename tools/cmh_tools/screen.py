@@ -36,6 +36,7 @@ LINES, WORDS = 10, 60  # before what to do, and to the end of a group
 # Operations of those that wait for the end or the answer of others, and have nothing themselves that others want.
 FOR_OTHERS = re.compile(r"join|WaitGroup|CountDownLatch|HttpClient|http|sync$|invokeAll|awaitTermination", re.I)
 UNNAMED = re.compile(r"\S+\+0x[0-9a-f]+")  # a frame of a program without symbols
+ADDRESS = re.compile(r"\(?0x[0-9a-f]+\)?")
 # What those of a system are called, and of systems that are joined by the beginning of their site.
 NOUNS = {"jvm": "thread", "go": "goroutine", "mpi": "rank", "rabbitmq": "service"}
 SITES = {"backend ": "backend", "prepared transaction ": "prepared transaction", "connection ": "connection",
@@ -293,7 +294,7 @@ class Screen:
                  for name, (columns, alike) in zip(names, shown_groups)]
         lines += [f"  and {sum(map(len, left)):,} more"] if left else []
         are_all = all(whom == "" for _, whom, _ in groups)
-        who = "Each waits for another one of them" if are_all else "The others wait for one of them"
+        who = f"{'Each' if are_all else 'The others'} can be freed by another one of them alone"
         return lines + ([f"  {who}{FOR_WHICH}"] if is_of_any else [])
 
     def is_of_any(self, waiting: List[int]) -> bool:
@@ -595,12 +596,12 @@ class Screen:
         doubts = self.this.doubts_of(first)
         number = len(doubts)
         doubters = sum(max(1, len(doubt.who)) for doubt in doubts)
-        several = f"none of {'these' if number <= DOUBTS else number} ever"
+        several = f"none of {'these' if number <= DOUBTS else f'the {number}'} ever"
         who = {1: "it never", 2: "neither ever"}.get(doubters, several)
         what, numbers = f"{who} frees {self.doubted(first)}", ",".join(str(doubt.number) for doubt in doubts)
         if not self.more.has_true:
             return [f"if {what}, it is certain."]
-        words, command = f"if {what}, it is certain: say so by", self.more.asks(f"--true {numbers}")
+        words, command = f"is it true that {what}? Then it is certain:", self.more.asks(f"--true {numbers}")
         return [f"{words} {command}"] if len(words) + len(command) < self.width - HEAD else [words, AsItIs(command)]
 
     def to_see_more(self) -> List[str]:
@@ -631,11 +632,14 @@ def cut_name(text: str, most: int) -> str:
 
 
 def cut_words(text: str, most: int) -> str:
-    """Returns a text without words in its middle, if it is long: the end tells it from others."""
+    """Returns a text without words in its middle, if it is long: the end tells it from others. Nobody misses an address.
+    """
     first, *rest = text.split(" ")
+    gone = ""
     while rest and len(text) > most:
+        gone = gone or ("" if ADDRESS.fullmatch(rest[0]) else "..")
         rest.pop(0)
-        text = " ".join([first, "..", *rest])
+        text = " ".join(filter(None, [first, gone, *rest]))
     return text if len(text) <= most else cut_name(first.rpartition(".")[2] or first, most)
 
 
