@@ -24,7 +24,7 @@ from . import State
 from .base import DAY, Parser, Reach, Snapshot, duration, is_loop, without_sleep
 from .go_frames import (CONNECTION, NEEDS_ALL, WATCHER, Call, Place, accepts_for_library, callers_in, cut_short,
                         entry_of, is_at_connection, is_jobs, is_of_runtime, lacks_wait, misplaced, own_calls,
-                        receiver_locked, receivers_past_lock, serves_request, takes_state)
+                        receiver_locked, receivers_past_lock, serves_request, takes_state, watches_client)
 from .go_starters import MAIN, UNSEEN, Starters, unseen_starter
 from .go_text import ADDRESS, AGAIN, LOOKED, TAKER, WHERE, Dump, Goroutine, read_dumps
 
@@ -123,7 +123,12 @@ class GoParser(Parser):
         return Reading(dump.path, self.NAME, rows, missing_of(dump, shown_ones), CUT)
 
     def begin(self, readings: List[Reading]) -> None:
-        """Names the goroutines, and sees which have left their place between two states."""
+        """Names the goroutines, and sees which have left their place between two states. Each state is asked for by a
+        client of its own, so who watches that one tells nothing of the program."""
+        lasting = set.intersection(*({goroutine.number for goroutine in dump.goroutines} for dump in self.dumps))
+        for reading in readings:
+            reading.rows = [goroutine for goroutine in reading.rows
+                            if goroutine.number in lasting or not watches_client(goroutine)]
         for earlier in self.dumps[:-1]:
             if earlier.is_last:
                 raise Refusal(f"{earlier.path}: SIGQUIT ends the program, so no state of it comes after this one")

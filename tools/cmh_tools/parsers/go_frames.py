@@ -65,6 +65,7 @@ CHANNEL = re.compile(r"runtime\.chan(?:send|recv)")
 LOCK = re.compile(r"sync\.\(\*(?:Mutex|RWMutex|WaitGroup|Cond|Once)\)\.\w+|internal/sync\.\(\*Mutex\)\.\w+")
 CONDITION, WAITS_AT_IT = "sync.(*Cond).Wait", "sync.runtime_notifyListWait"
 NEEDS_ALL = frozenset(("sync.WaitGroup.Wait", "sync.RWMutex.Lock", "golang.org/x/sync/errgroup.Group.Wait"))
+WATCHES_CLIENT = "net/http.(*connReader).startBackgroundRead"
 GOEXIT = "runtime.goexit"  # to which each goroutine returns
 OUTERMOST = (GOEXIT, "runtime.main")
 # What calls a function of the job's own for each request.
@@ -222,6 +223,11 @@ def is_at_connection(goroutine: Goroutine) -> bool:
     """Whether a goroutine waits for the other end of a connection, also where one of the library's reads for it."""
     calls = {"IO wait": AT_CONNECTION, "select": ROUND_TRIPS}.get(goroutine.state, ())
     return any(step.function in calls for step in goroutine.frames)
+
+
+def watches_client(goroutine: Goroutine) -> bool:
+    """Whether a goroutine only sees whether the client of a request is still there, as of the one for the state."""
+    return goroutine.created_by == WATCHES_CLIENT and not any(map(is_own, goroutine.frames))
 
 
 def takes_state(goroutine: Goroutine) -> bool:
