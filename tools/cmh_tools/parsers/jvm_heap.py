@@ -22,11 +22,12 @@ KINDS = TASK, QUEUED, READERS, JOIN, FUTURE, FUTURES, SUPPLIED, POOL, REACH, HOO
     "task", "queued", "readers", "join", "future", "futures", "supplied", "pool", "reach", "hook", "timer", "stream",
     "lost")
 UNREAD = "server"  # a kind of rows that older readers print, and of which nothing is read
-ROW = {"thread": LABEL, "frames": [str], "waits": re.compile("|".join(KINDS)), "for": [LABEL], "besides": [LABEL],
+FRAME = re.compile(r"(?s).+:-?\d{1,9}")
+ROW = {"thread": LABEL, "frames": [FRAME], "waits": re.compile("|".join(KINDS)), "for": [LABEL], "besides": [LABEL],
        "reach": (type(None), [LABEL]), "is_full": bool, "is_direct": bool, "is_all": bool}
 # In rows of the first version some keys are missing where they say nothing, and there are others, which nobody reads.
 OLD = {f"{key}?": object for key in ("object", "tasks", "sites", "answers", "fields", "held")}
-OLD_ROW: Dict[str, Any] = {"thread": LABEL, "frames": [str], "waits": re.compile("|".join([*KINDS, UNREAD])),
+OLD_ROW: Dict[str, Any] = {"thread": LABEL, "frames": [FRAME], "waits": re.compile("|".join([*KINDS, UNREAD])),
                            "for": [LABEL], "besides?": [LABEL], "reach?": [LABEL], "is_full?": bool,
                            "is_direct?": bool, "is_all?": bool, **OLD}
 VERSIONS: Dict[Any, Dict[str, Any]] = {1: OLD_ROW, 2: ROW}
