@@ -19,7 +19,7 @@ AS_TIMES = {"ppoll": 2, "pselect6": 4, "select": 4, "epoll_pwait2": 3, "rt_sigti
 OPERATION, BY_CLOCK = 127, 256  # of a futex: what it does, and that its limit is by the clock
 WAITS, LOCKS = 0, (6, 7)  # of these a limit is how long, or a time of the clock; of others when it ends
 IS_A_TIME = 1  # TIMER_ABSTIME
-DAY = 86400.0
+FAR = 3600.0  # seconds
 RAN_AT = re.compile(r"^se\.exec_start *: *([0-9.]+)", re.M)
 PROCESSOR = 36  # its place in `stat`, behind the name: the one where a thread has last run
 
@@ -47,7 +47,7 @@ def limits_of(call: str, args: List[int], memory: Memory) -> Tuple[Optional[floa
 
 
 def far_limits(pid: str) -> Dict[str, float]:
-    """Returns in how many seconds the limits of those threads of a process end that wait for more than a day, each by
+    """Returns in how many seconds the limits of those threads of a process end that wait for more than an hour, each by
     the number that the process itself has for it."""
     limits: Dict[str, float] = {}
     memory, calls = Memory(f"/proc/{pid}"), calls_of(platform.machine())
@@ -56,7 +56,7 @@ def far_limits(pid: str) -> Dict[str, float]:
         numbers = [int(word, 16) for word in words[1:]]
         is_known = len(numbers) > 6 and numbers[6] >> 32
         ends = limits_of(calls.get(int(words[0]), ""), numbers, memory)[1] if is_known else None
-        if ends is not None and ends > DAY:
+        if ends is not None and ends > FAR:
             inner = field(try_slurp(f"/proc/{pid}/task/{tid}/status"), "NSpid").split()
             limits[inner[-1] if inner else tid] = ends
     memory.close()

@@ -12,7 +12,7 @@ import signal
 import tempfile
 import time
 from dataclasses import replace
-from typing import Any, Dict, Iterator, List, Optional, Sequence
+from typing import Any, Dict, Iterator, List, NamedTuple, Optional, Sequence
 
 from .captures import (HEAP, SYSTEMS, Capture, captures_for, check_needs, fault_of, labels_of, listeners_at, take,
                        way_to_python, with_sockets, with_stacks, without_debugger)
@@ -41,6 +41,8 @@ from .watch import KEPT, Check, watch
 
 RECORD = "stall.json"  # what a folder has, by which it is explained again
 SECONDS, LONGER = 5.0, 60.0  # from the first look to the last, and where only who sleeps leaves the answer open
+LOOKS = 2  # as often it is looked anew, if that may decide what is open
+OPEN = (Headline.NOT_KNOWN, Headline.IDLE)
 # A process in a state of Linux that runs Python.
 PYTHON = re.compile(r'^cmh-linux \{"pid": (\d+),.*"exe": "([^"]*/python3[^"/]*)"', re.M)
 NO_STACKS = '"with_stacks": false'  # in a state of Linux
@@ -68,6 +70,14 @@ MORE = """status: 0 no process is stuck, 3 some process is stuck, 5 none is stuc
 1 the state is refused, 2 the command line is, 4 out of memory, an I/O error, or the state couldn't be taken;
 of --timeout as for timeout(1): 124 it took longer, 125 a fault of cmh-stall, 126 and 127 it can't be run, or else its
 own"""
+
+
+class Look(NamedTuple):
+    """A further look: at what, for how long, and why."""
+
+    parts: List[Capture]
+    seconds: float
+    why: str
 
 
 def parser() -> Parser:
@@ -192,13 +202,42 @@ def stall(parts: List[Capture], asked: argparse.Namespace, check: Check = lambda
         say(f"{' '.join([part.system, *part.targets])}: {part.warning(seconds)}")
     with new_folder(asked.output or f"stall-{parts[0].system}-{time.strftime('%Y%m%d-%H%M%S')}") as folder:
         keep_states(folder, parts, seconds, asked, check)
-        made = new_dump(folder) if asked.seconds is None and all(part.is_light() for part in parts) else None
-        if made is not None and Explanation(made).is_hidden_by_sleepers() and has_longer(folder, parts, asked):
-            made = None
+        made = look_on(folder, parts, asked) if asked.seconds is None else None
         status = explain(folder, asked, made)
     if status:
         say(f"This answer is kept in {shown(folder.path)}, with all that was seen")
     return status
+
+
+def look_on(folder: Folder, parts: List[Capture], asked: argparse.Namespace) -> Dump:
+    """Looks anew as often as that may decide what is open, and costs little. Returns the dump of what was seen last."""
+    made, seconds = new_dump(folder), SECONDS
+    for _ in range(LOOKS):
+        further = next_look(Explanation(made), parts, seconds)
+        if further is None or not has_more(folder, further, asked):
+            break
+        made, parts, seconds = new_dump(folder), further.parts, further.seconds
+    return made
+
+
+def next_look(explanation: Explanation, parts: List[Capture], seconds: float) -> Optional[Look]:
+    """Returns how to look anew, if that may decide what is open: at the other ends of connections, or for longer."""
+    if not all(part.is_light() for part in parts):
+        return None
+    pids = clients_in(parts[0], explanation) if len(parts) == 1 and explanation.headline in OPEN else []
+    if pids:
+        more = Capture("linux", pids, label="linux")
+        return Look([*parts, more], seconds, "some wait at connections: looking at these too")
+    if explanation.is_hidden_by_sleepers() and seconds < LONGER:
+        return Look(parts, LONGER, f"who sleeps may only come back to its loop: looking for {LONGER:g} s")
+    return None
+
+
+def clients_in(part: Capture, explanation: Explanation) -> List[str]:
+    """Returns the processes of a system in which some wait at connections, as Linux knows them."""
+    if part.system in ("jvm", "python") and waits_outside(explanation):
+        return part.targets
+    return listeners_at(part.targets[0])[:1] if part.system == "go" and reads(explanation) else []
 
 
 def keep_states(folder: Folder, parts: List[Capture], seconds: float, asked: argparse.Namespace,
@@ -212,13 +251,12 @@ def keep_states(folder: Folder, parts: List[Capture], seconds: float, asked: arg
     folder.write([(folder.at(name), text) for name, text in texts.items()])
 
 
-def has_longer(folder: Folder, parts: List[Capture], asked: argparse.Namespace) -> bool:
-    """Takes the states anew, within a longer time. Returns whether they are there: Ctrl-C ends the look alone, and one
-    that has ended meanwhile leaves what was seen of it."""
+def has_more(folder: Folder, look: Look, asked: argparse.Namespace) -> bool:
+    """Takes the states anew. Returns whether they are there: Ctrl-C ends the look alone, and what has ended meanwhile
+    leaves what was seen of it."""
     try:
-        say(f"NOT KNOWN so far, as who sleeps may only come back to its loop: looking for {LONGER:g} s. Ctrl-C ends "
-            "that")
-        keep_states(folder, parts, LONGER, asked)
+        say(f"Open so far, as {look.why}. Ctrl-C ends that")
+        keep_states(folder, look.parts, look.seconds, asked)
     except Failure as failure:
         say(f"{failure}. This is the answer by what was seen before")
         return False
@@ -428,7 +466,7 @@ def command_words(words: Sequence[str]) -> str:
 
 def next_step(folder: Folder, parts: List[Dict[str, Any]], explanation: Explanation) -> Iterator[str]:
     """Yields what to do where something is undecided, and nobody is stuck."""
-    if explanation.headline not in (Headline.NOT_KNOWN, Headline.IDLE):
+    if explanation.headline not in OPEN:
         return
     paths = [facts_path(folder)] if len(parts) == 1 else [facts_path(folder, part["label"]) for part in parts]
     where = " and ".join(shown(path) for path in paths if folder.has(path))

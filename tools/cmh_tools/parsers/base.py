@@ -22,6 +22,7 @@ from ..snapshots import APART, CUT, ONCE, OVERLAP, PARTS, WHOLE, Moments, Readin
 from . import State
 
 DAY = 86400.0
+FAR = 3600.0  # seconds: a limit that ends later helps nobody who looks on
 UNITS = ((2 * DAY, DAY, "days"), (7200.0, 3600.0, "h"), (120.0, 60.0, "min"), (0.0, 1.0, "s"))
 LOOPS = re.compile(r"(?i).*\.(?:\w*loop|(?:run|serve|monitor)\w*)")
 KEPT = 65536  # lists of reasons whose assumptions are kept

@@ -21,7 +21,7 @@ from ..model import COMES, Part, Sign, Wakers, all_of, any_of, unseen, wakers
 from ..sketch import GOING, LIMIT, SYSTEM, Process, Sketch, blocked, garbled, goes_on, premise, rests, unknown
 from ..snapshots import APART, CUT, GONE, ONCE, Reading
 from . import State
-from .base import DAY, Parser, Reach, Snapshot, duration, is_loop, without_sleep
+from .base import FAR, Parser, Reach, Snapshot, duration, is_loop, without_sleep
 from .go_frames import (CONNECTION, NEEDS_ALL, WATCHER, Call, Place, accepts_for_library, callers_in, cut_short,
                         entry_of, is_at_connection, is_jobs, is_of_runtime, lacks_wait, misplaced, own_calls,
                         receiver_locked, receivers_past_lock, serves_request, takes_state, watches_client)
@@ -224,7 +224,7 @@ class GoParser(Parser):
         sign = Sign.TICKS if len(own) == 1 and not serves_request(goroutine) else Sign.SLEEPS
         count = self.look_of(goroutine) if is_short else None
         why = f"sleeps for {duration(nanoseconds / 1e9)}" if nanoseconds else "sleeps"
-        if nanoseconds > DAY * 1e9:  # (which is no limit)
+        if nanoseconds > FAR * 1e9:  # (which is no limit)
             return rests(name, why, any_of(unseen("limit")), [SYSTEM], operation="timed sleep")
         return goes_on(name, place.idle or why, [premise(LIMIT)], sign, operation="timed sleep", count=count)
 

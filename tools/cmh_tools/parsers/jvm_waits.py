@@ -214,7 +214,7 @@ def wait_with_limit(thread: Thread, place: Place, name: str, snapshot: Threads) 
 
 
 def wait_for_ages(thread: Thread, place: Place, name: str, snapshot: Threads) -> Process:
-    """A wait whose limit is none, as it ends in more than a day: of one that only sleeps that is all."""
+    """A wait whose limit is none, as it ends in more than an hour: of one that only sleeps that is all."""
     ends = unseen("limit", f"its limit ends in {duration(thread.far)}")
     if place.has(SLEEP):
         return rests(name, f"sleeps for {duration(thread.far)}", any_of(*snapshot.cancelling(thread), ends), [SYSTEM],

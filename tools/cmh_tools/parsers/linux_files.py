@@ -8,7 +8,7 @@ from ..model import Part, Sign, Wakers, any_of, unseen, wakers
 from ..sketch import LIMIT
 from .linux_children import FOR_SIGNAL, wait_for_end, wait_for_signals
 from .linux_frames import is_of_system
-from .base import DAY, duration
+from .base import FAR, duration
 from .linux_limits import far_limit, timer_comes_in
 from .linux_text import MASTER, READS, SIGMASK, TERMINAL, WRITES, Machine, Owner, Row, Thread
 from .linux_waits import COMES, EPOLLS, FILES, MOVES, SETS, UNTIMED, Ease, Wait, against, int32, names_of_epoll, \
@@ -204,7 +204,7 @@ def wait_at_anonymous(machine: Machine, thread: Thread, words: List[str]) -> Wai
         return not_shown("its timer isn't armed, and whoever has it may do that", "timer")
     if more.startswith("it_value:"):
         seconds = timer_comes_in(more)
-        if seconds is not None and seconds > DAY:
+        if seconds is not None and seconds > FAR:
             return Wait(any_of(*far_limit(machine, thread, seconds)), "timer", is_exact=True)
         comes = "its timer comes" + (f" in {duration(seconds)}" if seconds is not None else "")
         return Wait(what="timer", sign=Sign.SLEEPS, why=comes, premises=[LIMIT])

@@ -1,4 +1,4 @@
-"""How long the limit of a wait is, and for how long it has lasted. A limit that ends in more than a day is none: it may
+"""How long the limit of a wait is, and for how long it has lasted. A limit that ends in more than an hour is none: it may
 end the wait in another way.
 """
 from __future__ import annotations
@@ -7,7 +7,7 @@ import re
 from typing import Optional, Tuple
 
 from ..model import Part, wakers
-from .base import DAY, duration
+from .base import FAR, duration
 from .linux_text import Machine, Thread
 from .linux_waits import SLEEPS, has_limit
 
@@ -29,8 +29,8 @@ def waited_of(thread: Thread) -> Optional[float]:
 
 
 def is_far(thread: Thread) -> bool:
-    """Whether the limit of a wait ends in more than a day."""
-    return has_limit(thread) and (limit_of(thread)[1] or 0.0) > DAY
+    """Whether the limit of a wait ends in more than an hour."""
+    return has_limit(thread) and (limit_of(thread)[1] or 0.0) > FAR
 
 
 def far_limit(machine: Machine, thread: Thread, seconds: float) -> Part:
