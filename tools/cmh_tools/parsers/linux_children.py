@@ -6,7 +6,7 @@ from typing import List, Optional, Sequence, Tuple
 from ..model import Part, Sign, Strength, Wakers, any_of, unseen, wakers
 from ..sketch import LIMIT
 from .linux_text import Machine, Owner, Thread
-from .linux_waits import EPOLLS, FILES, SETS, UNTIMED, Ease, Wait, against, has_limit, int32, \
+from .linux_waits import AT_FILES, EPOLLS, FILES, UNTIMED, Ease, Wait, against, has_limit, int32, \
     not_shown, not_understood, only_sleeps, users_of, with_end
 
 GROUP, SHELL, KEYLESS = "group", "shell", "keyless"  # assumptions
@@ -259,7 +259,7 @@ def timed_parents(machine: Machine, owner: Owner) -> List[Thread]:
     call that isn't understood. After that they may end it, as the module subprocess of Python does."""
     parent = machine.by_pid.get(owner.parent)
     timed = [thread for thread in parent.living if thread.events and thread.arguments
-             and (has_limit(thread) or thread.call not in (*SETS, *EPOLLS))] if parent else []
+             and (has_limit(thread) or thread.call not in AT_FILES)] if parent else []
     pipes = {words[0] for words in owner.files.values() if words[0].startswith("pipe:[")} if timed else set()
     return [thread for thread in timed
             if any(thread.owner.files.get(str(fd), [""])[0] in pipes for fd, *_ in thread.events)]

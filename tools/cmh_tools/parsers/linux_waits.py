@@ -17,6 +17,7 @@ ACCEPTS = ("accept", "accept4")
 SETS = ("poll", "ppoll", "select", "pselect6")
 EPOLLS = ("epoll_wait", "epoll_pwait", "epoll_pwait2")
 MOVES = ("sendfile", "splice", "tee")
+AT_FILES = (*READ, *WRITE, *ACCEPTS, *SETS, *EPOLLS, *MOVES)  # calls that wait at files
 SLEEPS = ("nanosleep", "clock_nanosleep")
 SUSPENDS = ("pause", "rt_sigsuspend")
 QUEUES = ("mq_timedsend", "mq_timedreceive")

@@ -24,7 +24,9 @@ HEAD = {"version": int, "process": str, "pid": int, "seconds": (int, float), "un
         "alarm?": (int, float), "on_alarm?": TEXT, "on_child?": TEXT, "handlers?": {str: str}, "foreign_timer?": FLAG,
         "others?": NUMBER, "queues?": NUMBER, "parent?": int, "host?": str, "began?": object, "ended?": object,
         "python?": str, "reader?": NUMBER, "space?": TEXT, "time?": str}
-FRAME = ({"in": str, "file": str, "line": NUMBER, "has?": {str: object}}, ERROR)
+OBJECT = {"type": str, "id": re.compile("0x[0-9a-f]{1,16}"), "all?": [object], "done?": bool, "name?": str, ...: object}
+VALUE = (OBJECT, type(None), str, int, float, bool, [object], ERROR)
+FRAME = ({"in": str, "file": str, "line": NUMBER, "has?": {str: VALUE}}, ERROR)
 # What the rows of threads and tasks have alike: `holds`, `ends`, `cancels` and `releases` may be missing in older ones.
 PLACE = {"of": int, "name": str, "moved": bool, "frames": [FRAME], "holds?": (type(None), [str], ERROR),
          "ends?": ([str], ERROR), "cancels?": (bool, ERROR), "releases?": bool, "taken?": [str], "around?": [str],
@@ -36,8 +38,9 @@ ROWS: Dict[str, Dict[str, Any]] = {
     "thread": {**PLACE, "thread": int, "native": NUMBER, "daemon": bool, "main": bool, "stops": NUMBER, "spent": NUMBER,
                "new_stops?": NUMBER, "asleep?": FLAG, "loop": TEXT, "call": (type(None), {str: object}),
                "connections?": object},
-    "task": {**PLACE, "task": str, "number": int, "loop": str, "wait": int, "waits": object, "limit": bool,
-             "sets": [str], "parent?": str, "completes?": object, "connections?": object, "asks?": object},
+    "task": {**PLACE, "task": str, "number": int, "loop": str, "wait": int, "waits": (OBJECT, type(None), ERROR),
+             "limit": bool, "sets": [str], "parent?": str, "completes?": object, "connections?": object,
+             "asks?": object},
     "asked": {"of": int, "asked": str, "loop": str, "name": str},
     "child": {"of": int, "child": NUMBER, "name": str, "ended": FLAG},
     "semaphore": {"of": int, "semaphore": TEXT, "count": int},
