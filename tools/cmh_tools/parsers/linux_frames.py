@@ -35,8 +35,8 @@ RUN = re.compile(r"std::(thread::_State_impl<.*tuple<|_Function_handler<.*?\), )
 TAKES = re.compile(r"(\w+::)*((\w+_)?queue_)?(take|pop|get|dequeue|next|receive|recv|poll|fetch"
                    r"|(a?wait|wait_for)_?(work|job|task))(_\w+)?")
 # Functions that a thread is there for, if it begins with one that names nothing.
-LOOPS = re.compile(r"(\w+::)*(run|loop|work|serve|consume|((worker|thread|main|event|run|work|job|queue)_?)+"
-                   r"(loop|main|func|fn|proc|entry|body)?)", re.I)
+LOOPS = re.compile(r"(\w+::)*(run\w*|work|serve|consume|\w*(loop|thread|worker|main)"
+                   r"|((worker|thread|main|event|run|work|job|queue)_?)+(loop|main|func|fn|proc|entry|body)?)", re.I)
 PLACE = re.compile(r".*\+0x[0-9a-f]+")  # a frame without a name
 NAMELESS = re.compile(r".*\blambda(#\d+)?")
 PARSERS = {"python": "python", "java": "jvm", "beam": "erlang", "go": "go", "mpi": "mpi"}
@@ -191,7 +191,13 @@ def takes_next(thread: Thread) -> bool:
     frames = program_frames(thread)
     is_at_take = len(frames) == 2 and TAKES.fullmatch(frames[0].partition(" (")[0]) is not None
     is_in_loop = is_in_own_loop(thread) and is_for_alike(thread)
-    return not has_asked(thread) and (is_in_loop or is_known(thread) and is_at_take)
+    return not has_asked(thread) and (is_in_loop or is_known(thread) and is_at_take and not is_called_back(thread))
+
+
+def is_called_back(thread: Thread) -> bool:
+    """Whether a library has called the innermost function of the program, as an event loop does for what has come."""
+    are_common = [COMMON.fullmatch(step.module) is not None for step in own_steps(thread)]
+    return any(are_common[are_common.index(False):]) if False in are_common else False
 
 
 def is_for_alike(thread: Thread) -> bool:

@@ -139,7 +139,10 @@ class MariadbParser(Parser):
                   *self.statement_limit(row, look))
         if not look.head["metadata_locks"]:
             self.warnings[NO_PLUGIN] = None
-            return blocked(name, any_of(unseen("unshown", NO_PLUGIN), *limits), [SYSTEM], reason=NO_PLUGIN, **more)
+            names = likely_holders(row, snapshot)
+            part: Part = (wakers("guess", names),) if names else ()
+            parts = any_of(*part, unseen("unshown", NO_PLUGIN), *limits)
+            return blocked(name, parts, [SYSTEM], reason=NO_PLUGIN, **more)
         parts = metadata_parts(row, kind, snapshot)
         if not parts:
             why = "who has the lock isn't shown"
@@ -282,6 +285,14 @@ def metadata_parts(row: Row, kind: str, snapshot: Server) -> List[Part]:
     names = list(dict.fromkeys(name for holders in things.values() for name in holders))
     why = "which of several it waits for isn't shown"
     return any_of(wakers("listed", names), unseen("unshown", why)) if names else []
+
+
+def likely_holders(row: Row, snapshot: Server) -> List[str]:
+    """Returns who is likely to keep a statement out that waits for a metadata lock, where the server doesn't show that:
+    whose statement takes such a lock that keeps all out, or for one like that also who has a transaction open."""
+    rows = [other for other in snapshot.look.of("thread") if other is not row and "odd" not in other]
+    return [snapshot.names[other["thread"]] for other in rows if is_before(other, row)
+            or takes_strong(row) and other["thread"] in snapshot.look.transactions]
 
 
 def is_before(other: Row, row: Row) -> bool:
