@@ -97,7 +97,8 @@ TASK = re.compile(r"(?:FutureTask|CompletableFuture|ForkJoinTask)\.(?:get|join)"
 POOLED = re.compile(r"java\.util\.concurrent\.(?:ThreadPoolExecutor\$Worker|ForkJoinWorkerThread)\.run")
 # Calls that end once a task of a kind has run, each with a frame of those that run such tasks.
 RUNS_TASK = [(re.compile(call), re.compile(frame)) for call, frame in (
-    (r"FutureTask\.get|AbstractExecutorService\.invoke(?:All|Any)", r"java\.util\.concurrent\.FutureTask\.run"),
+    (r"FutureTask\.get|AbstractExecutorService\.invoke(?:All|Any)",
+     r"java\.util\.concurrent\.(?:FutureTask\.run|ThreadPoolExecutor\.runWorker)"),
     (r"CompletableFuture\.(?:get|join)", r"java\.util\.concurrent\.CompletableFuture\$Async(?:Supply|Run)\.run"),
     (r"ForkJoinTask\.(?:get|join|invoke)", r"java\.util\.concurrent\.ForkJoinTask\.doExec"),
     (r"\w+\$TrustedFuture\.get", r"com\.google\.common\.util\.concurrent\.TrustedListenableFutureTask\.run"))]

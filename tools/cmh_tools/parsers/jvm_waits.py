@@ -131,7 +131,8 @@ class Threads(Snapshot):
         if task is None:
             return ()
         if task not in self.known_runners:
-            names = [self.names[thread.key] for thread in self.threads if is_in(task, stack_of(thread))]
+            names = [self.names[thread.key] for thread in self.threads
+                     if is_in(task, stack_of(thread)) and not place_of(thread).idle]
             self.known_runners[task] = (wakers("guess", names),) if names else ()
         return self.known_runners[task]
 

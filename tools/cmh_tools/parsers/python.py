@@ -36,6 +36,7 @@ STATES = "the states"  # a path for all, as they say themselves when they were t
 # Operations of one that waits for what comes next, and of one that waits for a connection.
 RECEIVES = re.compile(r"\w*Queue\.get|(\w*Connection|\w*[Ss]ocket|SSL\w*|StreamReader)\.(recv|read)\w*"
                       r"|connection\.wait")
+QUEUE = "Queue.get"
 ACCEPTS = re.compile(r"(.*[.:])?_?(accept\w*|serve_forever)")
 FOR_THE_END = "Event.wait"  # where a program's main function waits until a signal ends it
 MODULE = ".<module>"
@@ -294,9 +295,17 @@ def sign_of(subject: Subject, wait: Wait, operation: str, own: List[str], has_jo
         return Sign.TICKS if is_idle else Sign.SLEEPS
     if wait.sign is not Sign.BLOCKED:
         return wait.sign
-    awaits_next = (RECEIVES.fullmatch(operation) or awaits_data(subject)) and is_in_own_loop(subject, own)
+    awaits_next = (takes_next(subject, operation) or awaits_data(subject)) and is_in_own_loop(subject, own)
     awaits_end = operation == FOR_THE_END and subject.is_main() and is_in_start(own)
     return Sign.RESTS if accepts or awaits_next or awaits_end else Sign.BLOCKED
+
+
+def takes_next(subject: Subject, operation: str) -> bool:
+    """Whether one waits for its next message. What a package takes from a queue for it may be a connection of a pool.
+    """
+    package = package_call(subject.row.frames)
+    is_pool = operation.endswith(QUEUE) and package and not RECEIVES.fullmatch(package)
+    return RECEIVES.fullmatch(operation) is not None and not is_pool
 
 
 def awaits_data(subject: Subject) -> bool:
