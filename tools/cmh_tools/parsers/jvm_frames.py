@@ -95,13 +95,14 @@ LEAVES = re.compile(r"java\.lang\.Thread\.join|java\.util\.concurrent\.\w+\.(?:a
 # Calls that end once a task has run, and the frames of threads of pools, which run tasks.
 TASK = re.compile(r"(?:FutureTask|CompletableFuture|ForkJoinTask)\.(?:get|join)")
 POOLED = re.compile(r"java\.util\.concurrent\.(?:ThreadPoolExecutor\$Worker|ForkJoinWorkerThread)\.run")
-# Calls that end once a task of a kind has run, each with a frame of those that run such tasks.
+# Calls that end once a task of a kind has run, or a value is loaded, each with a frame of those who do such a thing.
 RUNS_TASK = [(re.compile(call), re.compile(frame)) for call, frame in (
     (r"FutureTask\.get|AbstractExecutorService\.invoke(?:All|Any)",
      r"java\.util\.concurrent\.(?:FutureTask\.run|ThreadPoolExecutor\.runWorker)"),
     (r"CompletableFuture\.(?:get|join)", r"java\.util\.concurrent\.CompletableFuture\$Async(?:Supply|Run)\.run"),
     (r"ForkJoinTask\.(?:get|join|invoke)", r"java\.util\.concurrent\.ForkJoinTask\.doExec"),
-    (r"\w+\$TrustedFuture\.get", r"com\.google\.common\.util\.concurrent\.TrustedListenableFutureTask\.run"))]
+    (r"\w+\$TrustedFuture\.get", r"com\.google\.common\.util\.concurrent\.TrustedListenableFutureTask\.run"),
+    (r"LocalCache\$\w+\.get\w*", r"com\.google\.common\.cache\.LocalCache\$LoadingValueReference\.load\w+"))]
 BARRIER = re.compile(r"java\.util\.concurrent\.CyclicBarrier\.(?:await|dowait)")
 # Calls that come to threads without a reference.
 FINDS_THREADS = re.compile(r"java\.lang\.(?:ThreadGroup\.(?:enumerate|interrupt|stop)"
