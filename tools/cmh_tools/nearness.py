@@ -1,9 +1,9 @@
-"""Who of those that may end a wait is likely to do it as the first. By this alone roots are as small as they may be: the
-rule decides without it who is stuck.
+"""Who of those that may end a wait is likely to do it as the first. By this alone roots are as small as they may be.
+Who is stuck the rule decides without it.
 
 Near is who stands inside of what is waited at, as in a method of it. One that has what others wait for, and that
-anybody of its process may free, is likely to wait for one of these: else it were stuck twice. Who only waits for the
-end of others of a list frees none of them.
+anybody of its process may free, is likely to wait for one of these: two circles at once are rare. Who only waits for
+the end of others of a list frees none of them.
 """
 from __future__ import annotations
 
@@ -83,12 +83,12 @@ class Nearness:
 
     def all_behind(self, index: int) -> List[int]:
         """Returns those that wait for one alone, or for one of these, in their order."""
-        todo, found = [index], {index}
+        todo, behind = [index], {index}
         for other in todo:
-            new = [waiter for waiter in self.behind.get(other, ()) if waiter not in found]
-            found.update(new)
+            new = [waiter for waiter in self.behind.get(other, ()) if waiter not in behind]
+            behind.update(new)
             todo += new
-        return sorted(found - {index})
+        return sorted(behind - {index})
 
     def is_among(self, index: int, nodes: Iterable[int]) -> bool:
         """Whether one is among some nodes, or in the list of a hub of these."""

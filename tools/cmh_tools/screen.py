@@ -632,8 +632,8 @@ def cut_name(text: str, most: int) -> str:
 
 
 def cut_words(text: str, most: int) -> str:
-    """Returns a text without words in its middle, if it is long: the end tells it from others. Nobody misses an address.
-    """
+    """Returns a text without words in its middle, if it is long: the end tells it from others. No dots stand for an
+    address."""
     first, *rest = text.split(" ")
     gone = ""
     while rest and len(text) > most:

@@ -81,9 +81,9 @@ class Thread:
     monitor under its frames, or nothing where that isn't shown, and `owned` has the class of each lock that it owns, if
     `lists_owned` says that these are printed. By another state, if its frames are the same there, `same_as` has the
     objects that it waited at in the first one, `has_stood` says that it has used no processor time, and `has_ticked`
-    that it has used some. `far` is in how many seconds its limit ends, if that is in more than an hour. `is_of_file` says
-    that it was read by itself, beside what jstack prints, `is_closed` that no more frames may follow in its text, and
-    `stack` is what `stack_of` has found."""
+    that it has used some. `far` is in how many seconds its limit ends, if that is in more than an hour. `is_of_file`
+    says that it was read by itself, beside what jstack prints, `is_closed` that no more frames may follow in its text,
+    and `stack` is what `stack_of` has found."""
 
     name: str
     key: str

@@ -16,7 +16,8 @@ from .base import Snapshot, duration
 from .jvm_frames import (AGAIN, BARRIER, CLEANER, COMPUTES, CONDITION, FROM_OUTSIDE, FUTURE, HAS_TASK, HAS_TIMER,
                          INTERRUPTIBLY, LONG, MEETS, NEVER_MEANT, OF_LOCKS, OF_QUEUES, OUTSIDE, POOLS_OWN, READS,
                          READS_OUTSIDE, READS_PIPE, REENTRANT, RUNS_TASK, SLEEP, SOCKETS, YIELDS, Place, awaits_task,
-                         caller_of, has_jobs, has_limit, is_for_the_end, is_in, is_own_loop, is_receive, place_of, short)
+                         caller_of, has_jobs, has_limit, is_for_the_end, is_in, is_own_loop, is_receive, place_of,
+                         short)
 from .jvm_heap import FUTURES, HOOK, JOIN, LOST, POOL, QUEUED, READERS, STREAM, SUPPLIED, HeapView, Reached, Wait
 from .jvm_locks import Locks
 from .jvm_rows import label_of

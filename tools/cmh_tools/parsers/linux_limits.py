@@ -1,5 +1,5 @@
-"""How long the limit of a wait is, and for how long it has lasted. A limit that ends in more than an hour is none: it may
-end the wait in another way.
+"""How long the limit of a wait is, and for how long it has lasted. A limit that ends in more than an hour is none: it
+may end the wait in another way.
 """
 from __future__ import annotations
 
