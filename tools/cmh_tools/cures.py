@@ -330,7 +330,7 @@ def unit_words(this: Cures, unit: str) -> str:
     left = f" and {len(below) - PIDS:,} more" if below[PIDS:] else ""
     what = "its ranks" if unit in WHOLE.values() else "what it has begun"
     more = f", with {what} (PID {', '.join(map(str, below[:PIDS]))}{left})" if below else ""
-    again = ", whose supervisor starts it again" if this.system == "erlang" else ""
+    again = ", which its supervisor may start again" if this.system == "erlang" else ""
     return f"end {short_name(unit)}{again}: {shown(command)}" if command else f"restart {called}{more}"
 
 

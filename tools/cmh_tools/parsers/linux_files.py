@@ -10,7 +10,7 @@ from .linux_children import FOR_SIGNAL, wait_for_end, wait_for_signals
 from .linux_frames import is_of_system
 from .base import FAR, duration
 from .linux_limits import far_limit, timer_comes_in
-from .linux_text import MASTER, READS, SIGMASK, TERMINAL, WRITES, Machine, Owner, Row, Thread
+from .linux_text import EPOLL, MASTER, READS, SIGMASK, TERMINAL, WRITES, Machine, Owner, Row, Thread
 from .linux_waits import COMES, EPOLLS, FILES, MOVES, SETS, UNTIMED, Ease, Wait, against, int32, names_of_epoll, \
     not_shown, not_understood, users_of, with_end, with_sleeper
 
@@ -223,7 +223,7 @@ def wait_at_set(machine: Machine, thread: Thread) -> Wait:
     rows, owners = thread.events, [thread.owner]  # (who may add to the set)
     if thread.call in EPOLLS:
         words = thread.owner.files.get(str(int32(thread.arguments[0])))
-        if words is None or "eventpoll" not in words[0] or any(len(row) < 3 for row in rows):
+        if words is None or EPOLL not in words[0] or any(len(row) < 3 for row in rows):
             return not_understood("its epoll isn't known", "epoll")
         owners += [owner for name in names_of_epoll(thread) for owner in machine.with_file(name)]
         stale = [fd for fd, _, number in rows if is_other_file(thread.owner, fd, number)]

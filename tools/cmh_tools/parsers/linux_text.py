@@ -21,6 +21,7 @@ CARRIES, RING = "scm_fds:", "UserFiles:"  # a socket with descriptors on their w
 SIGMASK = "sigmask:"  # which signals a descriptor of them takes
 NO_KEYS = ("lock:", CARRIES, RING, SIGMASK)  # what of a descriptor doesn't tell its file from others
 MASTER, TERMINAL = "/dev/ptmx", "/dev/pts/"  # the end of a terminal that a program has, and how others' names begin
+EPOLL = "anon_inode:[eventpoll]"
 OPEN = "open "  # how the name of an open file begins, which several descriptors may share
 TID = 0x3FFFFFFF  # the number of a thread in the word of a lock, or of a join
 ENDED = "ZX"  # the states of those that have ended
@@ -215,7 +216,7 @@ class Machine:
         self.holders: Dict[str, List[Tuple[Owner, str]]] = {}
         for owner in self.owners:
             for fd, words in owner.files.items() if not owner.why else ():
-                for key in (*keys_of(words), *(key for key in (MASTER, TERMINAL) if words[0].startswith(key))):
+                for key in (*keys_of(words), *(key for key in (MASTER, TERMINAL, EPOLL) if words[0].startswith(key))):
                     self.holders.setdefault(key, []).append((owner, fd))
         self.carriers = [owner for owner in self.owners if not owner.why and owner.may_carry()]
         self.lists: Dict[Tuple[str, ...], List[str]] = {}

@@ -116,6 +116,7 @@ def against(machine: Machine, thread: Thread, owners: Iterable[Owner], how: str)
 
 
 def names_of_epoll(thread: Thread) -> List[str]:
-    """Returns the name of the open epoll at which a thread waits, which others may have too."""
+    """Returns the name of the open epoll at which a thread waits, which others may have too, or of any epoll where the
+    kernel doesn't tell one from another."""
     words = thread.owner.files.get(str(int32(thread.arguments[0])), []) if thread.call in EPOLLS else []
-    return [more for more in words[2:] if more.startswith(OPEN)]
+    return [more for more in words[2:] if more.startswith(OPEN)] or words[:1]

@@ -21,6 +21,7 @@ TABLE = [([str, re.compile("longstr"), str], [str, re.compile("bool"), bool],
           [str, re.compile("table|array|float|double|decimal|timestamp|void|binary"), object])]
 ARGUMENTS = (TABLE, re.compile(""))
 NUMBER = (COUNT, re.compile(""))  # nothing where the queue is down
+CHANNEL = re.compile(r"#PID<\d+\.\d+\.\d+>")
 SHAPES = {
     "list_connections": [object],
     "list_channels": [{"pid": str, "connection": str, "messages_unacknowledged": COUNT, ...: object}],
@@ -31,8 +32,8 @@ SHAPES = {
                        "destination_kind?": re.compile("queue|exchange"), ...: object}],
     "list_exchanges": [{"name": str, "type": str, "arguments?": ARGUMENTS, ...: object}],
     "list_policies": [{"name": str, "definition": (str, {str: object}), ...: object}],
-    "eval": ([], {"value": {"statistics": str, "published": [{"channel": str, "queue": str, "number": COUNT}],
-                            "taken?": [{"channel": str, "number": COUNT}]}, ...: object}),
+    "eval": ([], {"value": {"statistics": str, "published": [{"channel": CHANNEL, "queue": str, "number": COUNT}],
+                            "taken?": [{"channel": CHANNEL, "number": COUNT}]}, ...: object}),
     "server": ([], {"value": {"plugins": [str], "connections": [{"pid": str, "vhost": str, "timeout": int}],
                               "channels": [{"pid": str, "messages_unconfirmed": COUNT}]}, ...: object}),
     "taken": ([], {"began": float, "ended": float, "space": str}),
