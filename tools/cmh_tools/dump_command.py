@@ -7,7 +7,7 @@ from typing import Any, Dict, Iterator, List, Sequence, Tuple
 
 from .command import Parser, likely_path, notes_path, run
 from .dump import Dump
-from .facts import Facts, read_facts
+from .facts import FREES, HOLDS, Facts, kind_of_line, read_facts
 from .files import (MOST_OF_LINE, Failure, Refusal, decoded, hindrance, read_bytes, read_text, say, short_name, shown,
                     write_out, write_texts)
 from .making import sketch_for
@@ -16,7 +16,7 @@ from .proposals import Proposal, legend, propose
 from .parsers import MODULES
 from .sketch import KINDS, UNKNOWN, FactRow, Sketch, reason_of
 
-DID = {" holds ": "is held by", " frees ": "is freed by"}  # what names have to do with a word of a fact
+DID = {HOLDS: "is held by", FREES: "is freed by"}  # what names have to do with a word of a fact, by its kind
 SHOWN, NAMES = 8, 5  # as many unknown ones and lines of facts are shown, and names in one; the notes have all
 USAGE = """cmh-dump SYSTEM STATE.. [--facts FILE] -o DUMP
        cmh-dump linux --pid PID.. [--seconds S] [--stacks] [--save STATE] [--facts FILE] -o DUMP
@@ -107,7 +107,7 @@ def number_decided(sketch: Sketch) -> List[int]:
 
 def fact_line(row: FactRow, number: int) -> str:
     """Returns the line on what a fact did: how many it decided, and the names that each of its patterns took."""
-    did = next((words for mark, words in DID.items() if mark in row["text"]), "took")
+    did = DID.get(kind_of_line(row["text"]), "took")
     took = [f"; {short_name(word)} {did} {some_names(names)}" for word, names in row["took"].items() if names != [word]]
     return f"{shown(row['at'])}: {shown(row['text'], MOST_OF_LINE)}: decided {number:,}{''.join(took)}"
 

@@ -328,6 +328,14 @@ def fact_of(words: List[Word], number: int, text: str) -> Fact:
     return fact
 
 
+def kind_of_line(text: str) -> str:
+    """Returns the kind of the fact that a line is, or nothing if it is none."""
+    try:
+        return fact_of(list(words_of(text)), 0, text).kind
+    except Refusal:
+        return ""
+
+
 def without_nobody(kind: str, words: List[str]) -> List[str]:
     """Returns the names before 'or nobody'."""
     if words[-2:] != OR_NOBODY:
