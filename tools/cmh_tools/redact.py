@@ -14,6 +14,7 @@ from .making import known_premises
 from .model import HOWS, Anybody, Sign, Strength, Wakers, Who, once
 from .sketch import BARE, BY_HAND, DONE, FACT, NEEDED, OLDER, PREMISE, REST, SYSTEM, WORK, FactRow, Process, Sketch
 from .sketch_json import sketch_of, text_of_sketch, tree_of
+from .snapshots import AS_OF
 
 HIDDEN = "not shown"
 KEYS = {
@@ -25,7 +26,8 @@ KEYS = {
 }
 # Names that stand for others, and what is made of them.
 NAME = re.compile(r"(?:(?:fact )?facts:|(?:premise )?premise-|operation-|site|list[ -]|[pfo])\d+")
-AS_OF = ("as of the first of two states", "as of SIGQUIT, which ended the program")
+FIRST_OF = re.compile(AS_OF.format(r"(?:two|\d+)"))
+ENDED = "as of SIGQUIT, which ended the program"
 RUNS = (WORK, "a dead message will come to it", "a fact says so", "a message is ready for it",
         "computes", "it came after the first state", "it computes", "it has moved", "it is about to begin",
         "it is ready to continue", "it looks again and again", "it moved between two looks", "it only looks and sleeps",
@@ -62,8 +64,8 @@ OPERATIONS = {
     "rabbitmq": "consume handle reply publish take",
 }
 WORDS = {"", HIDDEN, BARE, BY_HAND, DONE, NEEDED, OLDER, REST, SYSTEM, NO_SITE, STUCK, RUNNING, "idle", "active",
-         *HOWS, *(sign.value for sign in Sign), *(strength.value for strength in Strength), *AS_OF, *RUNS,
-         "chan send", "chan receive", "IO wait", "MPI_Sendrecv sends",
+         *HOWS, *(sign.value for sign in Sign), *(strength.value for strength in Strength), *RUNS,
+         ENDED, "chan send", "chan receive", "IO wait", "MPI_Sendrecv sends",
          "MPI_Sendrecv receives", "traced by", "no call",
          *(it for words in OPERATIONS.values() for it in words.split())}
 
@@ -141,7 +143,7 @@ class Redaction:
     def is_own(self, text: str) -> bool:
         """Whether a text is on a list, or a name that stands for another."""
         text = text[len(TIMED):] if text.startswith(TIMED) else text
-        return text in self.words or NAME.fullmatch(text) is not None
+        return text in self.words or any(pattern.fullmatch(text) for pattern in (NAME, FIRST_OF))
 
     def listed(self, tree: Any) -> Any:
         """Returns a tree of JSON with the keys that may stay, in which other texts are replaced."""
