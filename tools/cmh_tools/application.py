@@ -188,13 +188,12 @@ class Application:
             process.become(Sign.GOES_ON, "a fact says so", [self.facts.reason(fact)])
         elif fact.kind == "ended":
             process.become(Sign.ENDED, NEEDED if fact.words else DONE, [self.facts.reason(fact)])
-        elif not self.decide_wait(process, fact):
-            return
-        fact.decided.append(process.name)
+        else:
+            self.decide_wait(process, fact)
 
-    def decide_wait(self, process: Process, fact: Fact) -> bool:
-        """Sets who ends the wait of one by a fact, and returns whether the fact says that. One that only waits again
-        may have been sent what it will see next time: no count tells, but the line `still`."""
+    def decide_wait(self, process: Process, fact: Fact) -> None:
+        """Sets who ends the wait of one by a fact, if the fact says that. One that only waits again may have been sent
+        what it will see next time: no count tells, but the line `still`."""
         whom, fault = ([], "") if fact.kind == "nobody" else self.names.of_fact(fact, process)
         if not fault and fact.kind == "all":
             whom, fault = self.left_of(process, fact, whom) if process.is_collective or len(
@@ -203,7 +202,7 @@ class Application:
             whom, fault = intersected(process, fact, whom)
         if fault:
             doubt(process, fault)
-            return False
+            return
         kept = kept_wakers(process)
         if process.sign in GOING:
             process.because, kept = [], (unseen(UNCOUNTED, POLLED),)
@@ -215,7 +214,6 @@ class Application:
         parts = all_of(whom, COMES, because, beside=kept) if fact.kind == "all" else \
             any_of(*([said(whom, because)] if whom else []), *kept)
         process.wait_for(parts, [because])
-        return True
 
     def starters(self, whom: List[str]) -> List[Wakers]:
         """Returns those who may start more like some, whom a pattern found, where the system says who they are."""
@@ -302,8 +300,6 @@ class Application:
                  and group.how == "listed"]
         left_out = (wakers("left-out", self.missing),) if self.missing else ()
         process.wait_for(any_of(*known, said(whom, *because), *free, *kept_wakers(process), *left_out), because)
-        for _, fact in facts:
-            fact.decided.append(process.name)
 
     def widen(self, process: Process) -> None:
         """Adds who else may answer, to a call that is known or whose object names whom it called."""
@@ -321,7 +317,6 @@ class Application:
         left_out = (wakers("left-out", self.missing),) if self.names.is_open(fact, process) and self.missing else ()
         process.wait_for(any_of(said(list(dict.fromkeys([*called, *more])), because), *kept_wakers(process), *left_out),
                          [because])
-        fact.decided.append(process.name)
 
     def settle_doubt(self, process: Process) -> None:
         """Settles by the line `still` that nothing has ended a wait between the looks."""
@@ -332,7 +327,6 @@ class Application:
         process.parts = [tuple(group for group in part if group.how != UNCOUNTED) for part in process.parts]
         if process.sign is Sign.BLOCKED or not process.is_open():  # (one with nothing to do is left out as before)
             process.because = [*process.because, self.facts.reason(still)]
-            still.decided.append(process.name)
 
 
 def is_undecided(process: Process) -> bool:
@@ -410,7 +404,6 @@ def drop_bystanders(facts: Facts, sketch: Sketch) -> None:
         process.parts = [part_without(part, known, kept, gone) for part in process.parts]
         for fact in gone.values() if process.sign in WAITING else ():
             process.because = [*process.because, facts.reason(fact)]
-            fact.decided.append(process.name)
 
 
 def part_without(part: Part, known: Dict[str, Fact], kept: Dict[Tuple[int, int], Wakers],

@@ -81,8 +81,8 @@ Word = Tuple[str, bool]  # of a line, with whether it stood in quotes
 @dataclass
 class Fact:
     """A line of facts. `words` are what follows the kind, but for `group` of 'all of GROUP' and for 'or nobody'. `used`
-    says whether it has matched, `took` has the names that each of its words took, and `decided` whom it has decided.
-    `lacks` says that a variable had no value where it matched."""
+    says whether it has matched, `took` has the names that each of its words took, and `lacks` says that a variable had
+    no value where it matched."""
 
     at: int
     text: str
@@ -93,7 +93,6 @@ class Fact:
     or_nobody: bool = False
     used: bool = False
     took: Dict[str, Dict[str, None]] = field(default_factory=dict)
-    decided: List[str] = field(default_factory=list)
     lacks: bool = False
 
     def values(self, process: Process) -> Values:
@@ -113,7 +112,7 @@ class Fact:
     def row(self, path: str) -> FactRow:
         """Returns what the notes have of it."""
         took = {word: list(names) for word, names in self.took.items()}
-        return {"at": self.called(path), "text": self.text, "took": took, "decided": self.decided}
+        return {"at": self.called(path), "text": self.text, "took": took}
 
 
 def is_variable(word: str) -> bool:

@@ -201,12 +201,11 @@ def frame(function: str, file: str | None = "", line: int | str | None = None) -
 
 
 class FactRow(TypedDict, total=False):
-    """What a sketch has of a line of facts: where it stands, the names that each of its words took, whom it decided."""
+    """What a sketch has of a line of facts: where it stands, and the names that each of its words took."""
 
     at: str
     text: str
     took: Dict[str, List[str]]
-    decided: List[str]
 
 
 def reason_of(row: FactRow) -> str:
