@@ -7,8 +7,8 @@ from typing import Dict, NamedTuple
 
 
 class Assumption(NamedTuple):
-    """`sentence` says it to the reader of an answer, `broken_by` what would break it, and `systems` where it is used.
-    """
+    """`sentence` says it to the reader of an answer, `broken_by` to the reader of this table what would break it, and
+    `systems` which parsers use it, or 'all'."""
 
     sentence: str
     broken_by: str

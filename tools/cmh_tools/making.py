@@ -52,5 +52,6 @@ def record(system: str, states: List[State]) -> Sketch:
 
 
 def known_premises() -> List[Tuple[str, str, str]]:
-    """Returns the assumptions that a sketch may have: of each its system, its name, and its sentence."""
-    return [(system, name, row.sentence) for name, row in ASSUMPTIONS.items() for system in MODULES]
+    """Returns the assumptions that a sketch may have: of each a system that uses it, its name, and its sentence."""
+    return [(system, name, row.sentence) for name, row in ASSUMPTIONS.items()
+            for system in (MODULES if row.systems == "all" else row.systems.split())]
