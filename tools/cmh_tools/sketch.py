@@ -248,7 +248,7 @@ class Sketch:
     begun_by: Dict[str, str] = field(default_factory=dict)
 
     def check(self) -> None:
-        """Raises Refusal if a name stands twice or names nobody, a list of ALL is empty, or a reason is missing."""
+        """Raises Refusal if a name stands twice or names nobody, or a reason is missing or is none."""
         names: Set[str] = set()
         for process in self.processes:
             if process.name in names:
