@@ -66,7 +66,7 @@ rabbitmq [NODE], postgres [CONNINFO [CONSOLE]], mariadb [HOST]. linux with --sta
 stop more meanwhile. With a FOLDER that it made, it says the answer again, with the facts that you have written there.
 Alone, it says what runs here, and the command for each. With --service it looks at a service of systemd, as a timer may
 do. With --timeout it runs a command, looks at all its processes if that takes longer, and then ends them."""
-MORE = """status: 0 no process is stuck, 3 some process is stuck, 5 none is stuck for certain and some are undecided,
+MORE = """status: 0 no process is stuck, 3 some process is stuck, 5 LIKELY DEADLOCK, IDLE OR STALLED or NOT KNOWN,
 1 the state is refused, 2 the command line is, 4 out of memory, an I/O error, or the state couldn't be taken;
 of --timeout as for timeout(1): 124 it took longer, 125 a fault of cmh-stall, 126 and 127 it can't be run, or else its
 own"""
