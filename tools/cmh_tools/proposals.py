@@ -1,6 +1,6 @@
 """The lines of facts that would decide who is unknown, for people to complete. Candidates that the state shows are
-filled in, marked as a guess, with a '?' behind them where others are as likely. Two waits that the state tells apart
-share a line only if it gives each its own."""
+filled in, marked as a guess, with a '?' behind them, unless arguments name them: others may be able to as well, and a
+line with it is refused. Two waits that the state tells apart share a line only if it gives each its own."""
 from __future__ import annotations
 
 import os
