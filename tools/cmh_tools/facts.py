@@ -47,9 +47,10 @@ NAME is a pattern of names of processes, a group, `others`, who are all that don
 it decide one who does), `creator` or `children` of the process that waits, where the state says who created whom, or
 `@WHAT`: all that hold WHAT. `{VARIABLE}` in it is the text that stands there before the arrow, or a value of the
 process that waits: an argument, or its own name, `{self}`. What has spaces stands in double quotes. A fact decides a
-wait only if the state doesn't show it, so that it is unknown. One whose OPERATION begins with 'timed' also decides one
-that waits with a limit: it only waits again. Such a one looks now and then, so that needs the line `still` too. A list
-that is too short invents a deadlock, so a NAME that fits no process leaves it unknown.
+wait only if the state doesn't show it, so that it is unknown, or shows no more than who can reach what is waited at: of
+these those whom the fact names count then. One whose OPERATION begins with 'timed' also decides one that waits with a
+limit: it only waits again. Such a one looks now and then, so that needs the line `still` too. A list that is too short
+invents a deadlock, so a NAME that fits no process leaves it unknown.
 
 The line `still` says that nothing moves in the system: what stood at the same place in all states was at one wait, also
 if nothing counts that.
