@@ -137,8 +137,8 @@ class Cures:
         return Step(unit, command, [] if command else pids)
 
     def ends(self) -> List[Tuple[Step, int]]:
-        """Returns what ends one at which most waits end, by a command, and then the one of those that wait for it for
-        whom most others wait, as it may keep what it gets; each with the number of these."""
+        """Returns what ends one at which most waits end, by a command, and then another undecided one that a command
+        ends, for whom most others wait, as it may keep what it gets; each with the number of these."""
         answer, processes = self.answer, self.answer.waits.processes
         counts = {index: others.number for index, others in [*answer.unknown_ones(1), *answer.idle_ones(1)]
                   if others.number}
