@@ -1,7 +1,8 @@
 """Those who have nothing to do, as workers that wait for work: left out where nobody waits for them, so that they don't
 drown the answer. That changes no verdict: nobody waits for one that is left out. One that may be waited for stays; so
 does one from whom or to whom a message is in transit. Where this is joined with what another system shows, that may say
-that its receiver waits, and without the message it would be stuck."""
+that its receiver waits, and without the message it would be stuck. Who stands for others that may not be there goes
+too if nobody waits for it, and isn't counted: it is nobody of the system."""
 from __future__ import annotations
 
 from collections import Counter
@@ -12,8 +13,8 @@ from .sketch import FACT, REST, WORK, Process, Sketch, lists_of_wakers
 
 
 def leave_out(sketch: Sketch, what: str) -> None:
-    """Leaves out those at rest that nobody waits for and no fact decides. Says how many in one line, as `what` in the
-    plural."""
+    """Leaves out those at rest that nobody waits for and no fact decides, and unknown stand-ins that nobody waits for.
+    Says in one line how many of those at rest, as `what` in the plural."""
     wanted = {name for names in lists_of_wakers(sketch.processes) for name in names}.union(*sketch.in_transit)
     out: Counter[str] = Counter()
     gone: Set[str] = set()
