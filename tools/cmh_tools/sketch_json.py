@@ -32,7 +32,7 @@ STRENGTHS = {strength.value: strength for strength in Strength}
 WAKER_KEYS = {"who", "how", "strength", "because", "what"}
 FLAGS = {"spoilt": "is_garbled", "collective": "is_collective"}
 KEYS = {"name", *KINDS, *TEXTS, *LISTS, *FLAGS, "count", "sign", "wait", "reason"}
-# Keys of older notes, which say nothing any more, but for who may end a wait besides.
+# Keys of older notes, which say nothing any more, but for who may end a wait besides, and that an unknown one is idle.
 OLD_KEYS = {"scope", "candidates", "spared", "besides", "proposal", "idle", "stays"}
 ALL_KEYS = KEYS | OLD_KEYS
 FORMS = (*KINDS, "sign")  # a row has just one of these keys
@@ -188,7 +188,7 @@ def process_called(name: object, row: Any, lists: Dict[str, List[str]], waits: D
     kinds = [kind for kind in FORMS if kind in row]
     if len(kinds) != 1:
         has = " and ".join(map(quote, kinds)) if kinds else "none"
-        raise Refusal(f"{who} has {has}: just one of {', '.join(map(quote, KINDS))} is needed")
+        raise Refusal(f"{who} has {has}: just one of {', '.join(map(quote, FORMS))} is needed")
     process = Process(name, Sign.UNKNOWN)
     set_texts(process, row, who)
     if kinds == ["sign"]:
