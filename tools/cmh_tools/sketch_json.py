@@ -78,7 +78,7 @@ def check_keys(tree: Any, keys: Set[str], who: str) -> None:
         raise Refusal(f"{who} has the key {quote(key)}, which isn't known{more}")
 
 
-def text_of(tree: Dict[str, object], key: str, who: str) -> Optional[str]:
+def text_of(tree: Dict[str, object], key: str, who: str = "") -> Optional[str]:
     """Returns the text of a key, or None if the key isn't there."""
     value = tree.get(key)
     if value is not None and not isinstance(value, str):
@@ -86,7 +86,7 @@ def text_of(tree: Dict[str, object], key: str, who: str) -> Optional[str]:
     return value
 
 
-def texts_of(tree: Dict[str, Any], key: str, who: str) -> List[str]:
+def texts_of(tree: Dict[str, Any], key: str, who: str = "") -> List[str]:
     """Returns the texts of a key, or none if the key isn't there."""
     value: List[str] = tree.get(key, [])
     if not is_texts(value):
@@ -111,7 +111,7 @@ def waits_of(tree: Dict[str, Any], lists: Dict[str, List[str]]) -> Dict[str, Lis
     waits = tree.get("waits", {})
     if not isinstance(waits, dict):
         raise Refusal("the sketch: 'waits' is no object")
-    return {name: parts_of(wait, f"{quote(name)} of 'waits'", lists) for name, wait in waits.items()}
+    return {name: parts_of(wait, lists, f"{quote(name)} of 'waits'") for name, wait in waits.items()}
 
 
 def set_top(sketch: Sketch, tree: Dict[str, Any]) -> None:
@@ -181,53 +181,52 @@ def process_of(row: Any, number: int, lists: Dict[str, List[str]], waits: Dict[s
 
 def process_called(name: object, row: Any, lists: Dict[str, List[str]], waits: Dict[str, List[Part]]) -> Process:
     """Returns the process of a row. A fault has what is said behind its name."""
-    who = ""
-    check_keys(row, ALL_KEYS, who)
+    check_keys(row, ALL_KEYS, "")
     if not isinstance(name, str):
-        raise Refusal(f"{who} has no 'name', or one that is no text")
+        raise Refusal(" has no 'name', or one that is no text")
     kinds = [kind for kind in FORMS if kind in row]
     if len(kinds) != 1:
         has = " and ".join(map(quote, kinds)) if kinds else "none"
-        raise Refusal(f"{who} has {has}: just one of {', '.join(map(quote, FORMS))} is needed")
+        raise Refusal(f" has {has}: just one of {', '.join(map(quote, FORMS))} is needed")
     process = Process(name, Sign.UNKNOWN)
-    set_texts(process, row, who)
+    set_texts(process, row)
     if kinds == ["sign"]:
-        set_sign(process, row, who)
+        set_sign(process, row)
         wait = row.get("wait", [])
-        process.parts = waits[wait] if isinstance(wait, str) and wait in waits else parts_of(wait, who, lists)
+        process.parts = waits[wait] if isinstance(wait, str) and wait in waits else parts_of(wait, lists)
     elif kinds == [ALL] and isinstance(row[ALL], str) and lists.get(row[ALL]) and "besides" not in row:
         key = f"{ALL} {row[ALL]}"
         waits[key] = waits.get(key) or all_of(lists[row[ALL]], COMES)
         process.sign, process.parts = Sign.BLOCKED, waits[key]
     else:
-        set_kind(process, kinds[0], row, who, lists)
+        set_kind(process, kinds[0], row, lists)
     return process
 
 
-def set_texts(process: Process, row: Dict[str, Any], who: str) -> None:
+def set_texts(process: Process, row: Dict[str, Any]) -> None:
     """Sets what is told of a process beside its wait."""
     for key in row:
         if key in TEXTS:
-            setattr(process, key, text_of(row, key, who) or "")
+            setattr(process, key, text_of(row, key) or "")
         elif key in LISTS:
-            setattr(process, key, texts_of(row, key, who))
+            setattr(process, key, texts_of(row, key))
         elif key == "count":
-            process.count = count_of(row[key], who)
+            process.count = count_of(row[key])
         elif key in FLAGS:
             if row[key] is not True:
-                raise Refusal(f"{who}: '{key}' isn't true")
+                raise Refusal(f": '{key}' isn't true")
             setattr(process, FLAGS[key], True)
     process.site = process.site or None
 
 
-def set_sign(process: Process, row: Dict[str, Any], who: str) -> None:
+def set_sign(process: Process, row: Dict[str, Any]) -> None:
     """Sets the sign of a process, and why it has it."""
     if row["sign"] not in SIGNS:
-        raise Refusal(f"{who}: 'sign' is none of {', '.join(SIGNS)}")
-    process.sign, process.reason = SIGNS[row["sign"]], text_of(row, "reason", who) or ""
+        raise Refusal(f": 'sign' is none of {', '.join(SIGNS)}")
+    process.sign, process.reason = SIGNS[row["sign"]], text_of(row, "reason") or ""
 
 
-def parts_of(wait: Any, who: str, lists: Dict[str, List[str]]) -> List[Part]:
+def parts_of(wait: Any, lists: Dict[str, List[str]], who: str = "") -> List[Part]:
     """Returns the parts of a wait: who may end each of them, and how."""
     if not isinstance(wait, list) or not set(map(type, wait)) <= {list}:
         raise Refusal(f"{who}: 'wait' is no list of lists")
@@ -251,40 +250,40 @@ def wakers_of(row: Any, where: str, lists: Dict[str, List[str]]) -> Wakers:
     return Wakers(who, STRENGTHS[strength], how, because, text_of(row, "what", where) or "")
 
 
-def count_of(value: object, who: str) -> Optional[str]:
+def count_of(value: object) -> Optional[str]:
     if isinstance(value, bool) or not isinstance(value, (int, float, str, type(None))):
-        raise Refusal(f"{who}: 'count' is no number and no text")
+        raise Refusal(": 'count' is no number and no text")
     return None if value is None else str(value)
 
 
-def set_kind(process: Process, kind: str, row: Dict[str, Any], who: str, lists: Dict[str, List[str]]) -> None:
+def set_kind(process: Process, kind: str, row: Dict[str, Any], lists: Dict[str, List[str]]) -> None:
     """Sets the sign, the wait and the reason of one that was written by hand, or by an older version."""
     value = row[kind]
     if kind in (ANY, ALL):
         names = lists[value] if isinstance(value, str) and value in lists else \
-            list(dict.fromkeys(texts_of(row, kind, who)))
-        set_wait(process, kind, names, texts_of(row, "besides", who), who)
+            list(dict.fromkeys(texts_of(row, kind)))
+        set_wait(process, kind, names, texts_of(row, "besides"))
     elif kind == RUNS:
         if value is not True and not isinstance(value, str):
-            raise Refusal(f"{who}: 'runs' is neither true nor a text")
+            raise Refusal(": 'runs' is neither true nor a text")
         process.sign = Sign.SLEEPS if premise(LIMIT) in process.because else Sign.GOES_ON
         process.reason = "" if value is True else value
     elif kind == UNKNOWN:
         if not isinstance(value, str) or not value.strip():
-            raise Refusal(f"{who}: 'unknown' needs a reason, as a text")
+            raise Refusal(": 'unknown' needs a reason, as a text")
         process.reason = value
         process.sign = Sign.RESTS if row.get("idle") else Sign.UNKNOWN
     elif value not in (DONE, NEEDED, "still needed"):
-        raise Refusal(f"{who}: 'ended' is neither '{DONE}' nor '{NEEDED}'")
+        raise Refusal(f": 'ended' is neither '{DONE}' nor '{NEEDED}'")
     else:
         process.sign, process.reason = Sign.ENDED, DONE if value == DONE else NEEDED
 
 
-def set_wait(process: Process, kind: str, names: List[str], besides: List[str], who: str) -> None:
+def set_wait(process: Process, kind: str, names: List[str], besides: List[str]) -> None:
     """Sets whom one waits for, any of them or all, and who may end its wait besides."""
     more = (wakers("kills", besides),) if besides else ()
     if kind == ALL and not names:
-        raise Refusal(f"{who}: '{ALL}' is empty: a process that waits for nothing 'runs', and one with a wait that "
+        raise Refusal(f": '{ALL}' is empty: a process that waits for nothing 'runs', and one with a wait that "
                       f"nothing can end has an empty '{ANY}'")
     process.sign = Sign.BLOCKED
     process.parts = all_of(names, COMES, beside=more) if kind == ALL else any_of(*of_names(names), *more)
