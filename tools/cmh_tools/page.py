@@ -26,8 +26,6 @@ LONG, LONG_LINK = 400, 80  # characters of a text in the table, and of a link
 HEADS = ("Process", "Answer", "Site", "What it does", "What it waits for", "Chain", "Rests on")
 ANSWERS = (("", "all"), ("stuck", "stuck"), ("likely", "likely stuck"), ("inroot", "in a root"),
            ("undecided", "undecided"), ("not_stuck", "not stuck"), ("ended", "has ended"))
-NO_PICTURE = "There is no picture here: where this page was made, Graphviz isn't installed, or couldn't draw it. " \
-    "The table has it all."
 MADE = "Made by cmh-explain {}. The program cmh, with the SHA-256 {}, has confirmed this answer. What cmh says of " \
     "the dump is proved. What is said of the state is tested, not proved."
 States = Sequence[Tuple[str, str]]
@@ -67,8 +65,7 @@ def listed(items: Iterable[str]) -> List[str]:
 class Page:
     """The page of an answer, which is `tree`. `states` are texts with their names. An older answer may stand beside."""
 
-    def __init__(self, this: Explanation, tree: Tree, picture: Optional[Drawing], states: States,
-                 older: Optional[Older]) -> None:
+    def __init__(self, this: Explanation, tree: Tree, picture: Drawing, states: States, older: Optional[Older]) -> None:
         self.this, self.tree, self.picture, self.states, self.older = this, tree, picture, states, older
         self.rows: List[Tree] = tree["processes"]
         self.index, self.restarts = this.waits.index, restarts(this)
@@ -96,7 +93,7 @@ class Page:
         """Returns the text of the page."""
         sections = [Section("since", "Since the older answer", "Since then", list(self.since())),
                     Section("roots", "Roots: where it has to be broken", "Roots", list(self.roots())),
-                    Section("picture", "Picture", "Picture", self.picture_parts()),
+                    Section("picture", "Picture", "Picture", [VIEW.format(picture=self.picture.svg)]),
                     Section("undecided", "Undecided", "Undecided", list(self.undecided())),
                     Section("processes", "Processes", "Processes", self.table()),
                     Section("well", "Not stuck", "Not stuck", self.well()),
@@ -116,7 +113,7 @@ class Page:
         """Returns what the script knows."""
         changes = self.older.comparison.changes if self.older else {}
         data = Data(self.this, self.tree, self.order, self.steps, self.reasons, changes)
-        return data.tree_of(self.picture.picture if self.picture else None)
+        return data.tree_of(self.picture.picture)
 
     def about(self) -> str:
         """Returns what stands below the headline."""
@@ -279,13 +276,6 @@ class Page:
             return []
         return ["<p>These waited with a limit, and stood at the same place in all states. One that only waits again "
                 f"and again needs a fact:</p>\n<pre>{text_of_lines(limits[:LINES])}</pre>"]
-
-    # Picture
-
-    def picture_parts(self) -> List[str]:
-        if self.picture is None:
-            return [f"<p>{NO_PICTURE}</p>"]
-        return [VIEW.format(picture=self.picture.svg, more="")]
 
     # The table
 

@@ -2,7 +2,7 @@
 from __future__ import annotations
 
 import json
-from typing import Any, Dict, Iterator, List, Optional, Sequence, Tuple, Union
+from typing import Any, Dict, Iterator, List, Sequence, Tuple, Union
 
 from .answer import Tree
 from .explain import Explanation
@@ -49,7 +49,7 @@ class Data:
     def some(self, column: str) -> List[Any]:
         return [self.rows[index][column] for index in self.order]
 
-    def tree_of(self, picture: Optional[Picture]) -> Tree:
+    def tree_of(self, picture: Picture) -> Tree:
         """Returns all of it, with the boxes and arrows of a picture."""
         names = [self.this.name(index) for index in self.order]
         columns = {
@@ -113,9 +113,7 @@ class Data:
         numbers = [self.reasons.setdefault(reason, len(self.reasons)) for reason in row["rests_on"]]
         return numbers or self.texts.number(row["reason"] or "")
 
-    def picture_columns(self, picture: Optional[Picture]) -> Tree:
-        if picture is None:
-            return {"box": [-1] * len(self.order), "boxes": [], "arrows": []}
+    def picture_columns(self, picture: Picture) -> Tree:
         arrows = [[arrow.start, [arrow.end] if not arrow.to_root else
                    [box.number for box in picture.boxes if box.part == picture.boxes[arrow.end].part]]
                   for arrow in picture.arrows]

@@ -81,6 +81,6 @@ VIEW = """<figure>
 <div id="view" role="region" aria-labelledby="picture" tabindex="0">
 {picture}<div id="mapframe" hidden aria-hidden="true"><svg id="map"></svg></div>
 </div>
-<figcaption>Who waits for whom. Processes that are alike, or at one line of source, share a box.{more}
+<figcaption>Who waits for whom. Processes that are alike, or at one line of source, share a box.
 <span class="live">A box leads to its row. Keys: Enter, arrows, + − 0; Ctrl with the wheel.</span></figcaption>
 </figure>"""

@@ -4,13 +4,13 @@ const drawing = document.querySelector("figure svg");
 const frame = element("view");
 const closest = 12, step = 1.25;
 const wide = 1200; // a screen on which letters of 11 points aren't smaller than 11 pixels at first
-const whole = drawing ? drawing.viewBox.baseVal : null;
-const all = whole ? {x: whole.x, y: whole.y, w: whole.width, h: whole.height} : null;
+const whole = drawing.viewBox.baseVal;
+const all = {x: whole.x, y: whole.y, w: whole.width, h: whole.height};
 const view = {...all};
 const fingers = new Map();
 let stop = -1, dragged = 0, pinched = 0;
 
-function boxElement(box) { return drawing && box >= 0 ? element("b" + box) : null; }
+function boxElement(box) { return box >= 0 ? element("b" + box) : null; }
 
 function everyBox() { return Array.from(drawing.querySelectorAll("[data-box]")); }
 
@@ -22,7 +22,6 @@ function partsOf(arrow) { return drawing.querySelectorAll(".a" + arrow); }
 
 // Shows who waits for the ones of a box, and for whom these wait, and dims the rest.
 function relateBox(box, isOn) {
-  if (!drawing) { return; }
   drawing.querySelectorAll(".lit").forEach((it) => it.classList.remove("lit"));
   const own = boxElement(box);
   drawing.classList.toggle("related", Boolean(isOn && own));
@@ -284,7 +283,6 @@ function startBoxes() {
 }
 
 function startPicture() {
-  if (!drawing) { return; }
   startBoxes();
   makeMap();
   frame.addEventListener("wheel", turnWheel, {passive: false});
