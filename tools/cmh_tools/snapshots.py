@@ -230,12 +230,12 @@ def waiter_of(process: Process, later: Process, known: Known) -> Process:
     elif not made.parts and process.parts:
         made.become_unknown(COME)
     elif None not in (process.count, later.count) and made.count is None:
-        has_grown(made)
+        doubt_place(made)
     return made
 
 
-def has_grown(process: Process) -> None:
-    """Says of one that it is at the same place with a count that has grown: it may have come back there. One at rest
+def doubt_place(process: Process) -> None:
+    """Says of one that is at the same place with a count that has grown that it may have come back there. One at rest
     still rests."""
     if process.sign is Sign.RESTS:
         process.parts = [(*part, unseen("uncounted", GROWN)) for part in process.parts]
