@@ -134,7 +134,8 @@ class Supervisor:
         self.pid = spawn(words, self.mask)
         self.deadline = time.monotonic() + limit if limit else float("inf")
 
-    def ends_in_time(self) -> bool:
+    def wait_for_end(self) -> bool:
+        """Waits until the command has ended or its time is over, and returns whether it has ended."""
         while self.pid not in self.ended and time.monotonic() < self.deadline:
             self.next_signal(self.deadline - time.monotonic())
         return self.pid in self.ended
@@ -319,7 +320,7 @@ def command(words: Sequence[str]) -> int:
         say(f"cmh-stall: {shown(asked.words[0])} can't be run: {error.strerror}")
         return NOT_FOUND if error.errno == errno.ENOENT else CANNOT_RUN
     try:
-        if supervisor.ends_in_time():
+        if supervisor.wait_for_end():
             return end_as(supervisor.ended[supervisor.pid])
         time_out(supervisor, asked)
     except Exception as error:  # (one that nobody has thought of)
