@@ -54,11 +54,11 @@ class Text:
         self.start = self.skip(0)
 
     def skip(self, place: int) -> int:
-        """Returns the first place from `at` on that is no white space."""
+        """Returns the first place from `place` on that is no white space."""
         return SPACE.match(self.text, place).end()  # type: ignore[union-attr]
 
     def parts(self, place: int) -> Iterator[Part]:
-        """Yields what an object or an array has that begins at `at`."""
+        """Yields what an object or an array has that begins at `place`."""
         is_object, number = self.text[place] == "{", 0
         place = self.skip(place + 1)
         while self.text[place] not in "]}":

@@ -166,7 +166,7 @@ def has_how(process: Process, how: str) -> bool:
 
 
 def premise(name: str) -> str:
-    """Returns the reason that an assumption is, by its name in the table of the parser."""
+    """Returns the reason that an assumption is, by its name in the table of all (`assumptions`)."""
     return f"{PREMISE} {name}"
 
 
