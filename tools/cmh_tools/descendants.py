@@ -1,4 +1,4 @@
-"""The processes below this one: who they are, and how all of them are ended."""
+"""The processes below one: who they are, how a signal is sent to each, and how orphans become children of this one."""
 from __future__ import annotations
 
 import contextlib

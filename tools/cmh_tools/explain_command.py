@@ -16,7 +16,7 @@ from .terminal import show, style_of_output
 ASK_NOTES = "the dump has no notes, so its active processes may be unknown ones: put NAME.notes.json of cmh-dump " \
     "beside NAME.json, or say --without-notes of a dump that was written by hand"
 ABOUT = """Says in words what is known of a dump, from the notes that cmh-dump wrote beside it. The program cmh has to
-confirm it on two dumps: with all unknown ones active, and with all unknown ones idle."""
+confirm it on two dumps, with all unknown ones active and with all idle, and what is likely on two more."""
 MORE = """status: 0 no process is stuck, 3 some process is stuck, 5 LIKELY DEADLOCK, IDLE OR STALLED or NOT KNOWN,
 1 the dump is refused, 2 the command line is, 4 out of memory, an I/O error, or the program doesn't confirm it"""
 

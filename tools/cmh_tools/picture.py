@@ -1,5 +1,5 @@
 """What a picture of a stall shows: boxes, each one process or several that are folded, the arrows between them, and
-the sentence above. How it is drawn is for `dot`."""
+the sentence above. How it is drawn is for `dot` and `svg`, or `layers` and `layers_svg`."""
 from __future__ import annotations
 
 import re
