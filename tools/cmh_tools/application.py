@@ -17,7 +17,6 @@ TIMED = "timed "  # before the operation of a wait with a limit
 UNCOUNTED, UNSHOWN = "uncounted", "unshown"  # hows that a fact may settle
 STARTERS = "starters"  # before the name of a process, the group of those who may start more like it
 POLLED = "it looks only now and then, so what it waits for may have come already"
-SHOWN = 5  # names in a reason
 Found = List[Tuple[Process, Optional[Fact]]]  # processes, each with the fact on its wait, if there is one
 
 

@@ -30,10 +30,10 @@ FIRST_OF = re.compile(AS_OF.format(r"(?:two|\d+)"))
 ENDED = "as of SIGQUIT, which ended the program"
 RUNS = (WORK, "a dead message will come to it", "a fact says so", "a message is ready for it",
         "computes", "it came after the first state", "it computes", "it has moved", "it is about to begin",
-        "it is ready to continue", "it looks again and again", "it moved between two looks", "it only looks and sleeps",
+        "it is ready to continue", "it looks again and again", "it moved between two looks",
         "it sleeps", "it sleeps, or waits with a limit", "it tries a few times",
         "it tries that for some minutes at most", "it waits with a limit", "its client computes", "its client sleeps",
-        "its timer comes", "sleeps", "somebody may connect", "waits for a client", "waits for a signal",
+        "its timer comes", "sleeps", "waits for a client", "waits for a signal",
         "waits for a timer", "waits for data", "waits for its time", "waits on a connection", "waits with a limit",
         "what it waited for is done", "who is on another machine may send", "yields")
 TIMED = "timed "
