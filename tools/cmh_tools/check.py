@@ -11,9 +11,9 @@ from itertools import islice
 from typing import Any, Callable, Dict, Iterator, List, NamedTuple, Tuple
 
 from .files import shown
+from .limits import BYTES, DEPENDENTS, DEPTH, ENTRIES, LONGEST
 from .sketch import near_name, quote
 
-BYTES, ENTRIES, DEPENDENTS, LONGEST, DEPTH = 8_388_608, 4_096, 65_536, 64, 127  # the program's limits
 TOP = ("version", "sites", "processes")
 ROW = ("name", "site", "state", "dependents")
 SPACE = re.compile(r"[ \t\n\r]*")

@@ -10,14 +10,14 @@ import re
 from typing import Any, Dict, List, NamedTuple, Optional, Sequence, Set, Tuple
 
 from .doubts import Doubt, Likely
+from .limits import ENTRIES, LONGEST
 from .reduction import Reduction
 from .roots import Roots
 from .sketch import Sketch
 from .sketch_json import text_of_rows, text_of_sketch
 from .stuck import Answer, Waits
 
-MESSAGES, LONGEST = 4096, 64
-NAME = re.compile(r"[A-Za-z0-9][A-Za-z0-9_.:/-]{0,63}")
+NAME = re.compile(rf"[A-Za-z0-9][A-Za-z0-9_.:/-]{{0,{LONGEST - 1}}}")
 NO_SITE = "no-site"
 HUB, STUCK, RUNNING = "list", "stuck-elsewhere", "runs-elsewhere"
 
@@ -167,7 +167,7 @@ class Dump:
             senders = self.senders(index) & there & set(self.cut.dependents(index, answer) or ())
             rows.append([[self.named[sender], self.named[index]] for sender in sorted(senders)])
         pairs = [pair for row in rows for pair in row]
-        return pairs if len(pairs) <= MESSAGES else [row[0] for row in rows if row]
+        return pairs if len(pairs) <= ENTRIES else [row[0] for row in rows if row]
 
     def stuck_names(self, answer: Answer, part: int) -> Set[str]:
         """Returns whom the program has to call deadlocked in the dump of a part."""

@@ -15,11 +15,11 @@ from __future__ import annotations
 from typing import Dict, Iterable, List, Optional, Sequence, Set
 
 from .files import Refusal
+from .limits import DEPENDENTS, ENTRIES
 from .roots import components
 from .sketch import ALL, ANY, ENDED, RUNS
 from .stuck import Answer, Waits
 
-PROCESSES, DEPENDENTS = 4096, 65536
 ELSEWHERE = 2  # processes that stand for those of other dumps
 
 
@@ -56,14 +56,14 @@ class Reduction:
             return [self.kept]
         lists = {at: {it for answer in answers for it in self.dependents(at, answer) or ()} for at in self.kept}
         knots = components({at: sorted(others) for at, others in lists.items()})
-        self.refuse("processes", PROCESSES - ELSEWHERE, map(len, knots))
+        self.refuse("processes", ENTRIES - ELSEWHERE, map(len, knots))
         self.refuse("dependents", DEPENDENTS, (sum(len(lists[at].intersection(it)) + 1 for at in it) for it in knots))
         knots.sort(key=lambda knot: [not any(answer.inside[at] for at in knot) for answer in answers])
         parts: List[List[int]] = []
         names = 0
         for knot in knots:
             more = sum(len(lists[at]) for at in knot)
-            if not parts or len(parts[-1]) + len(knot) > PROCESSES - ELSEWHERE or names + more > DEPENDENTS:
+            if not parts or len(parts[-1]) + len(knot) > ENTRIES - ELSEWHERE or names + more > DEPENDENTS:
                 parts.append([])
                 names = 0
             parts[-1] += knot
@@ -97,7 +97,7 @@ class Reduction:
         return names + (bool(self.waits.senders[at]) and self.waits.has_hub(at))
 
     def fits(self) -> bool:
-        return self.processes <= PROCESSES and self.names <= DEPENDENTS
+        return self.processes <= ENTRIES and self.names <= DEPENDENTS
 
     def stands_for(self, at: int) -> int:
         """Returns who stands for one: itself, or the one that it is folded into."""
