@@ -16,6 +16,7 @@ from .sketch import BARE, OLDER, Sketch, read_json
 from .sketch_json import is_texts, sketch_of
 
 Read = Callable[[str], str]  # the text of a path
+SUFFIX = ".json"  # of a dump
 
 
 class Parser(argparse.ArgumentParser):
@@ -43,9 +44,19 @@ class Version(argparse.Action):
         raise SystemExit(0)
 
 
+def stem_of(path: str) -> str:
+    """Returns the path of a dump without its suffix."""
+    return path[:-len(SUFFIX)] if path.endswith(SUFFIX) else path
+
+
 def notes_path(path: str) -> str:
     """Returns the path of the notes of a dump: dump.notes.json beside dump.json."""
-    return f"{path[:-5] if path.endswith('.json') else path}.notes.json"
+    return f"{stem_of(path)}.notes{SUFFIX}"
+
+
+def likely_path(path: str) -> str:
+    """Returns the path of the dump of the likely answer: dump.likely.json beside dump.json."""
+    return f"{stem_of(path)}.likely{SUFFIX}"
 
 
 def is_dump(tree: Any) -> bool:
@@ -106,11 +117,6 @@ def known_doubts(noted: Any, notes: str) -> List[str]:
     if not is_texts(keys) or len(set(keys)) < len(keys):
         raise Refusal(f"{shown(notes)}: 'doubts' is no list of texts, each once")
     return list(keys)
-
-
-def likely_path(path: str) -> str:
-    """Returns the path of the dump of the likely answer: dump.likely.json beside dump.json."""
-    return f"{path[:-5] if path.endswith('.json') else path}.likely.json"
 
 
 def run(name: str, main: Callable[[Sequence[str]], int], words: Sequence[str]) -> int:
