@@ -124,7 +124,7 @@ def user_of(number: int) -> str:
     try:
         return pwd.getpwuid(number).pw_name
     except KeyError:
-        return f"#{number}"  # (as sudo has users by their numbers)
+        return f"#{number}"  # (as sudo has users by their numbers: one of a container has no name)
 
 
 def check_folder(path: str, there: os.stat_result) -> None:

@@ -2,7 +2,6 @@
 from __future__ import annotations
 
 import os
-import pwd
 import re
 import time
 from typing import Callable, Dict, List
@@ -12,7 +11,7 @@ from .dump import Dump
 from .explain import Explanation
 from .facts import Facts, read_facts
 from .files import Failure, Refusal, decoded, shown
-from .folder import Folder
+from .folder import Folder, user_of
 from .model import HOWS
 
 NUMBERS = re.compile(r"[1-9][0-9]{0,8}(?:,[1-9][0-9]{0,8})*")
@@ -49,16 +48,9 @@ def say_true(folder: Folder, path: str, numbers: List[int], dump: Dump, anew: Ca
 def lines_of(explanation: Explanation, doubt: Doubt) -> str:
     """Returns the lines of facts that a doubt is none, below who said so and when."""
     waits = [explanation.waits.index[name] for name in doubt.waits]
-    said = f"# {time.strftime('%Y-%m-%d %H:%M:%S')}, {user()} by --true: no doubt {doubt.number}, that " \
+    said = f"# {time.strftime('%Y-%m-%d %H:%M:%S')}, {user_of(os.getuid())} by --true: no doubt {doubt.number}, that " \
         f"{explanation.doubt_words(doubt, waits)}"
     return "".join(f"{line}\n" for line in [shown(said), *doubt.lines])
-
-
-def user() -> str:
-    try:
-        return pwd.getpwuid(os.getuid()).pw_name
-    except KeyError:  # (a user of a container has no name)
-        return f"user {os.getuid()}"
 
 
 def check_gone(doubts: List[Doubt], dump: Dump) -> None:
