@@ -19,7 +19,7 @@ from .files import Failure, say, shown
 from .folder import user_of
 
 HOME = os.path.dirname(os.path.dirname(os.path.realpath(__file__)))
-READER = f"{HOME}/cmh_python_reader.py"  # which two looks alone tell from what it does itself
+READER = f"{HOME}/cmh_python_reader.py"  # two looks at most: between these no count has what it does itself
 LONG = 10  # seconds beyond which there is a third look halfway: no more, as each may hold the system, and takes memory
 TIMES = {2: "twice", 3: "three times"}
 PATIENCE = 10  # seconds in which a command that is ended puts away what it has begun

@@ -126,7 +126,7 @@ def is_native(process: Process) -> bool:
 
 
 def workers(row: Dict[str, List[str]], threads: List[Process]) -> List[str]:
-    """Returns those of some threads that may be at the work of their service. None is that sleeps until a task is due.
+    """Returns those of some threads that may be at the work of their service: not who sleeps until a task is due.
     Where the broker shows who is likely to send what they wait for, it says more of one that stands than its own half
     that names nobody, and of a runtime more than the threads that the kernel sees."""
     runtime = {*row.get(RUNTIME, ())}

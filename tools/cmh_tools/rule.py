@@ -348,8 +348,8 @@ class Graph:
     def reach(self, starts: Iterable[int], through: AbstractSet[int], counts: Counts,
               over: Set[int]) -> Dict[int, Optional[str]]:
         """Returns the nodes that are reached: the starts, a list with the first of its members who counts, and of
-        `through` each one that has in each part of its wait one that counts and was reached before. Told is the last of
-        these, by a process's name."""
+        `through` each one that has in each part of its wait one that counts and was reached before. Each has the name
+        of the process by which it was reached, of several parts the last."""
         causes: Dict[int, Optional[str]] = dict.fromkeys(starts)
         left = list(map(len, self.own))
         for place in over:

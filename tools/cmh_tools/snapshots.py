@@ -121,7 +121,8 @@ def set_signs(sketch: Sketch, later: Sequence[Sketch]) -> None:
 
 def merge(first: Sketch, second: Sketch, extent: str = PARTS, before: str = PARTS) -> Sketch:
     """Returns the sketch of two sketches of one system. `extent` says how much of the system the second has, and
-    `before` how much the one that was read before it has. Those with a limit have the sign of their place yet."""
+    `before` how much the one that was read before it has. Those with a limit still have the sign that their place
+    gives them."""
     later = {process.name: process for process in second.processes}
     missing = missing_names(first, later, extent)
     lists: Known = {}
