@@ -223,7 +223,7 @@ def fact_rows(found: Findings) -> List[Tree]:
 
 def limit_rows(found: Findings) -> List[Dict[str, Any]]:
     """The lines of facts on those that stood with a limit."""
-    return [{"fact": line, "names": [it.name for it in some]} for line, some in found.limited()]
+    return [{"fact": line, "names": [it.name for it in some]} for line, some in found.lines_on_limits()]
 
 
 def doubt_rows(found: Explanation) -> List[Tree]:

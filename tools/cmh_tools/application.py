@@ -51,7 +51,7 @@ class Names:
         """Returns the names that a fact gives for the wait of a process, in their order, and what is wrong with it.
         Many processes stand at one place, so the list is kept."""
         words = self.words(fact, process)
-        key = fact.called(""), tuple(words)
+        key = fact.line_in(""), tuple(words)
         if key not in self.lists:
             self.lists[key] = self.of_words(fact, words)
         return self.lists[key]
@@ -136,7 +136,7 @@ class Application:
 
     def run(self) -> None:
         self.facts.find_bystanders(self.sketch)
-        undecided = self.undecided()
+        undecided = self.find_undecided()
         self.at_rest = {one.name for one in self.sketch.processes if one.sign is Sign.RESTS and one.reason == WORK}
         self.note_places(undecided)
         for process, fact in undecided:
@@ -150,7 +150,7 @@ class Application:
         self.note_facts()
         self.sketch.warnings += self.facts.unused_lines(self.sketch)
 
-    def undecided(self) -> Found:
+    def find_undecided(self) -> Found:
         """Returns those whom facts may decide, each with the fact on its wait, if there is one."""
         return [(process, self.facts.wait(process)) for process in self.sketch.processes if self.is_undecided(process)]
 
@@ -198,7 +198,7 @@ class Application:
             whom, fault = self.left_of(process, fact, whom) if process.is_collective or len(
                 self.meetings.get(fact.at, ())) <= 1 else ([], several(fact))
         if not fault and fact.kind != "nobody":
-            whom, fault = intersected(process, fact, whom)
+            whom, fault = those_of_both(process, fact, whom)
         if fault:
             doubt(process, fault)
             return
@@ -211,7 +211,7 @@ class Application:
             kept += () if fact.kind == "all" or process.operation.endswith("Lock") else tuple(self.starters(whom))
         because = self.facts.reason(fact)
         parts = all_of(whom, COMES, because, beside=kept) if fact.kind == "all" else \
-            any_of(*([said(whom, because)] if whom else []), *kept)
+            any_of(*([fact_wakers(whom, because)] if whom else []), *kept)
         process.wait_for(parts, [because])
 
     def starters(self, whom: List[str]) -> List[Wakers]:
@@ -262,7 +262,7 @@ class Application:
         if fact is None or fact.kind != "all":
             return process.name
         if fact.group or not fact.has_variables():
-            return fact.group or fact.called("")
+            return fact.group or fact.line_in("")
         return frozenset([process.name, *self.names.of_fact(fact, process)[0]])
 
     def wait_for_holders(self, process: Process) -> None:
@@ -298,7 +298,7 @@ class Application:
         known = [group for part in process.parts for group in part if group.strength in (Strength.NAMED, Strength.ABLE)
                  and group.how == "listed"]
         left_out = (wakers("left-out", self.missing),) if self.missing else ()
-        process.wait_for(any_of(*known, said(whom, *because), *free, *kept_wakers(process), *left_out), because)
+        process.wait_for(any_of(*known, fact_wakers(whom, *because), *free, *kept_wakers(process), *left_out), because)
 
     def widen(self, process: Process) -> None:
         """Adds who else may answer, to a call that is known or whose object names whom it called."""
@@ -314,8 +314,8 @@ class Application:
             return
         because = self.facts.reason(fact)
         left_out = (wakers("left-out", self.missing),) if self.names.is_open(fact, process) and self.missing else ()
-        process.wait_for(any_of(said(list(dict.fromkeys([*called, *more])), because), *kept_wakers(process), *left_out),
-                         [because])
+        answering = fact_wakers(list(dict.fromkeys([*called, *more])), because)
+        process.wait_for(any_of(answering, *kept_wakers(process), *left_out), [because])
 
     def settle_doubt(self, process: Process) -> None:
         """Settles by the line `still` that nothing has ended a wait between the looks."""
@@ -357,7 +357,7 @@ def is_kept(group: Wakers) -> bool:
     return is_against or group.how == UNCOUNTED or BESIDE in group.because
 
 
-def intersected(process: Process, fact: Fact, whom: List[str]) -> Tuple[List[str], str]:
+def those_of_both(process: Process, fact: Fact, whom: List[str]) -> Tuple[List[str], str]:
     """Returns those of whom a fact speaks who may end the wait by the state too, where this has all who may."""
     if process.sign not in WAITING or process.is_open() or not process.parts:
         return whom, ""
@@ -369,7 +369,7 @@ def intersected(process: Process, fact: Fact, whom: List[str]) -> Tuple[List[str
     return left, ""
 
 
-def said(whom: List[str], *because: str) -> Wakers:
+def fact_wakers(whom: List[str], *because: str) -> Wakers:
     """Those who end a wait by the facts: the one who is needed, or able ones."""
     return Wakers(whom, Strength.NAMED if len(whom) == 1 else Strength.ABLE, "said", because)
 

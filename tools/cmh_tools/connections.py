@@ -40,11 +40,11 @@ def on_machine(sketch: Sketch, machine: str) -> Sketch:
     return replace(sketch, machine="", processes=[replace(process, thread="") for process in sketch.processes])
 
 
-def merged(first: Connections, second: Connections) -> Connections:
+def merge_connections(first: Connections, second: Connections) -> Connections:
     return {key: {**first.get(key, {}), **second.get(key, {})} for key in {**first, **second}}
 
 
-def renamed(connections: Connections, names: Dict[str, str]) -> Connections:
+def rename_connections(connections: Connections, names: Dict[str, str]) -> Connections:
     return {key: {what: [names.get(name, name) for name in old] for what, old in row.items()}
             for key, row in connections.items()}
 

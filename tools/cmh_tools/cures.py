@@ -64,7 +64,7 @@ class Cures:
                          if process.remedy}
         self.of = [self.cure_of(number, members) for number, members in enumerate(answer.roots.roots)]
 
-    def called(self, unit: str) -> str:
+    def name_of_unit(self, unit: str) -> str:
         """Returns what people know a unit by that can be restarted: a process by its number, if its threads have it."""
         name, jvm, numbered = short_name(unit), JVM.fullmatch(unit), WITH_NUMBER.fullmatch(unit)
         if jvm:
@@ -133,7 +133,7 @@ class Cures:
 
     def step_of(self, unit: str) -> Step:
         command = self.remedies.get(unit, "")
-        pids = [*map(int, PID.findall(self.called(unit))), *self.pids_below(unit)]
+        pids = [*map(int, PID.findall(self.name_of_unit(unit))), *self.pids_below(unit)]
         return Step(unit, command, [] if command else pids)
 
     def ends(self) -> List[Tuple[Step, int]]:
@@ -326,7 +326,7 @@ def apart(sets: List[List[str]]) -> int:
 
 def unit_words(this: Cures, unit: str) -> str:
     """Returns in words what is done with a unit: a command that ends it where there is one, else a restart."""
-    command, called, below = this.remedies.get(unit), this.called(unit), this.pids_below(unit)
+    command, called, below = this.remedies.get(unit), this.name_of_unit(unit), this.pids_below(unit)
     left = f" and {len(below) - PIDS:,} more" if below[PIDS:] else ""
     what = "its ranks" if unit in WHOLE.values() else "what it has begun"
     more = f", with {what} (PID {', '.join(map(str, below[:PIDS]))}{left})" if below else ""
@@ -342,8 +342,8 @@ def words_of(this: Cures, cure: Cure) -> str:
         return f"restart what has {', '.join(names[:SHOWN])}: the state doesn't say where"
     first, *others = cure.units
     if cure.is_all:
-        return f"restart {' and '.join(map(this.called, cure.units))}, as none of them alone is enough"
+        return f"restart {' and '.join(map(this.name_of_unit, cure.units))}, as none of them alone is enough"
     told = others if len(others) == SHOWN else others[:SHOWN - 1]
-    names = [short_name(unit) if unit in this.remedies else this.called(unit) for unit in told]
+    names = [short_name(unit) if unit in this.remedies else this.name_of_unit(unit) for unit in told]
     more = [f"one of {len(others) - len(told):,} more"] if len(others) > len(told) else []
     return unit_words(this, first) + (f"; if that doesn't help, {', or '.join([*names, *more])}" if names else "")

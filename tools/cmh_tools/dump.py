@@ -71,7 +71,7 @@ class Dump:
         self.taken = set(self.names.values())
         hubs = len(self.waits.left) - self.waits.number
         self.named = [*(self.names[process.name] for process in sketch.processes),
-                      *(self.added(f"{HUB}-{number}") for number in range(1, hubs + 1))]
+                      *(self.new_name(f"{HUB}-{number}") for number in range(1, hubs + 1))]
         self.low = self.waits.low()
         self.high = self.waits.high(self.low)
         self.cut = Reduction(self.waits)
@@ -104,7 +104,7 @@ class Dump:
 
     # The dump
 
-    def added(self, name: str) -> str:
+    def new_name(self, name: str) -> str:
         """Returns the name of an added process, which no other one has."""
         while name in self.taken:
             name += "-"
@@ -139,7 +139,7 @@ class Dump:
         rows = [self.row(index, answer, there) for index in kept]
         known = {name for row in rows for name in row.get("dependents", ())}
         added = {"site": self.site(kept[0])} if kept else {}
-        stuck, running = self.added(STUCK), self.added(RUNNING)
+        stuck, running = self.new_name(STUCK), self.new_name(RUNNING)
         rows += [{"name": stuck, **added, "state": "idle", "dependents": []}] if stuck in known else []
         return rows + ([{"name": running, **added, "state": "active"}] if running in known else [])
 
@@ -153,7 +153,7 @@ class Dump:
         elsewhere = [other for other in others if other not in there] if len(names) < len(others) else []
         if elsewhere:
             runs = not all(answer.inside[other] for other in elsewhere) or not there.issuperset(self.senders(index))
-            names.append(self.added(RUNNING if runs else STUCK))
+            names.append(self.new_name(RUNNING if runs else STUCK))
         return {**row, "state": "idle", "dependents": names}
 
     def senders(self, index: int) -> Set[int]:
@@ -173,7 +173,7 @@ class Dump:
         """Returns whom the program has to call deadlocked in the dump of a part."""
         names = {self.named[index] for index in self.parts[part] if answer.is_stuck(index)}
         is_cut = len(self.parts) > 1
-        return names | ({self.added(STUCK)} & {row["name"] for row in self.rows(answer, part)} if is_cut else set())
+        return names | ({self.new_name(STUCK)} & {row["name"] for row in self.rows(answer, part)} if is_cut else set())
 
     def cut_lines(self) -> List[str]:
         """Returns in words what became of those that the dump hasn't as they are."""

@@ -8,7 +8,7 @@ from typing import Any, Dict, Iterator, List, Sequence, Tuple
 from .command import Parser, likely_path, notes_path, run
 from .dump import Dump
 from .facts import FREES, HOLDS, Facts, kind_of_line, read_facts
-from .files import (MOST_OF_LINE, Failure, Refusal, decoded, hindrance, read_bytes, read_text, say, short_name, shown,
+from .files import (MOST_OF_LINE, Failure, Refusal, decode, hindrance, read_bytes, read_text, say, short_name, shown,
                     write_out, write_texts)
 from .making import sketch_for
 from .program import identity, judge
@@ -139,7 +139,7 @@ def program_notes() -> Dict[str, Any]:
         return {}
 
 
-def collected(asked: Any) -> str:
+def collect_state(asked: Any) -> str:
     """Returns the state of live processes. Raises Refusal if one isn't there."""
     from cmh_linux import collect
     try:
@@ -169,10 +169,10 @@ def texts_of(dump: Dump, path: str, asked: List[Proposal]) -> List[Tuple[str, st
 
 def make(asked: Any) -> int:
     """Makes a dump and its notes."""
-    facts = read_facts(decoded(read_bytes(asked.facts), asked.facts), asked.facts) if asked.facts else Facts()
+    facts = read_facts(decode(read_bytes(asked.facts), asked.facts), asked.facts) if asked.facts else Facts()
     paths, read, kept = asked.states, read_text, []
     if getattr(asked, "pid", None):
-        text = collected(asked)
+        text = collect_state(asked)
         paths, read = ["the processes"], lambda path: text
         kept = [(asked.save, text)] if asked.save else []
     sketch = sketch_for(asked.system, paths, facts, read)

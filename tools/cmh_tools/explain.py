@@ -343,13 +343,14 @@ class Explanation(Findings):
     def supposed_lines(self) -> List[str]:
         """Those that run on a premise alone, but for a limit of their wait."""
         sentences = self.dump.sketch.premises
-        return self.first([f"  on the premise that {shown(sentences.get(name, name))}: "
-                           f"{self.some([self.name(at) for at in some])}" for name, some in self.supposed().items()],
+        rows = [(sentences.get(name, name), [self.name(at) for at in indices])
+                for name, indices in self.runners_by_premise().items()]
+        return self.first([f"  on the premise that {shown(words)}: {self.some(names)}" for words, names in rows],
                           ("premise", "premises"))
 
     def limited_lines(self) -> List[str]:
         """Those that wait with a limit and stood at the same place in all states, with what would decide them."""
-        rows = self.limited()
+        rows = self.lines_on_limits()
         if not rows:
             return []
         number = sum(len(some) for _, some in rows)

@@ -106,14 +106,14 @@ class Fact:
         """Whether its names may be others for each one that waits."""
         return any(map(is_variable, self.words))
 
-    def called(self, path: str) -> str:
+    def line_in(self, path: str) -> str:
         """Returns where it stands."""
         return f"{path}:{self.at}"
 
     def row(self, path: str) -> FactRow:
         """Returns what the notes have of it."""
         took = {word: list(names) for word, names in self.took.items()}
-        return {"at": self.called(path), "text": self.text, "took": took}
+        return {"at": self.line_in(path), "text": self.text, "took": took}
 
 
 def is_variable(word: str) -> bool:
@@ -207,7 +207,7 @@ class Facts:
                             if not fact.used)]
 
     def reason(self, fact: Fact) -> str:
-        return f"{FACT} {fact.called(self.path)}"
+        return f"{FACT} {fact.line_in(self.path)}"
 
 
 def why_unused(fact: Fact, sketch: Sketch) -> str:

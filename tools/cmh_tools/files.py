@@ -104,10 +104,10 @@ def read_text(path: str) -> str:
 def text_of_bytes(data: bytes, path: str) -> str:
     if not data or data.isspace():
         raise Refusal(f"{shown(path)}: it is empty")
-    return decoded(data, path)
+    return decode(data, path)
 
 
-def decoded(data: bytes, path: str) -> str:
+def decode(data: bytes, path: str) -> str:
     """Returns the text of some bytes. Raises Refusal if they are no UTF-8."""
     try:
         return data.decode("utf-8-sig")

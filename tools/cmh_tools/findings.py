@@ -216,7 +216,7 @@ class Findings(Verdicts):
         found = ends(self.high)
         return {at: end for at, end in found.items() if at != end}
 
-    def supposed(self, with_limits: bool = False) -> Dict[str, List[int]]:
+    def runners_by_premise(self, with_limits: bool = False) -> Dict[str, List[int]]:
         """Returns the premises on which some run, with these; also that a limit of their wait ends, if it is asked."""
         found: Dict[str, List[int]] = {}
         for at in self.running():
@@ -226,7 +226,7 @@ class Findings(Verdicts):
                     found.setdefault(name, []).append(at)
         return found
 
-    def limited(self) -> List[Line]:
+    def lines_on_limits(self) -> List[Line]:
         """Returns the lines of facts that would decide those that stood with a limit at the same place in all states,
         with these."""
         some = [it for it in self.processes(self.running()) if is_limited_still(it)]

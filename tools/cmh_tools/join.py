@@ -13,7 +13,7 @@ import re
 from dataclasses import replace
 from typing import Dict, List, Optional, Sequence
 
-from .connections import join_connections, merged, on_machine, renamed, servers_first, serves
+from .connections import join_connections, merge_connections, on_machine, rename_connections, servers_first, serves
 from .files import Refusal, shown
 from .insides import insides
 from .model import ANYBODY, Anybody, Part, Sign, Strength, Wakers, Who, once
@@ -93,7 +93,7 @@ def join_two(first: Sketch, second: Sketch) -> Sketch:
                   min(first.readings, second.readings), {**first.groups, **second.groups},
                   first.machine or second.machine,
                   [[min(a[0], b[0]), max(a[1], b[1])] for a, b in zip(first.times, second.times)], sorted(idle),
-                  sorted(readers), sorted(inner), merged(first.connections, second.connections),
+                  sorted(readers), sorted(inner), merge_connections(first.connections, second.connections),
                   {**begun_by(second, first), **first.begun_by})
 
 
@@ -165,7 +165,7 @@ def rename(sketch: Sketch, names: Dict[str, str], premises: Dict[str, str]) -> S
                          because=[reasons.get(reason, reason) for reason in it.because]) for it in sketch.processes]
     return replace(sketch, processes=processes, in_transit=[(names[a], names[b]) for a, b in sketch.in_transit],
                    premises={premises.get(name, name): text for name, text in sketch.premises.items()},
-                   connections=renamed(sketch.connections, names))
+                   connections=rename_connections(sketch.connections, names))
 
 
 def check_facts(first: Sketch, second: Sketch) -> None:

@@ -259,7 +259,7 @@ class Page:
 
     def supposed(self) -> Iterator[str]:
         """Yields those that run on a premise, and do the same."""
-        for name, indices in self.this.supposed(with_limits=True).items():
+        for name, indices in self.this.runners_by_premise(with_limits=True).items():
             groups: Dict[str, List[str]] = {}
             for index in indices:
                 groups.setdefault(self.rows[index]["reason"] or "runs", []).append(self.rows[index]["name"])

@@ -350,7 +350,7 @@ def restart_of_all(this: Explanation, words: List[str]) -> str:
     units = [cure.units for cure in this.cures.of]
     if any(len(alone) != 1 or alone[0] in this.cures.remedies for alone in units):
         return ""
-    names = list(dict.fromkeys(this.cures.called(alone[0]) for alone in units))
+    names = list(dict.fromkeys(this.cures.name_of_unit(alone[0]) for alone in units))
     words_of_each = "each breaks one root" if len(names) == len(units) else "each breaks those in it"
     return f"Restart {this.some(names, ' and ')}: {words_of_each}."
 

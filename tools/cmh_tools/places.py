@@ -106,10 +106,10 @@ def values_of_frames(patterns: List[str], frames: List[str], start: int) -> Opti
 def operations(process: Process) -> List[str]:
     """Returns what OPERATION is matched with: 'FutureTask.get', 'get', and both with each object."""
     names = dict.fromkeys([process.operation, QUALIFIER.sub("", process.operation)])
-    return [*names, *(f"{name} {thing}" for name in names for thing in process.objects), *noted(process)]
+    return [*names, *(f"{name} {thing}" for name in names for thing in process.objects), *requests_of(process)]
 
 
-def noted(process: Process) -> List[str]:
+def requests_of(process: Process) -> List[str]:
     """Returns the operation with its request, as 'GenServer.call flush', if the note has both in front of the frame."""
     limit = "timed " if process.operation.startswith("timed ") else ""
     call, _, where = process.note.rpartition(" in ")

@@ -92,11 +92,11 @@ def more_lines(rests: Rests, found: List[Reason], everything: bool) -> List[str]
 def rows(rests: Rests, found: List[Reason], everything: bool) -> List[str]:
     lines = []
     for reason in found:
-        lines += [f"  {words(reason)} ({reason.number:,})", *taken(rests, reason, everything)]
+        lines += [f"  {words(reason)} ({reason.number:,})", *took_lines(rests, reason, everything)]
     return lines
 
 
-def taken(rests: Rests, reason: Reason, everything: bool) -> List[str]:
+def took_lines(rests: Rests, reason: Reason, everything: bool) -> List[str]:
     """Returns a line for each pattern of a fact, with the processes that it took. Where it takes others for each that
     waits, these stand in the line of that one."""
     took = rests.took_by(reason)

@@ -138,19 +138,19 @@ class Redaction:
         pairs = [(self.names.of(a), self.names.of(b)) for a, b in sketch.in_transit]
         made = Sketch(list(map(self.process, sketch.processes)), pairs, sketch.system, sketch.as_of, [], premises,
                       list(map(self.fact, sketch.facts)), sketch.readings)
-        return sketch_of(self.listed(tree_of(made)), "the copy")
+        return sketch_of(self.redact_tree(tree_of(made)), "the copy")
 
     def is_own(self, text: str) -> bool:
         """Whether a text is on a list, or a name that stands for another."""
         text = text[len(TIMED):] if text.startswith(TIMED) else text
         return text in self.words or any(pattern.fullmatch(text) for pattern in (NAME, FIRST_OF))
 
-    def listed(self, tree: Any) -> Any:
+    def redact_tree(self, tree: Any) -> Any:
         """Returns a tree of JSON with the keys that may stay, in which other texts are replaced."""
         if isinstance(tree, dict):
-            return {key: self.listed(value) for key, value in tree.items() if key in KEYS or self.is_own(key)}
+            return {key: self.redact_tree(value) for key, value in tree.items() if key in KEYS or self.is_own(key)}
         if isinstance(tree, list):
-            return [self.listed(value) for value in tree]
+            return [self.redact_tree(value) for value in tree]
         return HIDDEN if isinstance(tree, str) and not self.is_own(tree) else tree
 
 
@@ -165,4 +165,4 @@ def redacted_texts(sketch: Sketch) -> Iterator[Tuple[str, str]]:
     dump = Dump(made)
     yield "sketch.json", text_of_sketch(made) + "\n"
     for name, text in (("dump.json", dump.text(dump.low)), ("dump.notes.json", dump.notes())):
-        yield name, json.dumps(redaction.listed(json.loads(text)), indent=1) + "\n"
+        yield name, json.dumps(redaction.redact_tree(json.loads(text)), indent=1) + "\n"

@@ -76,9 +76,9 @@ class Reduction:
         if number > most:
             raise Refusal(f"too many {what}: those that wait for each other have {number:,}, once "
                           f"{len(self.left_out):,} were left out that nobody waits for and "
-                          f"{self.folded():,} were folded into others; the program takes {most:,}")
+                          f"{self.number_folded():,} were folded into others; the program takes {most:,}")
 
-    def folded(self) -> int:
+    def number_folded(self) -> int:
         """Returns how many are folded into others."""
         return sum(at < self.number for at in self.over)
 

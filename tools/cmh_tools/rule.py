@@ -206,7 +206,7 @@ class Decision:
         for wakers, left, names in self.holds_on(root):
             for who in self.aside_of(wakers, left, members):
                 waits.setdefault((who, wakers.how, wakers.strength), {})[id(names)] = names
-        return [Doubt(*key, joined(lists)) for key, lists in waits.items()]
+        return [Doubt(*key, names_in(lists)) for key, lists in waits.items()]
 
     def holds_on(self, root: Iterable[int]) -> List[Tuple[Wakers, Sequence[str], Sequence[str]]]:
         """Returns the wakers of those parts by which members of a root are likely to be stuck, each list with those of
@@ -216,7 +216,7 @@ class Decision:
             left = self.left_of(wakers, part)
             key = id(wakers.who), id(left), wakers.how, wakers.strength
             groups.setdefault(key, (wakers, left, {}))[2][id(names)] = names
-        return [(wakers, left, joined(lists)) for wakers, left, lists in groups.values()]
+        return [(wakers, left, names_in(lists)) for wakers, left, lists in groups.values()]
 
     def wakers_on(self, root: Iterable[int]) -> Iterator[Tuple[Sequence[str], Wakers, Part]]:
         """Yields the wakers of these parts, with the names of the members whose wait they end."""
@@ -268,7 +268,7 @@ def waits_of(subjects: Sequence[Subject]) -> List[List[int]]:
     return list(waits.values())
 
 
-def joined(lists: Names) -> Sequence[str]:
+def names_in(lists: Names) -> Sequence[str]:
     """Returns the names of some lists: the list itself of one."""
     rows = list(lists.values())
     return rows[0] if len(rows) == 1 else list(dict.fromkeys(chain(*rows)))

@@ -10,7 +10,7 @@ from .doubts import Doubt
 from .dump import Dump
 from .explain import Explanation
 from .facts import Facts, read_facts
-from .files import Failure, Refusal, decoded, shown
+from .files import Failure, Refusal, decode, shown
 from .folder import Folder, user_of
 from .model import HOWS
 
@@ -38,7 +38,7 @@ def say_true(folder: Folder, path: str, numbers: List[int], dump: Dump, anew: Ca
         raise Failure(f"--true: the answer in {shown(folder.path)} has no doubt {' and '.join(unknown)}; it has "
                       f"{known}", 2)
     explanation = Explanation(dump)
-    before = decoded(folder.read_bytes(path), path) if folder.has(path) else ""
+    before = decode(folder.read_bytes(path), path) if folder.has(path) else ""
     text = before + ("" if before.endswith("\n") or not before else "\n")
     text += "".join(lines_of(explanation, doubts[number]) for number in numbers)
     check_gone([doubts[number] for number in numbers], anew(read_facts(text, path)))

@@ -162,7 +162,7 @@ class Screen:
         """Returns who is meant, and where it is, if there is room for that: what to do names it too."""
         units = self.cures.units_of(members)
         is_told = self.is_head_long and len(units) == 1 and self.system != "rabbitmq"
-        where = f" of {self.cures.called(units[0])}" if is_told else ""
+        where = f" of {self.cures.name_of_unit(units[0])}" if is_told else ""
         if len(roots) > 1:
             return f"{len(roots):,} groups wait, each for itself: {self.noun_of(members)}{where} in all"
         if len(members) == 1:

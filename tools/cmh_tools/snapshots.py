@@ -182,16 +182,16 @@ def join(process: Process, later: Optional[Process], known: Known) -> Process:
     if process.sign is Sign.ENDED:
         return end_by_both(process, later)
     if later is None or later.sign is Sign.ENDED:
-        return moved(process, "it has ended since")
+        return mover_of(process, "it has ended since")
     if is_elsewhere(process, later):
-        return moved(process, "it has moved")
+        return mover_of(process, "it has moved")
     going = [either for either in (process, later) if either.sign in GOING]
     if going and (SYSTEM in going[0].because or Sign.UNKNOWN not in (process.sign, later.sign)):
         return runner_of(process, later)
     return waiter_of(process, later, known)
 
 
-def moved(process: Process, why: str) -> Process:
+def mover_of(process: Process, why: str) -> Process:
     """One that isn't at the same wait in both states: a deadlock never ends. Nor does a fact on the place that it has
     left decide it."""
     is_by_hand = BY_HAND in process.because

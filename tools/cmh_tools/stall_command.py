@@ -22,7 +22,7 @@ from .dump_command import NO_GUESSES, texts_of
 from .explain import Explanation
 from .explain_command import index_of, load_noted
 from .facts import Facts, read_facts
-from .files import Failure, Refusal, decoded, say, shown, write_out
+from .files import Failure, Refusal, decode, say, shown, write_out
 from .folder import Folder, make_folder
 from .making import sketch_for
 from .model import Sign, Wakers
@@ -128,7 +128,7 @@ def main(words: Sequence[str]) -> int:
         check_heap(made, asked)
         if asked.stacks and all(named[0] != "linux" for named in [asked.words, *asked.others]):
             made.error("--stacks is of Linux: linux PID --stacks")
-        parts = [part for named in [asked.words, *asked.others] for part in captured(made, named, asked)]
+        parts = [part for named in [asked.words, *asked.others] for part in captures_of(made, named, asked)]
         parts = without_debugger(with_sockets([with_stacks(part) for part in parts] if asked.stacks else parts))
         return stall(parts, asked)
     if asked.others or asked.output or asked.words[1:] or not os.path.lexists(f"{asked.words[0]}/{RECORD}"):
@@ -164,7 +164,7 @@ def check_heap(parser: Parser, asked: argparse.Namespace) -> None:
         parser.error(f"{HEAP}. If that may be, add --yes")
 
 
-def captured(parser: Parser, words: List[str], asked: argparse.Namespace) -> List[Capture]:
+def captures_of(parser: Parser, words: List[str], asked: argparse.Namespace) -> List[Capture]:
     """Returns what some words ask to take, or ends the command where they are wrong."""
     system, *targets = words
     if system not in SYSTEMS:
@@ -375,7 +375,7 @@ def say_in(folder: Folder, numbers: List[int]) -> None:
 
 def facts_of(folder: Folder, path: str) -> Facts:
     """Returns the facts that people have written into a folder."""
-    return read_facts(decoded(folder.read_bytes(path), path), path) if folder.has(path) else Facts()
+    return read_facts(decode(folder.read_bytes(path), path), path) if folder.has(path) else Facts()
 
 
 def keep_dump(folder: Folder, dump: Dump, path: str) -> List[Proposal]:
