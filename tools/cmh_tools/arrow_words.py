@@ -25,7 +25,7 @@ def words_of(reach: Reach, start: int, end: int, needs_all: bool) -> str:
     return f"{who} → {each_words(reach)}".lstrip("→ ")
 
 
-def broken(words: str) -> List[str]:
+def lines_of_words(words: str) -> List[str]:
     """Returns the words on an arrow in lines, as where boxes are narrow."""
     return words.replace(" → ", " →\n").replace(" of these", "\nof these").split("\n") if words else []
 

@@ -5,7 +5,7 @@ from __future__ import annotations
 import re
 from typing import Dict, Iterable, Iterator, List, NamedTuple, Tuple
 
-from .arrow_words import broken
+from .arrow_words import lines_of_words
 from .explain import number_of
 from .files import MOST_OF_LINE, shown
 from .folding import BEHIND, FREE, MORE, OPEN, OVER, ROOT, RUNNING, SHARED, UNDECIDED
@@ -167,7 +167,7 @@ def look_words(sort: str) -> str:
 def words_line(number: int, arrow: Arrow, plan: Plan) -> str:
     """Returns the line of the words on an arrow, which are broken where boxes are narrow. They are a node of their own,
     for Graphviz drops the label of an arrow when it packs frames."""
-    words = arrow.words if plan.width == WIDTH else "\\n".join(broken(arrow.words))
+    words = arrow.words if plan.width == WIDTH else "\\n".join(lines_of_words(arrow.words))
     look = 'shape=plaintext, height=0.2, margin="0.04,0.01", fontsize=11'
     return f'  w{number} [label="{words}", {look}, class=a{number}];'
 

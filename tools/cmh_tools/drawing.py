@@ -39,7 +39,7 @@ def drawings(answers: Sequence[Tuple[Explanation, Optional[int]]]) -> List[Drawi
     return [fitting(this, index, layered_tree) for this, index in answers]
 
 
-def fitting(this: Explanation, index: Optional[int], laid_out: Callable[[Picture], Element]) -> Drawing:
+def fitting(this: Explanation, index: Optional[int], lay_out: Callable[[Picture], Element]) -> Drawing:
     """Returns a drawing that is narrow enough for its letters, if one is."""
     sizes: List[int] = []
     for most in SIZES:
@@ -47,7 +47,7 @@ def fitting(this: Explanation, index: Optional[int], laid_out: Callable[[Picture
         if len(picture.boxes) in sizes:
             continue
         sizes.append(len(picture.boxes))
-        tree = laid_out(picture)
+        tree = lay_out(picture)
         if width_of(tree) <= FIT:
             break
     return Drawing(picture, text_of_tree(picture, tree))

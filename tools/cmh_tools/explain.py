@@ -15,7 +15,7 @@ from .model import Sign
 from .proposals import legend
 from .reasons import more_lines, rests_lines
 from .sketch import ALL, ANY, DONE, ENDED, RUNS, UNKNOWN, Process
-from .terminal import PLAIN, AsItIs, Painted, Style, fill, laid_out, painted
+from .terminal import PLAIN, AsItIs, Painted, Style, fill, lay_out, paint_line
 
 LINES, NAMES = 8, 5  # as many lines and names are shown; the others are counted
 UNSAID = "it isn't said why"
@@ -173,7 +173,7 @@ class Explanation(Findings):
         ended = f"; {number_of(len(self.ended))} more {'has' if len(self.ended) == 1 else 'have'} ended"
         said = [words for verdict, words in counts.items() if verdict != LIKELY or self.likely]
         line = f"{self.headline.value}: {number_of(total)}: {', '.join(said)}{ended if self.ended else ''}."
-        return painted(line, *((part, verdict) for verdict, part in counts.items() if part[:2] != "0 "))
+        return paint_line(line, *((part, verdict) for verdict, part in counts.items() if part[:2] != "0 "))
 
     def head(self) -> List[str]:
         as_of = self.dump.sketch.as_of
@@ -195,7 +195,7 @@ class Explanation(Findings):
         what = "process, and nobody can unblock it" if members == 1 else \
             "processes wait for each other, and nobody else can unblock them"
         likely, verdict = ("", STUCK) if self.is_certain(number) else (", likely", LIKELY)
-        return [painted(f"Root {number + 1}{likely}: {members:,} {what}", verdict), *self.cycle_lines(number)]
+        return [paint_line(f"Root {number + 1}{likely}: {members:,} {what}", verdict), *self.cycle_lines(number)]
 
     def cycle_lines(self, number: int) -> List[str]:
         """Returns the line that draws a root that is one cycle, with as many of its names as fit."""
@@ -214,7 +214,7 @@ class Explanation(Findings):
         lines += rests_lines(self.rests, rests, self.everything)
         if behind:
             head = f"Stuck behind root {number + 1} alone: {number_of(len(behind))}"
-            lines += [painted(head, STUCK), *self.group(behind)]
+            lines += [paint_line(head, STUCK), *self.group(behind)]
             lines += more_lines(self.rests, self.rests.of(self.processes(behind), rests), self.everything)
         return lines
 
@@ -254,7 +254,7 @@ class Explanation(Findings):
         return shown(reasons.pop()) if len(reasons) == 1 else ""
 
     def behind_several(self) -> List[str]:
-        lines: List[str] = [painted(f"Stuck behind more than one root: {number_of(len(self.roots.shared))}", STUCK)]
+        lines: List[str] = [paint_line(f"Stuck behind more than one root: {number_of(len(self.roots.shared))}", STUCK)]
         most = len(self.roots.shared) if self.everything else LINES
         for at in self.roots.shared[:most]:
             first, *more = self.lines(at)
@@ -299,7 +299,7 @@ class Explanation(Findings):
         more = f", and {number_of(others, 'other that depends', 'others that depend')} on them" if others else ""
         head = f"Undecided: {number_of(len(counts))} of which the state doesn't say enough{more}" if counts else \
             f"Undecided: {number_of(others)}, and nobody goes on who may unblock {'it' if others == 1 else 'them'}"
-        lines = [painted(head, UNDECIDED), *self.group(counts, lambda row: self.waiters_words(row, counts[row[0]]))]
+        lines = [paint_line(head, UNDECIDED), *self.group(counts, lambda row: self.waiters_words(row, counts[row[0]]))]
         facts = self.proposals()
         if facts:
             lines += ["Facts that would decide them, for you to complete:"]
@@ -321,7 +321,7 @@ class Explanation(Findings):
         """Those that aren't stuck, by who runs."""
         running, total = self.running(), number_of(len(self.well))
         head = f"Not stuck: {total}, as far as the state shows. That doesn't mean that they make progress."
-        lines: List[str] = [painted(head, ("Not stuck", NOT_STUCK))]
+        lines: List[str] = [paint_line(head, ("Not stuck", NOT_STUCK))]
         why = Counter(shown(self.waits.processes[at].reason) or UNSAID for at in running)
         words = "; ".join(f"{number:,}: {reason}" for reason, number in why.most_common())
         if running:
@@ -380,12 +380,12 @@ class Explanation(Findings):
     def summary(self, at: Optional[int] = None) -> str:
         """Returns the first line, or that of the chain of one process."""
         line = self.counts_line() if at is None else self.why_head(at)
-        return laid_out(line, self.style._replace(width=len(line) + 1)) + "\n"
+        return lay_out(line, self.style._replace(width=len(line) + 1)) + "\n"
 
     # One process and why
 
     def why_head(self, at: int) -> Painted:
-        return painted(f"{self.name(at)}: {self.answer(at)}.", (self.answer(at), self.verdict(at)))
+        return paint_line(f"{self.name(at)}: {self.answer(at)}.", (self.answer(at), self.verdict(at)))
 
     def why(self, at: int) -> str:
         """Returns the chain from one process to what its answer rests on."""

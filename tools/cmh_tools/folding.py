@@ -65,11 +65,11 @@ class Folding:
 
     def rows(self) -> List[Tuple[Part, Row]]:
         """Returns the rows with their parts, those of roots first."""
-        rows = self.folded()
+        rows = self.fold()
         order = sorted(rows, key=lambda part: (SORTS.index(part.sort), part.root or 0))
         return [(part, row) for part in order for row in rows[part]]
 
-    def folded(self) -> Dict[Part, List[Row]]:
+    def fold(self) -> Dict[Part, List[Row]]:
         """Returns the rows of each part: if they are too many, as many as are ample for it, and then one for each part
         that has most, those of roots last."""
         if self.is_whole:

@@ -6,7 +6,7 @@ from __future__ import annotations
 import math
 from typing import Dict, FrozenSet, Iterable, List, NamedTuple, Optional, Set, Tuple
 
-from .arrow_words import broken
+from .arrow_words import lines_of_words
 from .dot import HEAD, wrap
 from .folding import ROOT
 from .picture import MESSAGE, Arrow, Picture
@@ -35,7 +35,7 @@ class Spot(NamedTuple):
     def right(self) -> float:
         return self.left + self.width
 
-    def moved(self, right: float, down: float) -> Spot:
+    def shift(self, right: float, down: float) -> Spot:
         return self._replace(left=self.left + right, top=self.top + down)
 
 
@@ -60,7 +60,7 @@ class Path(NamedTuple):
 
 
 def width_of_words(words: str) -> float:
-    return LETTER * max([0, *map(len, broken(words))])
+    return LETTER * max([0, *map(len, lines_of_words(words))])
 
 
 def size_of(lines: List[str]) -> Tuple[float, float]:
@@ -77,13 +77,13 @@ class Layers:
         self.links = {number: self.link(arrow) for number, arrow in enumerate(picture.arrows)}
         self.blocks = {unit: self.block(unit) for unit in dict.fromkeys(self.unit_of.values())}
         self.layer = layers_of(list(self.blocks), [link for link in self.links.values() if link])
-        self.columns = self.ordered(self.filled())
+        self.columns = self.order_columns(self.fill_columns())
         self.width, self.height = 0.0, 0.0
         self.frames: Dict[Unit, Spot] = {}
         self.gates: Dict[Tuple[int, int], Tuple[Point, Point]] = {}
         self.rights: Dict[int, float] = {}
         self.place_columns()
-        self.boxes = {number: spot.moved(self.frames[unit].left, self.frames[unit].top)
+        self.boxes = {number: spot.shift(self.frames[unit].left, self.frames[unit].top)
                       for unit, block in self.blocks.items() for number, spot in block.boxes.items()}
         self.parts = self.parts_of_boxes()
         self.paths = [Path(number, self.path(number)) for number in self.links]
@@ -186,7 +186,7 @@ class Layers:
         start, end = (end, start) if arrow.style == MESSAGE else (start, end)
         return None if start == end else (start, end)
 
-    def filled(self) -> List[List[Tuple[int, int]]]:
+    def fill_columns(self) -> List[List[Tuple[int, int]]]:
         """Returns what each layer has: blocks, as (0, unit), and places of arrows that go through, as (1 + arrow, 0).
         """
         columns: List[List[Tuple[int, int]]] = [[] for _ in range(max(self.layer.values()) + 1)]
@@ -199,7 +199,7 @@ class Layers:
                     columns[layer].append((1 + number, 0))
         return columns
 
-    def ordered(self, columns: List[List[Tuple[int, int]]]) -> List[List[Tuple[int, int]]]:
+    def order_columns(self, columns: List[List[Tuple[int, int]]]) -> List[List[Tuple[int, int]]]:
         """Returns the layers in such an order that each stands near the middle of those to which it is joined."""
         for sweep in range(SWEEPS):
             layers = range(1, len(columns)) if sweep % 2 == 0 else range(len(columns) - 2, -1, -1)
@@ -208,12 +208,12 @@ class Layers:
                 places = {key: place for place, key in enumerate(beside)}
                 middles = {}
                 for place, key in enumerate(columns[layer]):
-                    near = [places[other] for other in self.joined(key, places)]
+                    near = [places[other] for other in self.neighbours_of(key, places)]
                     middles[key] = sum(near) / len(near) if near else place
                 columns[layer] = sorted(columns[layer], key=lambda key: middles[key])
         return columns
 
-    def joined(self, key: Tuple[int, int], places: Dict[Tuple[int, int], int]) -> Set[Tuple[int, int]]:
+    def neighbours_of(self, key: Tuple[int, int], places: Dict[Tuple[int, int], int]) -> Set[Tuple[int, int]]:
         """Returns what of a layer beside a block, or the place of an arrow, is joined to it."""
         joined = set()
         for number, link in self.links.items():

@@ -4,7 +4,7 @@ from __future__ import annotations
 import xml.etree.ElementTree as ElementTree
 from typing import Iterator, List, Tuple
 
-from .arrow_words import broken
+from .arrow_words import lines_of_words
 from .dot import ARROWS, CAPTION, FONT, LOOKS, notes_of, wrap
 from .layers import LETTER, LINE, MARGIN, WIDTHS, Layers, Spot
 from .picture import MESSAGE, Picture
@@ -48,7 +48,7 @@ def layered_tree(picture: Picture) -> Element:
     for path in layers.paths:
         draw_arrow(graph, layers, path.arrow, [(right, down + above) for right, down in path.corners])
     for number, spot in layers.boxes.items():
-        draw_box(graph, layers, number, spot.moved(0, above))
+        draw_box(graph, layers, number, spot.shift(0, above))
     bottom = draw_legend(graph, picture, above + layers.height + MARGIN)
     longest = max([0, *(len(line) for line in caption)])
     width = max(layers.width, longest * LETTER * 1.36 + 2 * MARGIN, 30 * LETTER)
@@ -62,7 +62,7 @@ def draw_frames(graph: Element, layers: Layers, above: float) -> None:
     """Draws the frame of each root, with its title."""
     for unit, frame in layers.frames.items():
         if unit < 0:
-            made, spot = group(graph, "cluster rootframe", f"cluster_root_{-1 - unit}"), frame.moved(0, above)
+            made, spot = group(graph, "cluster rootframe", f"cluster_root_{-1 - unit}"), frame.shift(0, above)
             right, bottom = spot.right(), spot.top + spot.height
             element(made, "path", fill=ROOT_FILL, stroke=ROOT_EDGE, stroke_width=2,
                     d=f"M{spot.left:.1f},{spot.top:.1f} H{right:.1f} V{bottom:.1f} H{spot.left:.1f} Z")
@@ -116,7 +116,7 @@ def draw_words(label: Element, words: str, corners: List[Point], is_within: bool
     (left, first), (right, last) = corners[:2]
     if is_within:
         first, last, left = corners[1][1], corners[2 % len(corners)][1], min(left, right) - 3
-    lines = broken(words)
+    lines = lines_of_words(words)
     for number, line in enumerate(lines):
         base = (first + last) / 2 + 4 + LINE * (number - (len(lines) - 1) / 2)
         text(label, line, left if is_within else (left + right) / 2, base, anchor="end" if is_within else "middle")

@@ -56,7 +56,7 @@ def digest(body: str) -> str:
     return base64.b64encode(hashlib.sha256(body.encode()).digest()).decode()
 
 
-def listed(items: Iterable[str]) -> List[str]:
+def list_of(items: Iterable[str]) -> List[str]:
     """Returns a list of items, or nothing."""
     body = "\n".join(f"<li>{item}</li>" for item in items)
     return [f"<ul>\n{body}\n</ul>"] if body else []
@@ -94,11 +94,11 @@ class Page:
         sections = [Section("since", "Since the older answer", "Since then", list(self.since())),
                     Section("roots", "Roots: where it has to be broken", "Roots", list(self.roots())),
                     Section("picture", "Picture", "Picture", [VIEW.format(picture=self.picture.svg)]),
-                    Section("undecided", "Undecided", "Undecided", list(self.undecided())),
+                    Section("undecided", "Undecided", "Undecided", list(self.undecided_parts())),
                     Section("processes", "Processes", "Processes", self.table()),
                     Section("well", "Not stuck", "Not stuck", self.well()),
                     Section("reasons", "On what the answer rests", "Reasons", self.reason_parts()),
-                    Section("warnings", "Warnings", "Warnings", listed(map(text, self.tree["warnings"]))),
+                    Section("warnings", "Warnings", "Warnings", list_of(map(text, self.tree["warnings"]))),
                     Section("state", "The state", "State", list(self.state_parts()))]
         there = [section for section in sections if section.parts]
         looks, acts = style(), script()
@@ -139,7 +139,7 @@ class Page:
             yield '<table class="roots"><thead><tr><th scope="col">Older</th><th scope="col">Newer</th>' \
                 '<th scope="col">Which is</th></tr></thead><tbody>'
             yield from (*rows, "</tbody></table>")
-        yield from listed(f"{number_of(len(names))} {several(change, len(names))}: {self.links(names)}"
+        yield from list_of(f"{number_of(len(names))} {several(change, len(names))}: {self.links(names)}"
                           for change, names in ((change, compared.names(change)) for change in CHANGES) if names)
         yield f"<details><summary>The older picture</summary>{self.older.picture}</details>"
 
@@ -174,7 +174,7 @@ class Page:
             len(members) <= NAMES else self.links(members)
         behind = [f"<p>{number_of(len(row['behind']))} stuck behind it alone.</p>"] if row["behind"] else []
         rests = list(map(self.rest_words, row["rests_on"]))
-        rests = [f"<p>It rests on {rests[0]}.</p>"] if len(rests) == 1 else ["<p>It rests on:</p>", *listed(rests)]
+        rests = [f"<p>It rests on {rests[0]}.</p>"] if len(rests) == 1 else ["<p>It rests on:</p>", *list_of(rests)]
         return "\n".join([f'<div class="root" id="root{number}">', f"<h3>Root {number}: {words}</h3>",
                           f'<p class="restart">{text(restart[:1].upper() + restart[1:])}</p>', f"<p>{several}</p>",
                           *self.doubts(row), *behind, *rests, "</div>"])
@@ -187,7 +187,7 @@ class Page:
             return []
         items = [f"{doubt.number}: {text(self.this.doubt_words(doubt, members))}" for doubt in doubts]
         numbers = ",".join(str(doubt.number) for doubt in doubts)
-        return ["<p>Unless</p>", *listed(items),
+        return ["<p>Unless</p>", *list_of(items),
                 f"<p>If none of them is so: <code>cmh-stall FOLDER --true {numbers}</code></p>"]
 
     def rest_words(self, row: Tree) -> str:
@@ -224,7 +224,7 @@ class Page:
 
     # Undecided, and not stuck
 
-    def undecided(self) -> Iterator[str]:
+    def undecided_parts(self) -> Iterator[str]:
         rows = self.tree["unknown"]
         if not self.this.undecided:
             return
@@ -249,15 +249,15 @@ class Page:
             whom = self.link(first["name"]) if others else "it"
             items.append(f"{names}: {'each ' if others else ''}{reason}{hang(first['others'], ' (', f' on {whom})')}")
         items += [f"{number_of(len(groups) - most, 'reason', 'reasons')} more"] if len(groups) > most else []
-        return listed(items)
+        return list_of(items)
 
     def well(self) -> List[str]:
         """Returns what is said of those that aren't stuck: on which premises some run, and who may wait in vain at the
         end of a limit."""
-        supposed = list(self.supposed())[:LINES]
-        return [*(["<p>These run on a premise:</p>", *listed(supposed)] if supposed else []), *self.limits()]
+        supposed = list(self.premise_items())[:LINES]
+        return [*(["<p>These run on a premise:</p>", *list_of(supposed)] if supposed else []), *self.limits()]
 
-    def supposed(self) -> Iterator[str]:
+    def premise_items(self) -> Iterator[str]:
         """Yields those that run on a premise, and do the same."""
         for name, indices in self.this.runners_by_premise(with_limits=True).items():
             groups: Dict[str, List[str]] = {}
@@ -351,7 +351,7 @@ class Page:
             words = f"the premise that {words}" if kind == "premise" else f"<code>{words}</code>"
             name = text(row[key])
             items.append(f'<span id="r{number}">{name}</span>: {words} ({number_of(row["processes"])})')
-        return listed(items)
+        return list_of(items)
 
     def state_parts(self) -> Iterator[str]:
         for name, state in self.states:

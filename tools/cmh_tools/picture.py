@@ -134,13 +134,13 @@ class Picture:
         """Returns who waits for whom in a root, each with its line of source: all of it if it is one cycle."""
         members = self.this.roots.roots[number]
         cycle = self.this.cycle(number) or self.this.shortest_cycle(number)
-        names = [self.placed(index) for index in cycle[:AROUND]]
+        names = [self.name_with_line(index) for index in cycle[:AROUND]]
         if not names[1:]:
             return f"{names[0]} waits for itself" if names else ""
         names += [f"{len(cycle) - AROUND:,} more"] if cycle[AROUND:] else []
         return f"{'' if len(cycle) == len(members) else 'in it: '}{' → '.join([*names, self.this.name(cycle[0])])}"
 
-    def placed(self, index: int) -> str:
+    def name_with_line(self, index: int) -> str:
         """Returns the name of one with its line of source, if that is known."""
         process = self.waits.processes[index]
         place = PLACE.search(process.frames[0] if process.frames else process.note)
@@ -151,7 +151,7 @@ class Picture:
     def box(self, number: int, part: Part, members: Row) -> Box:
         lines = self.lines_of_one(part, members[0]) if len(members) == 1 else self.lines_of_many(part, members)
         sites = {self.waits.processes[member].site for member in members}
-        named = [called_site(site) for site in sites if site is not None] if self.has_sites else []
+        named = [site_words(site) for site in sites if site is not None] if self.has_sites else []
         site = f"{len(named):,} sites" if named[1:] else "".join(named if len(sites) == 1 else [])
         return Box(number, part, members, [line for line in lines if line], site, len(sites) == 1)
 
@@ -233,7 +233,7 @@ class Picture:
         if self.is_whole:
             return [Arrow(start, end, style) for end in ends]
         own, is_folded = self.boxes[start].part, len(self.boxes[start].members) > 1
-        ends = self.telling(start, ends)
+        ends = self.ends_that_tell(start, ends)
         is_ring = own.sort == ROOT and is_folded or ends == [start] and not is_folded
         self.within.update([start] if start in ends and is_folded and not is_ring else [])
         ends = [end for end in ends if end != start or is_ring]
@@ -244,9 +244,9 @@ class Picture:
         arrows += [Arrow(start, end, style) for end in ends if self.boxes[end].part not in whole]
         if own.sort == BEHIND and is_folded and len(arrows) > WAYS:
             return [Arrow(start, self.first_of_root(own.root), style, True, is_far=True)]
-        return arrows if len(self.boxes) <= SMALL else self.kept(start, arrows)
+        return arrows if len(self.boxes) <= SMALL else self.cut_arrows(start, arrows)
 
-    def telling(self, start: int, ends: List[int]) -> List[int]:
+    def ends_that_tell(self, start: int, ends: List[int]) -> List[int]:
         """Returns the boxes to which a box that isn't stuck has arrows: of a picture in which some are folded, none of
         the stuck, for these don't tell why it goes on."""
         if len(self.boxes) == len(self.box_of) or answer_of(self.boxes[start]) != len(ANSWERS) - 1:
@@ -259,7 +259,7 @@ class Picture:
         """Returns the first box of a root."""
         return next(box.number for box in self.boxes if box.part == Part(ROOT, number))
 
-    def kept(self, start: int, arrows: List[Arrow]) -> List[Arrow]:
+    def cut_arrows(self, start: int, arrows: List[Arrow]) -> List[Arrow]:
         """Returns the arrows from a box that a large picture has."""
         kept = [arrow for arrow in arrows if answer_of(self.boxes[arrow.end]) == answer_of(self.boxes[start])]
         kept = sorted(kept, key=lambda arrow: SORTS.index(self.boxes[arrow.end].part.sort))[:ARROWS]
@@ -324,7 +324,7 @@ class Picture:
         return f"{name} ({arrow.words})" if arrow.words else name
 
 
-def called_site(site: str) -> str:
+def site_words(site: str) -> str:
     """Returns what a site is called: a name alone could be anything, and several words say what it is."""
     return short_name(site) if " " in site else f"site {short_name(site)}"
 

@@ -18,7 +18,7 @@ from .files import short_name, shown
 from .model import Sign, Wakers
 from .rule import Headline
 from .sketch import ALL, ANY, ENDED, OF_SERVER, REST, UNREADABLE
-from .terminal import AsItIs, Painted, fill, painted
+from .terminal import AsItIs, Painted, fill, paint_line
 
 WIDTH = 80
 MEMBERS, ROOTS, DOUBTS, ENDS, CURES, BUSY = 4, 5, 4, 4, 4, 2  # of each, as many are shown; the others are counted
@@ -75,10 +75,10 @@ class Screen:
         self.prefix = prefix_of(self.told_names())
 
     def text(self) -> str:
-        body = list(map(self.wrapped, self.body()))
+        body = list(map(self.wrap, self.body()))
         return fill([[*self.head(), *body, *self.last()]], self.style._replace(width=self.width))
 
-    def wrapped(self, line: str) -> str:
+    def wrap(self, line: str) -> str:
         """Returns a line that is broken, also within a word: a path may be longer than it."""
         if isinstance(line, AsItIs) or len(line) <= self.width:
             return line
@@ -98,7 +98,7 @@ class Screen:
         headline = self.this.headline
         words = {Headline.DEADLOCK: self.roots_words, Headline.LIKELY: self.roots_words, Headline.NONE: self.free_words,
                  Headline.IDLE: self.idle_words, Headline.NOT_KNOWN: self.open_words}[headline]()
-        return painted(f"{headline.value}: {words}", (headline.value, COLOURS.get(headline, "undecided")))
+        return paint_line(f"{headline.value}: {words}", (headline.value, COLOURS.get(headline, "undecided")))
 
     def height(self, lines: List[str]) -> int:
         """Returns how many lines of the screen some take."""
@@ -178,7 +178,7 @@ class Screen:
         return f"{names or f'{len(busy):,}'} {'is' if len(busy) == 1 else 'are'} busy." if busy else "Nobody is busy."
 
     def free_words(self) -> str:
-        blocked = self.blocked()
+        blocked = self.those_blocked()
         if not blocked:
             return f"nobody waits for another one. {self.life()}"
         goes_on = any(process.sign is Sign.GOES_ON for process in self.waits.processes)
@@ -197,7 +197,7 @@ class Screen:
         whom = "it" if number == 1 else "them"
         return f"of {self.noun_of(self.this.undecided)} it isn't known who frees {whom}. {self.life()}"
 
-    def blocked(self) -> List[int]:
+    def those_blocked(self) -> List[int]:
         return [index for index in range(self.waits.number) if self.waits.subjects[index].sign is Sign.BLOCKED]
 
     # Who
@@ -241,12 +241,12 @@ class Screen:
 
     def unless(self, members: List[int], rows: int = 1) -> List[str]:
         """Returns the first few doubts on which it hangs that some are stuck, of so many rows each if that helps."""
-        whom, doubts = self.doubted(members), self.told_doubts(members)
+        whom, doubts = self.whose_wait(members), self.told_doubts(members)
         left, numbers = len(self.this.doubts_of(members)) - len(doubts), [doubt.number for doubt in doubts]
         if numbers and self.said.issuperset(numbers):
             return [f"Unless {whom} is freed by {self.some(map(str, numbers), ' or ')}, as above"]
-        lines = [self.numbered(doubt.number, self.this.doubter_words(doubt, self.called, rows * (self.width - HEAD)))
-                 for doubt in doubts]
+        room = rows * (self.width - HEAD)
+        lines = [self.doubt_lines(doubt.number, self.this.doubter_words(doubt, self.name_of, room)) for doubt in doubts]
         more = [f"  and {left:,} more"] if left else []
         return [f"Unless {whom} is freed by", *lines, *more] if lines else []
 
@@ -255,17 +255,17 @@ class Screen:
         doubts = self.this.doubts_of(members)
         return doubts[:DOUBTS - bool(doubts[DOUBTS:])]
 
-    def doubted(self, members: List[int]) -> str:
+    def whose_wait(self, members: List[int]) -> str:
         """Returns whose wait it is that somebody may end."""
         waits = {name for doubt in self.this.doubts_of(members) for name in doubt.waits}
         freed = [self.name(index) for index in members if self.waits.processes[index].name in waits]
         return "it" if len(members) == 1 else freed[0] if len(freed) == 1 else "one of them"
 
-    def called(self, name: str) -> str:
+    def name_of(self, name: str) -> str:
         """Returns the name of one without what all names begin with."""
         return self.name(self.waits.index[name]) if name in self.waits.index else name
 
-    def numbered(self, number: int, words: str) -> str:
+    def doubt_lines(self, number: int, words: str) -> str:
         lines = textwrap.wrap(words, self.width - HEAD, break_on_hyphens=False)
         return AsItIs("\n".join(f"{f'  {number:<3}' if not row else '':<{HEAD - 2}}{line}"
                                 for row, line in enumerate(lines)))
@@ -598,7 +598,7 @@ class Screen:
         doubters = sum(max(1, len(doubt.who)) for doubt in doubts)
         several = f"none of {'these' if number <= DOUBTS else f'the {number}'} ever"
         who = {1: "it never", 2: "neither ever"}.get(doubters, several)
-        what, numbers = f"{who} frees {self.doubted(first)}", ",".join(str(doubt.number) for doubt in doubts)
+        what, numbers = f"{who} frees {self.whose_wait(first)}", ",".join(str(doubt.number) for doubt in doubts)
         if not self.more.has_true:
             return [f"if {what}, it is certain."]
         words, command = f"is it true that {what}? Then it is certain:", self.more.asks(f"--true {numbers}")
@@ -609,7 +609,7 @@ class Screen:
         roots, room = self.this.roots.roots, self.width - HEAD
         undecided = sorted(self.this.undecided, key=lambda index: self.waits.subjects[index].sign is not Sign.BLOCKED)
         first = [self.waits.processes[index].name for index in (roots[0] if roots else undecided)[:1]]
-        options = [f"--why {name}" for name in [*map(quoted, first), "NAME"]]
+        options = [f"--why {name}" for name in [*map(quote_for_shell, first), "NAME"]]
         texts = [self.more.asks(options[0]), *(f"or {option} in place of --all" for option in options)]
         why = [next(text for text in texts if len(text) <= room)] if first else []
         return list(map(AsItIs, [self.more.asks("--all"), *why]))
@@ -651,7 +651,7 @@ def cut(text: str, most: int) -> str:
     return f"{text[:end]} .." if end > 0 else f"{text[:most - 2]}.."
 
 
-def quoted(text: str) -> str:
+def quote_for_shell(text: str) -> str:
     """Returns a name as it is typed into a shell."""
     return shlex.quote(short_name(text))
 

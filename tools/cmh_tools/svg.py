@@ -12,7 +12,7 @@ from .files import Failure, shown
 from .folding import MOST
 from .picture import Picture
 from .start import SIGNALS
-from .titles import FIT, SPACE, crossed, free_titles, tag_of
+from .titles import FIT, SPACE, crossed_groups, free_titles, tag_of
 
 # The layouts that are tried, one after the other.
 PLANS = (Plan(), Plan(has_site_frames=False), Plan(width=28, gap=0.35), Plan(width=28, gap=0.3, has_site_frames=False))
@@ -41,7 +41,7 @@ def best_tree(picture: Picture) -> ElementTree.Element:
     trees: List[Tuple[float, int, int, ElementTree.Element]] = []
     for plan in PLANS if len(picture.boxes) <= MOST else PLANS[:1]:
         tree = tree_of(dot(picture, plan))
-        faults = len(crossed(tree)), max(width_of(tree) - FIT, 0)
+        faults = len(crossed_groups(tree)), max(width_of(tree) - FIT, 0)
         if faults == (0, 0):
             return tree
         trees.append((faults[1], faults[0], len(trees), tree))
@@ -57,7 +57,7 @@ def width_of(tree: ElementTree.Element) -> float:
 def tree_of(text: str) -> ElementTree.Element:
     """Returns what Graphviz makes of the text of a graph."""
     try:
-        return ElementTree.fromstring(laid_out(text))
+        return ElementTree.fromstring(lay_out(text))
     except ElementTree.ParseError as error:
         raise Failure(f"what dot prints is no SVG: {error}") from None
 
@@ -75,7 +75,7 @@ def text_of_tree(picture: Picture, tree: ElementTree.Element) -> str:
     return ElementTree.tostring(made, encoding="unicode") + "\n"
 
 
-def laid_out(text: str) -> bytes:
+def lay_out(text: str) -> bytes:
     """Returns what Graphviz makes of a graph."""
     ran = None
     try:

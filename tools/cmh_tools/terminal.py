@@ -41,7 +41,7 @@ class Painted(str):
     parts: List[Tuple[str, str]]
 
 
-def painted(line: str, *parts: Union[str, Tuple[str, str]]) -> Painted:
+def paint_line(line: str, *parts: Union[str, Tuple[str, str]]) -> Painted:
     """Returns a line with parts that have the colour of a verdict. A verdict alone is that of the whole line."""
     made = Painted(line)
     made.parts = [(line, part) if isinstance(part, str) else part for part in parts]
@@ -50,10 +50,10 @@ def painted(line: str, *parts: Union[str, Tuple[str, str]]) -> Painted:
 
 def fill(paragraphs: Iterable[List[str]], style: Style = PLAIN) -> str:
     """Returns the text of paragraphs, each a list of lines with leading spaces that say how far they are moved in."""
-    return "\n\n".join("\n".join(laid_out(line, style) for line in lines) for lines in paragraphs) + "\n"
+    return "\n\n".join("\n".join(lay_out(line, style) for line in lines) for lines in paragraphs) + "\n"
 
 
-def laid_out(line: str, style: Style) -> str:
+def lay_out(line: str, style: Style) -> str:
     """Returns a line, broken where it is too wide, with its colours."""
     if isinstance(line, AsItIs):
         return line
@@ -72,10 +72,10 @@ def paint(text: str, part: str, verdict: str) -> str:
     code = CODES.get(verdict)
     pattern = r"\s+".join(map(re.escape, part.split()))
 
-    def coloured(match: "re.Match[str]") -> str:
+    def colour(match: "re.Match[str]") -> str:
         return "\n".join(f"\x1b[{code}m{line}\x1b[m" for line in match[0].split("\n"))
 
-    return re.sub(pattern, coloured, text, count=1) if code else text
+    return re.sub(pattern, colour, text, count=1) if code else text
 
 
 # What standard output takes

@@ -32,7 +32,7 @@ def tag_of(element: Element) -> str:
     return element.tag.replace(f"{{{SPACE}}}", "")
 
 
-def titled(tree: Element) -> List[Element]:
+def groups_with_titles(tree: Element) -> List[Element]:
     """Returns the groups that have a title: the graph, and its frames."""
     return [group for group in tree.iter() if tag_of(group) == "g" and
             {"graph", "cluster"}.intersection(group.get("class", "").split())]
@@ -74,11 +74,11 @@ def on_curve(corners: List[Point], part: float) -> Point:
     return corners[0]
 
 
-def crossed(tree: Element) -> List[Element]:
+def crossed_groups(tree: Element) -> List[Element]:
     """Returns the groups whose title an arrow crosses."""
     curves = [point for group in tree.iter() if "edge" in group.get("class", "").split()
               for path in group if tag_of(path) == "path" for point in points(path.get("d", ""))]
-    areas = [(group, [area_of(text) for text in texts(group)]) for group in titled(tree)]
+    areas = [(group, [area_of(text) for text in texts(group)]) for group in groups_with_titles(tree)]
     return [group for group, lines in areas if any(area.has(point) for area in lines for point in curves)]
 
 
@@ -88,7 +88,7 @@ def free_titles(tree: Element) -> None:
     graph = next(group for group in tree.iter() if "graph" in group.get("class", "").split())
     left, top, width, height = map(float, tree.get("viewBox", "0 0 0 0").split())
     moved: List[Element] = []
-    groups = crossed(tree)
+    groups = crossed_groups(tree)
     for group in groups:
         moved += texts(group) if "rootframe" in group.get("class", "").split() else []
         for text in texts(group) if group is not graph else ():
