@@ -218,13 +218,13 @@ class Findings(Verdicts):
 
     def runners_by_premise(self, with_limits: bool = False) -> Dict[str, List[int]]:
         """Returns the premises on which some run, with these; also that a limit of their wait ends, if it is asked."""
-        found: Dict[str, List[int]] = {}
+        runners: Dict[str, List[int]] = {}
         for at in self.running():
             for reason in self.waits.processes[at].because if self.waits.kinds[at] == RUNS else ():
                 name = reason.partition("premise ")[2]
                 if name and (with_limits or reason != premise(LIMIT)):
-                    found.setdefault(name, []).append(at)
-        return found
+                    runners.setdefault(name, []).append(at)
+        return runners
 
     def lines_on_limits(self) -> List[Line]:
         """Returns the lines of facts that would decide those that stood with a limit at the same place in all states,
