@@ -77,7 +77,7 @@ def counts_of(found: Findings) -> Dict[str, int]:
     """Returns how many there are of each. Those that have ended are none of `processes`, as in the text."""
     ended = len(found.ended)
     return {"processes": len(found.waits.processes) - ended, STUCK: len(found.certain.stuck), LIKELY: len(found.likely),
-            UNDECIDED: len(found.undecided), NOT_STUCK: len(found.well), "running": len(found.running()),
+            UNDECIDED: len(found.undecided), NOT_STUCK: len(found.well), "running": len(found.runners()),
             ENDED: ended, "roots": len(found.roots.roots)}
 
 

@@ -101,7 +101,7 @@ class Capture:
     def is_light(self) -> bool:
         """Whether more looks cost the system little: none holds a process or dumps a heap, and none ends it."""
         is_heavy = READER in self.command or self.has_stacks or bool({"--heap", "--kill"}.intersection(self.targets))
-        return not (is_heavy or self.held())
+        return not (is_heavy or self.those_held())
 
     def pause(self, seconds: float) -> float:
         """Returns the seconds from one look to the next."""
@@ -122,7 +122,7 @@ class Capture:
             return [*collector, *(word for pid in self.targets for word in ("--pid", pid))]
         return [recipe(self.system), *(nodes_first(self.targets) if self.system == "erlang" else self.targets)]
 
-    def held(self) -> List[int]:
+    def those_held(self) -> List[int]:
         """Returns the processes to which a debugger attaches."""
         if "gdb" in self.command or (self.system == "mpi" and not self.command):
             return [int(pid) for target in self.targets for pid in pids_of(target)]
@@ -231,7 +231,7 @@ def with_sockets(captures: List[Capture]) -> List[Capture]:
 def without_debugger(captures: List[Capture]) -> List[Capture]:
     """Returns captures without the frames of Python by a debugger, where Linux is looked at too: what is held wakes,
     and Linux would see that nobody has stood still. Its own frames name functions of the program's libraries alone."""
-    bare = [capture for capture in captures if capture.system == "python" and capture.held()]
+    bare = [capture for capture in captures if capture.system == "python" and capture.those_held()]
     first = next((capture for capture in captures if capture.system == "linux"), None)
     if first is None or not bare:
         return captures
@@ -364,7 +364,7 @@ class Running:
     def __init__(self, capture: Capture, seconds: float, env: Dict[str, str]) -> None:
         self.capture = capture
         self.lacks: List[str] = []
-        self.held = [pid for pid in capture.held() if not standstill(pid)]
+        self.held = [pid for pid in capture.those_held() if not standstill(pid)]
         self.process = subprocess.Popen(
             capture.words(seconds), stdin=subprocess.DEVNULL, stdout=subprocess.PIPE, stderr=subprocess.PIPE,
             start_new_session=True, env={**os.environ, "CMH_SECONDS": f"{capture.pause(seconds):g}",

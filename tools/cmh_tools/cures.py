@@ -157,7 +157,7 @@ class Cures:
     def cure_of(self, number: int, members: List[int]) -> Cure:
         """Returns the least that breaks a root: several units if each is enough. A root within one unit is broken by
         that."""
-        ended = self.ending(members)
+        ended = self.units_to_end(members)
         if ended:
             return Cure(ended, [number])
         units = list(dict.fromkeys(map(self.unit_of, members)))
@@ -178,7 +178,7 @@ class Cures:
         return unit not in self.remedies, all(
             self.answer.waits.processes[index].sign is Sign.RESTS for index in self.members.get(unit, ()))
 
-    def ending(self, members: List[int]) -> List[str]:
+    def units_to_end(self, members: List[int]) -> List[str]:
         """Returns the processes of a root that can be ended by themselves, as something begins them again, and whose
         end is noticed by one that waits for their answer: those by which all others end one after another, or if there
         is none, all."""

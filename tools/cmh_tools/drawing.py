@@ -33,13 +33,13 @@ def drawings(answers: Sequence[Tuple[Explanation, Optional[int]]]) -> List[Drawi
     """Returns the drawings of some answers, laid out by Graphviz, or, where that isn't there or fails, here."""
     try:
         check_graphviz()
-        return [fitting(this, index, best_tree) for this, index in answers]
+        return [fit(this, index, best_tree) for this, index in answers]
     except Failure as failure:
         say(f"cmh-explain: the page has a simple picture: {failure}")
-    return [fitting(this, index, layered_tree) for this, index in answers]
+    return [fit(this, index, layered_tree) for this, index in answers]
 
 
-def fitting(this: Explanation, index: Optional[int], lay_out: Callable[[Picture], Element]) -> Drawing:
+def fit(this: Explanation, index: Optional[int], lay_out: Callable[[Picture], Element]) -> Drawing:
     """Returns a drawing that is narrow enough for its letters, if one is."""
     sizes: List[int] = []
     for most in SIZES:

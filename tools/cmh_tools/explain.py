@@ -319,7 +319,7 @@ class Explanation(Findings):
 
     def other_lines(self) -> List[str]:
         """Those that aren't stuck, by who runs."""
-        running, total = self.running(), number_of(len(self.well))
+        running, total = self.runners(), number_of(len(self.well))
         head = f"Not stuck: {total}, as far as the state shows. That doesn't mean that they make progress."
         lines: List[str] = [paint_line(head, ("Not stuck", NOT_STUCK))]
         why = Counter(shown(self.waits.processes[at].reason) or UNSAID for at in running)

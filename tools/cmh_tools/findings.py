@@ -85,7 +85,7 @@ class Findings(Verdicts):
         """Returns the reasons on which any process rests."""
         return [self.rests.reason(*row) for row in counts_of(self.waits.processes).items()]
 
-    def running(self) -> List[int]:
+    def runners(self) -> List[int]:
         """Returns those that aren't stuck and wait for nobody, idle ones too."""
         return [at for at in self.well if self.waits.kinds[at] == RUNS or at in self.quiet]
 
@@ -219,7 +219,7 @@ class Findings(Verdicts):
     def runners_by_premise(self, with_limits: bool = False) -> Dict[str, List[int]]:
         """Returns the premises on which some run, with these; also that a limit of their wait ends, if it is asked."""
         runners: Dict[str, List[int]] = {}
-        for at in self.running():
+        for at in self.runners():
             for reason in self.waits.processes[at].because if self.waits.kinds[at] == RUNS else ():
                 name = reason.partition("premise ")[2]
                 if name and (with_limits or reason != premise(LIMIT)):
@@ -229,5 +229,5 @@ class Findings(Verdicts):
     def lines_on_limits(self) -> List[Line]:
         """Returns the lines of facts that would decide those that stood with a limit at the same place in all states,
         with these."""
-        some = [it for it in self.processes(self.running()) if is_limited_still(it)]
+        some = [it for it in self.processes(self.runners()) if is_limited_still(it)]
         return lines_of(some, Words(self.waits.processes)) if some else []

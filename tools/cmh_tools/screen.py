@@ -453,12 +453,12 @@ class Screen:
                 users.setdefault(id(wakers.who), (wakers, set()))[1].add(index)
         movers: Dict[int, Set[int]] = {}
         for wakers, waiting in users.values():
-            for index in self.moving(wakers):
+            for index in self.movers_of(wakers):
                 if index in movers or len(movers) < MOVERS:
                     movers[index] = movers.get(index, set()) | waiting
         return movers
 
-    def moving(self, wakers: Wakers) -> List[int]:
+    def movers_of(self, wakers: Wakers) -> List[int]:
         """Returns those of some wakers who sleep or go on, and behind them who looks again and again."""
         there = [self.waits.index[name] for name in wakers.names() if name in self.waits.index]
         return [index for signs in ((Sign.SLEEPS, Sign.GOES_ON), (Sign.POLLS,)) for index in there
