@@ -8,7 +8,7 @@ import re
 from collections import Counter
 from typing import Collection, Dict, Iterable, List, NamedTuple, Sequence, Set, Tuple
 
-from .facts import FREES, OTHERS, STILL, is_variable, word_of
+from .facts import FREES, OTHERS, STILL, word_of
 from .model import Sign, Strength
 from .places import FRAME, is_like
 from .rule import Doubt
@@ -153,7 +153,7 @@ def lines_of(processes: Iterable[Process], words: Words) -> List[Line]:
 def lines_at(processes: List[Process], words: Words) -> List[Line]:
     """Returns the lines for those at one place: one, or one for each wait there."""
     is_same = len(set(map(is_for_all, processes))) == 1
-    shared = (partners_of(processes, words.names) or words.relatives_of(processes)) if is_same else []
+    shared = partners_of(processes, words.names) if is_same else []
     if shared:
         return [(line_of(processes, shared), processes)]
     waits: Dict[object, List[Process]] = {}
@@ -217,11 +217,6 @@ class Words:
         patterns = (NUMBER.sub("*", name) for name in names)
         return list(dict.fromkeys(pattern if families[pattern] == self.taken[pattern] else name
                                   for name, pattern in zip(names, patterns)))
-
-    def relatives_of(self, processes: List[Process]) -> List[str]:
-        """Returns the words of some waits, if they are the same for all, and give each its own."""
-        first = self.of(processes[0])
-        return first if all(self.of(process) == first for process in processes) and all(map(is_variable, first)) else []
 
 
 def partners_of(processes: List[Process], names: Set[str]) -> List[str]:

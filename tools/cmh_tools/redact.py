@@ -30,7 +30,8 @@ FIRST_OF = re.compile(AS_OF.format(r"(?:two|\d+)"))
 ENDED = "as of SIGQUIT, which ended the program"
 RUNS = (WORK, "a dead message will come to it", "a fact says so", "a message is ready for it",
         "computes", "it came after the first state", "it computes", "it has moved", "it is about to begin",
-        "it is ready to continue", "it looks again and again", "it moved between two looks",
+        "it is ready to continue", "it looks again and again", "it looks again and again, and sleeps between",
+        "it moved between two looks",
         "it sleeps", "it sleeps, or waits with a limit", "it tries a few times",
         "it tries that for some minutes at most", "it waits with a limit", "its client computes", "its client sleeps",
         "its timer comes", "sleeps", "waits for a client", "waits for a signal",

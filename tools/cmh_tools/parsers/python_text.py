@@ -372,10 +372,11 @@ def row_of_place(key: Any, row: Dict[str, Any]) -> Row:
 
 @lru_cache(maxsize=65536)
 def is_of_file(name: str, path: str) -> bool:
-    """Whether a function has the name of the module of the library in whose file it is."""
+    """Whether a function has the name of the module of the library in whose file it is, or is of one that `python3 -m`
+    runs."""
     found = STANDARD.search(path)
     module = re.sub(r"(/__init__)?\.py$", "", found[1] or found[2]).replace("/", ".") if found else ""
-    return not module or name.startswith(f"{module}.")
+    return not module or name.startswith((f"{module}.", "__main__."))
 
 
 def frame_of(row: Dict[str, Any]) -> Frame:
