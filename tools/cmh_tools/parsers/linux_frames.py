@@ -16,7 +16,7 @@ from .linux_text import Frame, Thread
 OF_THE_SYSTEM = re.compile(r".*/(libc|libpthread|libstdc\+\+|libm|libgcc_s|librt|libdl|ld-linux-x86-64)[.-][^/]*")
 KEPT = 65536  # names that are kept as people read them
 OF_CPLUSPLUS, OF_JAVA = "/libstdc++.", "/libjvm.so"
-OF_LIBRARY = re.compile(r"(_|std::|<?(std|core|alloc)::|\?\?|0x|pthread_|__gnu|clone3?$|start_thread$|futex_|lll_"
+OF_LIBRARY = re.compile(r"(_|std::|<?(std|core|alloc|boost)::|\?\?|0x|pthread_|__gnu|clone3?$|start_thread$|futex_|lll_"
                         r"|execute_native_thread_routine)")
 LIBRARIES = ("./", "../", "/usr/include/")  # where sources of glibc and of the library of C++ are said to be
 # A name as compilers of C++ have it: within a function, in a name space or a class, of the library of C++.
