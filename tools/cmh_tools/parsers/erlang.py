@@ -18,12 +18,12 @@ from ..snapshots import APART, PARTS, Reading
 from . import State
 from .base import Parser
 from .erlang_calls import NO_MAIL, place_elsewhere, wait_of_call
-from .erlang_enders import add_enders, stoppers_of, two_of_each, when_killed
-from .erlang_keepers import is_awake
+from .erlang_enders import add_enders, stoppers_of, when_killed
+from .erlang_keepers import is_awake, unless_alone
 from .erlang_locks import locks_of, wait_of_lock
 from .erlang_mnesia import rows_of, wait_of_transaction
 from .erlang_names import name_all
-from .erlang_nodes import More, Nodes, limited, not_shown
+from .erlang_nodes import Lists, More, Nodes, limited, not_shown
 from .erlang_receives import PORT, count_of, wait_for_stop, wait_of_receive
 from .erlang_remote import wait_for_remote
 from .erlang_tasks import wait_of_task
@@ -82,7 +82,7 @@ class ErlangParser(Parser):
         snapshot.nodes = {(reading.source, f"<{number}"): node for reading in snapshot.readings
                           if isinstance(reading, NodeReading) for number, node in reading.nodes.items()}
         snapshot.name, snapshot.answers = attrgetter("label"), []
-        snapshot.has_tail = defaultdict(list)
+        snapshot.has_tail, snapshot.lists = defaultdict(list), Lists(snapshot.name)
         for block in snapshot.rows():
             for tail in block.tails:
                 snapshot.has_tail[tail].append(block)
@@ -127,8 +127,7 @@ class ErlangParser(Parser):
 
 def look_at_nodes(snapshot: Nodes) -> None:
     """Finds what holds for all calls of the nodes: what isn't seen of them, and the limits of receives."""
-    snapshot.closures = two_of_each(block for block in snapshot.rows()
-                                    if may_have_any(block) and not is_script_asleep(block))
+    snapshot.closures = [block for block in snapshot.rows() if may_have_any(block) and not is_script_asleep(block)]
     nodes = [reading for reading in snapshot.readings if isinstance(reading, NodeReading)]
     snapshot.ports = {reading.source: {row[1] for row in reading.sockets} for reading in nodes}
     snapshot.receives = {(reading.source, *function): receives for reading in nodes
@@ -173,9 +172,11 @@ def ending_any(reading: NodeReading, snapshot: Nodes) -> Part:
 
 def ending(block: Block, snapshot: Nodes) -> Part:
     """Returns who may end a process, whatever it waits for."""
-    others = [other for other in snapshot.enders[block.node, block.pid] if other is not block]
+    enders = snapshot.enders[block.node, block.pid]
+    own = [other for other in enders.own if other is not block]
+    kills = snapshot.any_of_lists("kills", own, *(unless_alone(block, group) for group in enders.shared))
     cut = [reading.source for reading in snapshot.readings if reading.extent == PARTS and reading.source == block.node]
-    return (*snapshot.some("kills", others), *(snapshot.left_out(*cut) if cut else ()), *snapshot.ending_any)
+    return (*kills, *(snapshot.left_out(*cut) if cut else ()), *snapshot.ending_any)
 
 
 def remedy_of(block: Block) -> str:

@@ -5,7 +5,7 @@ from __future__ import annotations
 
 from typing import List, Optional, Set, Tuple
 
-from ..model import any_of, unseen
+from ..model import Part, any_of, unseen
 from ..sketch import SYSTEM, Process, blocked, goes_on, premise
 from .erlang_keepers import who_may_answer
 from .erlang_nodes import More, Nodes, limited, not_shown
@@ -55,10 +55,11 @@ def keeps_elsewhere(server: Block, snapshot: Nodes, is_held: bool) -> str:
     return "" if is_held or not snapshot.elsewhere else f"no longer has its request, and {snapshot.elsewhere}"
 
 
-def may_fail(server: Block, snapshot: Nodes) -> List[Block]:
-    """Returns those by which a server may fail that has let go of a call: itself, if it is at work or may wake by
-    itself, and who may take it along."""
-    return [*([] if server.is_asleep() else [server]), *snapshot.enders[server.node, server.pid]]
+def who_may_end(servers: List[Block], snapshot: Nodes, *own: Block) -> Part:
+    """Returns those who may end one of some servers, as wakers, and some more."""
+    enders = [snapshot.enders[server.node, server.pid] for server in servers]
+    shared = [group for one in enders for group in one.shared]
+    return snapshot.any_of_lists("kills", [*own, *(other for one in enders for other in one.own)], *shared)
 
 
 def callees(block: Block, snapshot: Nodes) -> Tuple[List[Optional[Block]], List[str]]:
@@ -126,10 +127,10 @@ def wait_for_holders(block: Block, snapshot: Nodes, called: List[Block], more: M
     if fault:
         why = f"{snapshot.name(passed[0])} {fault}, so it isn't known who answers"
         return not_shown(block, snapshot, why, more, *snapshot.some("called", [*passed, *having]))
-    failing = [other for server in passed for other in may_fail(server, snapshot)]
+    failing = [server for server in passed if not server.is_asleep()]  # (at work, or it may wake by itself)
     because = [SYSTEM, premise(ANSWERS), *([premise(LETS_GO)] if passed else [])]
-    part = (*snapshot.some("called", having), *snapshot.some("reaches", others_of(snapshot.closures, having)),
-            *snapshot.some("kills", failing), *snapshot.left_out())
+    part = (*snapshot.some("called", having), *snapshot.any_of_lists("reaches", [], snapshot.closures),
+            *who_may_end(passed, snapshot, *failing), *snapshot.left_out())
     return blocked(name, any_of(*part), because, **more)
 
 
@@ -143,7 +144,6 @@ def wait_for_keepers(block: Block, snapshot: Nodes, keepers: List[Block], having
     able = [other for server in keepers for other in who_may_answer(block, server, snapshot)]
     others = [other for other in having if other not in keepers]
     why = f"{snapshot.name(keepers[0])} keeps its call in its state, to answer it once something else has come"
-    ending = [other for server in keepers for other in snapshot.enders[server.node, server.pid] if other is not block]
     part = (*snapshot.some("reaches", able), *snapshot.some("inside", keepers), *snapshot.some("called", others),
-            *snapshot.some("kills", ending), unseen("unshown", why))
+            *who_may_end(keepers, snapshot), unseen("unshown", why))
     return blocked(snapshot.name(block), any_of(*part), [SYSTEM], **{**more, "reason": why})

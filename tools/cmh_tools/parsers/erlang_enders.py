@@ -5,48 +5,24 @@ from __future__ import annotations
 
 import re
 from collections import defaultdict
-from typing import Any, Callable, DefaultDict, Dict, Iterable, Iterator, List, Tuple
+from itertools import islice
+from typing import Any, DefaultDict, Dict, Iterator, List, Tuple
 
 from .erlang_calls import REGISTRY
-from .erlang_nodes import Nodes
+from .erlang_nodes import Enders, Nodes
 from .erlang_text import Block, Key
 
-MANY = 100  # kinds of processes that are told apart by whom they monitor too
 LINK = re.compile(r"<[\d.]+>")
 SHOWN = 3  # of those that end with a process
 
 
-def place_of(block: Block) -> Any:
-    return block.start, tuple(block.stack[:1])
-
-
-def fate_of(block: Block) -> Any:
-    """What those have alike that are stuck or not together, as far as one sees at once."""
-    return block.start, tuple(block.stack), block.extra("status"), block.has_limit, block.call and block.call.limit, \
-        block.monitored
-
-
-def two_of_each(blocks: Iterable[Block], kind: Callable[[Block], Any] = place_of) -> List[Block]:
-    """Returns two of those of each kind, as thousands may be at one place, and one may be the very process that waits.
-    """
-    chosen: DefaultDict[Any, List[Block]] = defaultdict(list)
-    for block in blocks:
-        chosen[kind(block)].append(block)
-    return [block for group in chosen.values() for block in group[:2]]
-
-
-def two_of_each_fate(blocks: List[Block]) -> List[Block]:
-    chosen = two_of_each(blocks, fate_of)
-    return chosen if len(chosen) < MANY else two_of_each(chosen)
-
-
-def stoppers_of(blocks: List[Block]) -> Dict[Key, List[Block]]:
+def stoppers_of(blocks: List[Block]) -> Dict[Key, Enders]:
     """Those that start or stop each process, by its node and pid: after their limit they kill it, whatever it waits
     for."""
-    stoppers: Dict[Key, List[Block]] = defaultdict(list)
+    stoppers: Dict[Key, Enders] = defaultdict(lambda: Enders([], []))
     for block in blocks:
         for pid in block.stopped:
-            stoppers[block.node, pid].append(block)
+            stoppers[block.node, pid].own.append(block)
     return stoppers
 
 
@@ -54,26 +30,28 @@ def add_enders(snapshot: Nodes) -> None:
     """Adds for each process who may end it, to those that start or stop it."""
     above, below = supervised(snapshot)
     snapshot.above = above
+    beside = Beside(above, below)
     ending, stopping, halting = (by_code(snapshot, word) for word in ("exits", "stops", "halts"))
     for block in snapshot.rows():
         enders = snapshot.enders[block.node, block.pid]
-        enders += linked_to(block, snapshot) + failing_beside(block, above, below)
-        enders += ending[block.node] if block.role not in ("[]", "") else []
-        enders += stopping[block.node] if block in above else []
-        enders += halting[block.node]
+        enders.own.extend(linked_to(block, snapshot))
+        enders.shared.extend([
+            *beside.failing(block), *([ending[block.node]] if block.role not in ("[]", "") else []),
+            *([stopping[block.node]] if block in above else []), halting[block.node]])
     snapshot.children = {*above}
-    snapshot.spared = {(block.node, block.pid) for block in above if is_spared(block, above, below)}
+    snapshot.spared = {(block.node, block.pid) for block in above if beside.spares(block)}
     for block in snapshot.rows():
         for whom in filter(None, [snapshot.find((block.node, pid)) for pid in block.may_end()]):
-            snapshot.enders[whom.node, whom.pid].append(block)
+            snapshot.enders[whom.node, whom.pid].own.append(block)
 
 
 def by_code(snapshot: Nodes, word: str) -> DefaultDict[str, List[Block]]:
-    """Those whose code has a word, by the node on which they may do so: their own, or any if it is `far`."""
+    """Those whose code has a word, by the node on which they may do so: their own, or any if it is `far`. All are kept,
+    as of some that stand at one place one may go on."""
     ending: DefaultDict[str, List[Block]] = defaultdict(list)
-    far = two_of_each_fate([block for block in snapshot.rows() if {word, "far"} <= {*block.code()}])
+    far = [block for block in snapshot.rows() if {word, "far"} <= {*block.code()}]
     for reading in snapshot.readings:
-        own = two_of_each_fate([block for block in reading.rows if word in block.code() or is_unread(block)])
+        own = [block for block in reading.rows if word in block.code() or is_unread(block)]
         ending[reading.source] = own + [block for block in far if block.node != reading.source]
     return ending
 
@@ -84,7 +62,7 @@ def is_unread(block: Block) -> bool:
 
 
 def supervised(snapshot: Nodes) -> Any:
-    """Returns the supervisor of each process that has one, and some children of each supervisor."""
+    """Returns the supervisor of each process that has one, and the children of each supervisor."""
     above: Dict[Block, Block] = {}
     below: Dict[Block, List[Block]] = {}
     for block in filter(Block.is_supervisor, snapshot.rows()):
@@ -92,7 +70,7 @@ def supervised(snapshot: Nodes) -> Any:
         began = set(block.ancestors()[:1])
         children = [other for other in links if other is not None and began.isdisjoint({other.pid, other.role})]
         above.update(dict.fromkeys(children, block))
-        below[block] = two_of_each_fate([other for other in children if other.start[0] != REGISTRY])
+        below[block] = [other for other in children if other.start[0] != REGISTRY]
     return above, below
 
 
@@ -105,16 +83,28 @@ def supervisors_of(block: Block, above: Dict[Block, Block]) -> Iterator[Tuple[Bl
         block = above[block]
 
 
-def failing_beside(block: Block, above: Dict[Block, Block], below: Dict[Block, List[Block]]) -> List[Block]:
-    """Those that may fail below a supervisor above a process, which isn't known to restart one alone."""
-    return [other for child, supervisor in supervisors_of(block, above) if not supervisor.restarts_one()
-            for other in below[supervisor] if other is not child]
+class Beside:
+    """Who stands below the supervisors above a process, as lists that many have: `below` has all children of each
+    supervisor, `others` has by each supervisor that is a child those beside it, and `restless` has two children of each
+    that may fail by themselves."""
 
+    def __init__(self, above: Dict[Block, Block], below: Dict[Block, List[Block]]) -> None:
+        self.above, self.below = above, below
+        self.others = {child: [other for other in below[above[child]] if other is not child]
+                       for child in below if child in above}
+        self.restless = {block: list(islice((other for other in children if not other.is_asleep()), 2))
+                         for block, children in below.items()}
 
-def is_spared(block: Block, above: Dict[Block, Block], below: Dict[Block, List[Block]]) -> bool:
-    """Whether a supervisor above a process restarts others alone that may fail, as long as it doesn't give up."""
-    return any(other is not child and not other.is_asleep() for child, supervisor in supervisors_of(block, above)
-               if supervisor.restarts_one() for other in below[supervisor])
+    def failing(self, block: Block) -> List[List[Block]]:
+        """Returns those that may fail below a supervisor above a process, which isn't known to restart one alone. The
+        process may be among those beside it."""
+        return [self.others.get(child, self.below[supervisor])
+                for child, supervisor in supervisors_of(block, self.above) if not supervisor.restarts_one()]
+
+    def spares(self, block: Block) -> bool:
+        """Whether a supervisor above a process restarts others alone that may fail, as long as it doesn't give up."""
+        return any(other is not child for child, supervisor in supervisors_of(block, self.above)
+                   if supervisor.restarts_one() for other in self.restless[supervisor])
 
 
 def when_killed(block: Block, snapshot: Nodes) -> str:

@@ -75,10 +75,10 @@ def who_may_answer(block: Block, server: Block, snapshot: Nodes) -> List[Block]:
     """Returns those by whom a server may come to answer a caller that it keeps: whose pids lie beside the reference of
     the call in its state, or else all whom it knows there, monitors or is linked to, or else all who know it. One that
     waits alone doesn't answer itself."""
-    return owners_of(block, server, snapshot) or others_than(block, who_know(block, server, snapshot))
+    return owners_of(block, server, snapshot) or unless_alone(block, who_know(block, server, snapshot))
 
 
-def others_than(block: Block, part: List[Block]) -> List[Block]:
+def unless_alone(block: Block, part: List[Block]) -> List[Block]:
     """Returns a list, which many may share, or nobody if one is alone in it."""
     return [] if part == [block] else part
 

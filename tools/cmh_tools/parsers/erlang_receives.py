@@ -8,7 +8,7 @@ from typing import List, Optional
 
 from ..model import any_of, unseen
 from ..sketch import SYSTEM, Process, blocked, goes_on, premise, rests, unknown
-from .erlang_calls import ANSWERS, NO_MAIL, holders, others_of
+from .erlang_calls import ANSWERS, NO_MAIL, holders
 from .erlang_nodes import More, Nodes, limited, not_shown
 from .erlang_text import PID, Block, Receives
 
@@ -93,7 +93,7 @@ def wait_for_reference(block: Block, snapshot: Nodes, receive: Receives, more: M
     if not having:
         return None
     more.update(objects=[*snapshot.names(having), match[1]], note=note)
-    part = (*snapshot.some("called", having), *snapshot.some("reaches", others_of(snapshot.closures, having)),
+    part = (*snapshot.some("called", having), *snapshot.any_of_lists("reaches", [], snapshot.closures),
             *snapshot.some("kills", watched), *snapshot.left_out())
     fault = "a timer of its own may tell it that" if "timers" in block.code() else snapshot.elsewhere
     if fault:
