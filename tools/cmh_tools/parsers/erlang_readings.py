@@ -111,7 +111,7 @@ class NodeReading(Reading):
         self.handlers: List[str] = []
         self.sockets: List[re.Match[str]] = []
         self.repeated: List[str] = []
-        self.odd = ""  # the word of rows that aren't understood
+        self.odd = ""  # what of its lines isn't understood, in words
 
     @property
     def is_closed(self) -> bool:
@@ -125,10 +125,12 @@ class NodeReading(Reading):
             return
         if not number or word not in ROWS and rows:
             raise Refusal(f"{shown(path)}: '={word} {shown(text[:60].strip())}' has no number and node")
+        if word in self.numbers:
+            self.odd = self.odd or f"its line '={word} ..' stands twice"
         self.numbers[word] = int(number[1])
         matches = list(filter(None, map(ROWS[word].fullmatch, rows))) if rows else []
         if word in ROWS and not len(matches) == len(rows) == self.numbers[word]:
-            self.odd = self.odd or word
+            self.odd = self.odd or f"the rows of its line '={word} ..' aren't understood"
         elif word == "receives":
             self.receives.update({row.group(1, 2, 3): Receives(row[4].split(","), row[5] or "",
                                                                (row[6] or "").split(",")) for row in matches})
@@ -169,7 +171,7 @@ class NodeReading(Reading):
             return
         if self.odd:
             self.extent = PARTS
-            self.missing = f"the rows of its line '={self.odd} ..' aren't understood"
+            self.missing = f"the state of the node isn't understood: {self.odd}"
             return
         left, timers = self.numbers.get("left out", 0), self.numbers.get("timers", 0)
         cut = [block.own_name() for block in self.rows if block.is_cut]
