@@ -12,8 +12,7 @@ from .erlang_text import WORD, Block, Receives
 
 # Of older texts, which said what code may do: these lines tell nothing any more.
 OLD_WORDS = {"begins", "grants", "holds", "keepers", "outside", "permits", "places", "quiet", "tells", "ticks"}
-FIRST = re.compile("=(process|asks|handles|keeps|left out|locks|machine|mnesia|nodes|numbers|receives|repeated|repeats|"
-                   f"sockets|tables|taken|timers|end|{'|'.join(sorted(OLD_WORDS))}) ")
+FIRST = re.compile(r"=(left out|\w+) ")  # no line of a process begins so
 MARK = re.compile(rf"\n{FIRST.pattern}")
 TAKEN = re.compile(r"(\d{1,12}\.\d{3}) (\d{1,12}\.\d{3}) \S+\s*")  # when a node was read, behind all else of it
 # The rows below lines of some words: the receives of a function, and whom it has sent to before; the number of another
@@ -30,6 +29,7 @@ ROWS = {"receives": re.compile(rf"{{{WORD},{WORD},(\d+),\[((?:(?:infinity|any|\d
         "locks": re.compile(r"{(.*),\[((?:{<[\d.]+>,#Ref<[\d.]+>},?)+)\]}"),
         "mnesia": re.compile(r"{(?P<word>has|wants),{(?P<what>.*)},(?P<kind>\w+),"
                               r"(?P<pid><[\d.]+>)(?:,(?P<owner><[\d.]+>))?}")}
+WITHOUT_ROWS = {"end", "keeps", "left out", "nodes", "repeats", "tables", "timers"}
 COUNTS = {"handles", "left out", "nodes", "receives", "repeats", "timers"}
 # An item that came with a count.
 SINCE = {"handles": "timed", "nodes": "closures", "receives": "closures", "repeats": "timed", "timers": "may_end"}
@@ -122,6 +122,9 @@ class NodeReading(Reading):
         number = re.fullmatch(r"(\d{1,9}) \S+\s*", text.split("\n")[0])
         rows = text.rstrip("\n").split("\n")[1:]
         if word in OLD_WORDS:
+            return
+        if word not in ROWS and word not in WITHOUT_ROWS:
+            self.odd = self.odd or f"nothing is known of its line '={shown(word[:60])} ..'"
             return
         if not number or word not in ROWS and rows:
             raise Refusal(f"{shown(path)}: '={word} {shown(text[:60].strip())}' has no number and node")
