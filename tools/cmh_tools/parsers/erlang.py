@@ -268,10 +268,10 @@ def wait_for_outside(block: Block, snapshot: Nodes, more: More) -> Process:
 
 
 def child_begun(block: Block) -> Tuple[str, str]:
-    """The pid and the limit of the child that it starts."""
-    terms = block.registers()
-    pids, limits = ([term for term in terms if re.fullmatch(form, term)] for form in (r"<[\d.]+>", r"infinity|\d+"))
-    return (pids or [""])[0], (limits or [""])[0]
+    """The pid and the limit of the child that it starts, or nothing of each that isn't clear."""
+    pids, limits = ({term for term in block.registers() if re.fullmatch(form, term)}
+                    for form in (r"<[\d.]+>", r"infinity|\d+"))
+    return pids.pop() if len(pids) == 1 else "", limits.pop() if len(limits) == 1 else ""
 
 
 def wait_for_child(block: Block, snapshot: Nodes, more: More, pid: str, limit: str) -> Process:
@@ -281,7 +281,10 @@ def wait_for_child(block: Block, snapshot: Nodes, more: More, pid: str, limit: s
     if limit.isdigit():
         more["operation"] = f"timed {more['operation']}"
         return limited(block, snapshot, "it waits with a limit", more)
-    if limit != "infinity" or other is None:
+    if not pid or limit != "infinity":
+        why = "its stack doesn't show the child that it waits for and its limit as they are expected"
+        return not_shown(block, snapshot, why, more)
+    if other is None:
         return not_shown(block, snapshot, "the child that it waits for isn't in the state", more)
     if block.is_mail_cut:
         return not_shown(block, snapshot, NO_MAIL, more)
