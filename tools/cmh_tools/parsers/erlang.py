@@ -87,7 +87,7 @@ class ErlangParser(Parser):
             for tail in block.tails:
                 snapshot.has_tail[tail].append(block)
         snapshot.enders = stoppers_of(snapshot.rows())
-        for keys in ({"links", "trap_exit"}, {"references", "may_end"}, {"closures", "code"}):
+        for keys in ({"links", "trap_exit"}, {"references", "may_end"}, {"closures", "code"}, {"status"}):
             if not all(keys.isdisjoint(block.items) for block in snapshot.rows()):
                 for block in snapshot.rows():
                     block.need(keys)
@@ -210,7 +210,7 @@ def wait_of_block(block: Block, snapshot: Nodes) -> Process:
     if block.fault:
         return garbled(name, block.fault, site=more["site"])
     more["count"] = count_of(block)
-    status = (block.extra("status") or "").strip()
+    status = block.extra("status")
     if block.lock and status != "exiting":
         return wait_of_lock(block, snapshot, more)
     if block.call is not None and status != "exiting":  # (a message that isn't the answer wakes it too)
