@@ -451,7 +451,7 @@ calls_of_table(Table, Size) when is_integer(Size), Size =< ?FOUND ->
             {Repeated, Once} = lists:partition(fun is_repeated/1, Rows),
             {length(Once), length(Repeated)}
     catch
-        error:_ -> {0, 0}
+        error:_ -> {Size, 0}
     end;
 calls_of_table(_, Size) when is_integer(Size) -> {Size, 0};
 calls_of_table(_, _) -> {0, 0}.
