@@ -123,9 +123,10 @@ def wait_for_holders(block: Block, snapshot: Nodes, called: List[Block], more: M
     keepers = [other for other in called if may_keep(other, having) and not other.has_request(tails)]
     if keepers:
         return wait_for_keepers(block, snapshot, keepers, having, more)
-    fault = next(filter(None, (keeps_elsewhere(other, snapshot, bool(having)) for other in passed)), "")
-    if fault:
-        why = f"{snapshot.name(passed[0])} {fault}, so it isn't known who answers"
+    faults = ((other, keeps_elsewhere(other, snapshot, bool(having))) for other in passed)
+    keeping, fault = next((pair for pair in faults if pair[1]), (None, ""))
+    if keeping is not None:
+        why = f"{snapshot.name(keeping)} {fault}, so it isn't known who answers"
         return not_shown(block, snapshot, why, more, *snapshot.some("called", [*passed, *having]))
     failing = [server for server in passed if not server.is_asleep()]  # (at work, or it may wake by itself)
     because = [SYSTEM, premise(ANSWERS), *([premise(LETS_GO)] if passed else [])]
