@@ -1,5 +1,5 @@
 """Erlang: a transaction of Mnesia that wants a lock. It stands in a queue for it if it is older than who has the lock.
-Else Mnesia restarts it again and again, each time some snapshots later, and no state shows which lock it wants.
+Else Mnesia restarts it again and again, each time some moments later, and no state shows which lock it wants.
 """
 from __future__ import annotations
 
