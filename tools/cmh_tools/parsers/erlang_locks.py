@@ -4,10 +4,12 @@ reductions grow. The table of the locks says who has it, with a reference that a
 from __future__ import annotations
 
 import re
+from collections import Counter
 from typing import Dict, List, Optional, Tuple
 
+from ..files import Refusal, shown
 from ..model import all_of, any_of
-from ..sketch import SYSTEM, Process, blocked, premise
+from ..sketch import SYSTEM, Process, blocked, premise, quote
 from .erlang_nodes import More, Nodes, limited, not_shown
 from .erlang_readings import NodeReading
 from .erlang_text import Block, of_elixir
@@ -32,11 +34,12 @@ def parts_of(text: str) -> Tuple[str, str]:
 
 def locks_of(readings: List[NodeReading]) -> Dict[Tuple[str, str], Tuple[str, str]]:
     """Returns for whom each lock is there and the text of who has it, by the node and what is locked."""
-    locks = {}
-    for reading in readings:
-        for lock, having in reading.locks:
-            what, for_whom = parts_of(lock)
-            locks[reading.source, what] = for_whom, having
+    rows = [((reading.source, what), (for_whom, having), reading.path) for reading in readings
+            for lock, having in reading.locks for what, for_whom in [parts_of(lock)]]
+    locks = {place: row for place, row, _ in rows}
+    if len(locks) < len(rows):
+        (node, what), _ = Counter(place for place, _, _ in rows).most_common(1)[0]
+        raise Refusal(f"{shown(rows[0][2])}: node {shown(node)} has the lock {quote(what)} twice")
     return locks
 
 
