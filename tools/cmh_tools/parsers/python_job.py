@@ -19,6 +19,7 @@ CHILD, FUTURE, BLOCK, DEAD, CANCEL = "child-process", "future", "block", "dead",
 INSIDE = "runtime"  # the assumption that only its own process ends a wait at an object of the runtime
 FEW = 250  # names in a list that each of its members has without itself
 CODE = {"holds", "ends", "cancels", "releases", "taken"}  # keys of rows that say something of one's code
+NO_ALARM = "its state doesn't say whether an alarm ends its process"
 KILLS = {"kill", "killpg"}  # calls that end any process, by its number
 ENDS = re.compile(r"(_thread\.interrupt_main|_signal\.(raise_signal|pthread_kill)"
                   r"|posix\.(kill|killpg|_exit|abort|exec\w+))$")
@@ -76,6 +77,7 @@ class Job:
         timers = [row.key for row in self.look.threads.values() if timer_call(row).startswith("posix.")]
         ends = self.names_of(key for key, coming in self.coming.items() if coming.is_end)
         lost = [] if self.look.is_whole else [wakers("left-out", [self.names.rest(place)])]
+        lost += [] if self.look.shows_alarm() else [unseen("unshown", NO_ALARM)]
         killers = list(dict.fromkeys([*killers, *self.names_of(timers)]))
         return [*([wakers("kills", killers)] if killers else []), *([wakers("limit", ends)] if ends else []), *lost]
 
@@ -150,7 +152,9 @@ def why_unshown(look: Look) -> str:
             "its state doesn't say whether it has threads that aren't Python's"
     if "handlers" not in look.head:
         return "its state doesn't say which signals have a handler"
-    if look.head.get("unseen"):
+    if "unseen" not in look.head:
+        return "its state doesn't say whether it has loaded what runs tasks of other kinds"
+    if look.head["unseen"]:
         return f"it has loaded {look.head['unseen'][0]}"
     is_known = all(callers_of(loop) is not None for loop in look.loops.values())
     return "" if is_known else "its event loop will call what the state doesn't show"

@@ -158,6 +158,12 @@ class Look:
                        for name, function in handlers.items()})
         return coming
 
+    def shows_alarm(self) -> bool:
+        """Whether its head says when an alarm comes, and who gets it if one does. Other tools show places alone."""
+        left: Any = self.head.get("alarm")
+        return bool(self.shown_by) or self.by_faulthandler or is_number(left) and (
+            left <= 0 or "on_alarm" in self.head)
+
     def place(self, pid: Any = None) -> Tuple[Any, Any]:
         """What tells its OS process, or another one of its machine, from those of all machines."""
         return str(self.head.get("host")), self.pid if pid is None else pid
