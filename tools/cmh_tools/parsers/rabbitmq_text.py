@@ -40,7 +40,10 @@ SHAPES = {
     "clients": [{"connection": str, "process": int, "end?": str, "is_deaf?": bool,
                  "threads": [{"tid": int, "state": str, "call?": str, "at?": str, "count?": int, "limit?": object}]}],
 }
-KEYS = {"list_channels": "pid", "list_queues": "name", "list_exchanges": "name", "list_policies": "name"}
+# What each row of a list has alone, also of those within another one.
+KEYS: Dict[str, Tuple[str, ...]] = {
+    "list_channels": ("pid",), "list_queues": ("name",), "list_exchanges": ("name",), "list_policies": ("name",),
+    "clients": ("connection",), "server.connections": ("pid",), "server.channels": ("pid",)}
 
 
 def lists_of(state: State) -> List[Raw]:
@@ -98,8 +101,9 @@ def faults_of(raw: Raw) -> Iterator[str]:
         rows = raw[part] if part.startswith("list_") else []
         if len({frozenset(row) for row in rows}) > 1:
             yield f"{part}: a row lacks a column that another one has"
-    for part, key in KEYS.items():
-        if len({row[key] for row in raw[part]}) < len(raw[part]):
+    for part, keys in KEYS.items():
+        rows = rows_in(raw, part)
+        if len({tuple(row[key] for key in keys) for row in rows}) < len(rows):
             yield f"{part}: a row stands twice"
     policies = ["", *(row["name"] for row in raw["list_policies"])]
     for row in raw["list_queues"]:
@@ -113,6 +117,13 @@ def faults_of(raw: Raw) -> Iterator[str]:
         arguments = table_of(row["arguments"])
         if KEY in arguments and EXCHANGE not in arguments:
             yield f"list_queues: queue {quote(str(row['name']))} has a key for dead messages, and no exchange for them"
+
+
+def rows_in(raw: Raw, part: str) -> List[Dict[str, Any]]:
+    """Returns the rows of a list, or of one within another."""
+    name, _, inner = part.partition(".")
+    rows: List[Dict[str, Any]] = raw[name] if not inner else raw[name]["value"].get(inner, []) if raw[name] else []
+    return rows
 
 
 def definition_of(row: Dict[str, Any], where: str) -> Dict[str, Any]:
