@@ -24,6 +24,9 @@ NEEDED = {"config": ("key", "value"),
           "servers": ("user", "database", "addr", "local_addr", "local_port", "ptr", "link", "remote_pid"),
           "pools": ("database", "user", "sv_active"),
           "databases": ("name", "pool_size", "reserve_pool", "paused", "disabled"), "end": ()}
+# What each row of a table has alone.
+KEYS = {"config": ("key",), "clients": ("ptr",), "servers": ("ptr",), "pools": ("database", "user"),
+        "databases": ("name",)}
 NUMBERS = ("port", "local_port", "wait", "wait_us", "pool_size", "reserve_pool")
 NUMBER = re.compile(r"\d{1,12}")
 LIMITS = ("query_timeout", "idle_transaction_timeout")  # of a session that a client has
@@ -132,8 +135,8 @@ def check(tables: Dict[str, List[Row]], where: str) -> None:
     for key, value in (item for rows in tables.values() for row in rows for item in row.items()):
         if key in NUMBERS and not NUMBER.fullmatch(value):
             raise Refusal(f"{where}: {EXPECTED}, and {shown(value)} is no number for {key}")
-    for name in ("clients", "servers"):
-        if len({row["ptr"] for row in tables[name]}) != len(tables[name]):
+    for name, keys in KEYS.items():
+        if len({tuple(row[key] for key in keys) for row in tables[name]}) != len(tables[name]):
             raise Refusal(f"{where}: a row of {name} stands twice in what the console of pgbouncer has printed")
 
 
