@@ -90,6 +90,8 @@ def read_heap(path: str, text: str) -> Optional[Heap]:
         odd = next(misfits(row, VERSIONS[version]), None)
         if odd is not None:
             raise Refusal(f"{place}: this row of the heap isn't understood at '{shown(odd)}'")
+        if key_of(row["thread"]) in heap.waits:
+            raise Refusal(f"{place}: a thread stands twice in the rows of the heap")
         heap.waits[key_of(row["thread"])] = wait_of_row(row)
     return heap
 

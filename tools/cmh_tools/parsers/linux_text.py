@@ -364,6 +364,13 @@ def rows_of(text: str, path: str) -> List[Row]:
     return rows
 
 
+def what_of(row: Row) -> str:
+    """Returns in words of what a row tells that no other one of its reading does, or nothing."""
+    words = {"pid": f"process {row.get('pid')}", "socket": f"socket {row.get('socket')}",
+             "listening": "the list of those that listen"}
+    return next((what for key, what in words.items() if key in row), "")
+
+
 def readings_of(rows: List[Row], path: str) -> List[List[Row]]:
     """Returns the rows of each reading. Raises Refusal if one isn't whole."""
     readings: List[List[Row]] = []
@@ -374,11 +381,11 @@ def readings_of(rows: List[Row], path: str) -> List[List[Row]]:
             continue
         readings[-1].append(row)
     for number, reading in enumerate(readings, 1):
-        end, pids = reading[-1], [row["pid"] for row in reading if "pid" in row]
-        if len(set(pids)) != len(pids):
-            (pid, _), = Counter(pids).most_common(1)
-            raise Refusal(f"{shown(path)}: process {pid} stands twice in reading {number}")
-        if end.get("end") != number or end.get("processes") != len(pids):
+        end, counts = reading[-1], Counter(filter(None, map(what_of, reading)))
+        twice = next((what for what, count in counts.items() if count > 1), "")
+        if twice:
+            raise Refusal(f"{shown(path)}: {twice} stands twice in reading {number}")
+        if end.get("end") != number or end.get("processes") != sum("pid" in row for row in reading):
             raise Refusal(f"{shown(path)}: reading {number} isn't whole: its count of processes doesn't fit")
     if not readings:
         raise Refusal(f"{shown(path)}: it has no reading")
