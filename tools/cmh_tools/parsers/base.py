@@ -8,6 +8,7 @@ unknown, here and for every parser alike; so does whatever keeps two readings fr
 from __future__ import annotations
 
 import itertools
+import json
 import re
 from collections import Counter
 from functools import lru_cache
@@ -200,6 +201,25 @@ def add_left_out(sketch: Sketch, missing: List[Process]) -> None:
 def assumptions_in(because: Tuple[str, ...]) -> List[str]:
     """The names of the assumptions among some reasons. Many processes have the same, so nobody changes this list."""
     return list(dict.fromkeys(reason.split(" ", 1)[1] for reason in because if reason.startswith("premise ")))
+
+
+def once_each(pairs: List[Tuple[str, Any]]) -> Dict[str, Any]:
+    """Returns an object of JSON. Raises ValueError if it has a key twice: which of its values holds isn't known."""
+    row = dict(pairs)
+    if len(row) < len(pairs):
+        (key, _), = Counter(key for key, _ in pairs).most_common(1)
+        raise ValueError(f"an object has the key {quote(key)} twice")
+    return row
+
+
+def row_in(line: str, mark: str = "") -> Optional[Dict[str, Any]]:
+    """Returns the object of JSON that stands in a line behind a mark, or None: where there is none, or one that isn't
+    whole, or that has a key twice."""
+    try:
+        row = json.loads(line[len(mark):], object_pairs_hook=once_each) if line.startswith(mark) else None
+    except (ValueError, RecursionError):
+        return None
+    return row if isinstance(row, dict) else None
 
 
 def misfits(value: Any, shape: Any) -> Iterator[str]:

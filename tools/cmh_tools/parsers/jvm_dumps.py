@@ -7,6 +7,7 @@ import re
 from typing import Any, Dict, Iterator, List, Match, Optional, Tuple
 
 from ..files import Refusal, shown
+from .base import once_each
 from .jvm_misfits import add_faults
 from .jvm_text import BETWEEN, FRAME, PARKED, START, Dump, PrintReader, Thread, add_line, frame_of
 
@@ -71,8 +72,8 @@ def add_limits(dump: Dump, line: Optional[Match[str]]) -> None:
 def numbers_of(text: str) -> Dict[str, float]:
     """Returns the numbers of an object of JSON, or none where one of its values is something else."""
     try:
-        rows: Dict[str, Any] = json.loads(text)
-    except ValueError:
+        rows: Dict[str, Any] = json.loads(text, object_pairs_hook=once_each)
+    except (ValueError, RecursionError):
         return {}
     return dict(rows) if all(type(value) in (int, float) for value in rows.values()) else {}
 
@@ -119,7 +120,7 @@ def read_file_text(path: str, lines: List[str]) -> Dump:
 def read_file_json(path: str, text: str) -> Dump:
     """Returns the dump of a text of `Thread.dump_to_file -format=json`."""
     try:
-        tree = json.loads(text)
+        tree = json.loads(text, object_pairs_hook=once_each)
         containers = tree["threadDump"]["threadContainers"]
         rows = [row for container in containers for row in container["threads"]]
         process = str(tree["threadDump"].get("processId") or "")

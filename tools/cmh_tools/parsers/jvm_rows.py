@@ -6,6 +6,7 @@ import re
 from typing import Any, Dict, List, Optional, Tuple
 
 from ..files import Refusal, shown
+from .base import once_each
 from .jvm_text import Thread
 
 BUILT = re.compile(r"\$\$Lambda.*(?=\.)|[+/]0x[0-9a-f]+(?=\.)")  # what jstack and a heap dump write differently
@@ -23,7 +24,7 @@ def trees_in(path: str, text: str, mark: str, what: str) -> List[Tuple[str, Dict
 
 def tree_of(place: str, line: str, what: str) -> Dict[str, Any]:
     try:
-        tree = json.loads(line)
+        tree = json.loads(line, object_pairs_hook=once_each)
     except (ValueError, RecursionError) as error:
         raise Refusal(f"{place}: this row of the {what} is no JSON: {shown(str(error))}") from error
     return tree if isinstance(tree, dict) else {}

@@ -1,7 +1,6 @@
 """The state that cmh_linux prints: lines of JSON, of two readings of a machine, and perhaps of stacks."""
 from __future__ import annotations
 
-import json
 import re
 from collections import Counter
 from dataclasses import dataclass, field
@@ -10,7 +9,7 @@ from typing import Any, Dict, Iterable, Iterator, List, NamedTuple, Sequence, Tu
 
 from ..files import Refusal, shown
 from ..sketch import quote
-from .base import misfits
+from .base import misfits, row_in
 
 Row = Dict[str, Any]
 MARK = "cmh-linux "
@@ -341,13 +340,11 @@ def rows_of(text: str, path: str) -> List[Row]:
     for number, line in enumerate(text.replace("\r\n", "\n").split("\n"), 1):
         if not line:
             continue
-        try:
-            row = json.loads(line[len(MARK):]) if line.startswith(MARK) else None
-        except (ValueError, RecursionError):
-            row = None
-        kind = next((kind for kind in SHAPES if kind in row), "") if isinstance(row, dict) else ""
-        if not kind:
-            raise Refusal(f"{shown(path)}:{number}: {EXPECTED}, and this line isn't one, or is cut off")
+        row = row_in(line, MARK)
+        kind = next((kind for kind in SHAPES if kind in row), "") if row is not None else ""
+        if row is None or not kind:
+            raise Refusal(f"{shown(path)}:{number}: {EXPECTED}, and this line isn't one, is cut off, or has a key "
+                          "twice")
         odd = next(misfits(row, SHAPES[kind]), None)
         if kind == "pid":
             odd = odd or (".threads" if "threads" not in row and row["state"] not in ENDED else None)

@@ -5,14 +5,13 @@ what it could have said isn't known.
 """
 from __future__ import annotations
 
-import json
 import re
 from collections import Counter
-from typing import Any, Dict, Iterator, List, Optional, Sequence, Tuple
+from typing import Any, Dict, Iterator, List, Optional, Sequence
 
 from ..files import Refusal, shown
 from ..sketch import quote
-from .base import misfits
+from .base import misfits, row_in
 
 Row = Dict[str, Any]
 
@@ -81,23 +80,12 @@ def rows_of(text: str, path: str) -> List[Row]:
 
 
 def row_of(line: str, where: str) -> Row:
-    try:
-        row = json.loads(line[len(MARK):], object_pairs_hook=object_of) if line.startswith(MARK) else None
-    except (ValueError, RecursionError):
-        row = None
-    if not isinstance(row, dict):
-        raise Refusal(f"{where}: {EXPECTED}, and this line isn't one, or is cut off")
+    row = row_in(line, MARK)
+    if row is None:
+        raise Refusal(f"{where}: {EXPECTED}, and this line isn't one, is cut off, or has a key twice")
     odd = next(odd_of(row), None)
     if odd is not None:
         raise Refusal(f"{where}: {EXPECTED}, and in this line {quote(odd)} isn't as these have it")
-    return row
-
-
-def object_of(pairs: List[Tuple[str, Any]]) -> Row:
-    """Returns an object of JSON. Raises ValueError if it has a key twice."""
-    row = dict(pairs)
-    if len(row) != len(pairs):
-        raise ValueError
     return row
 
 

@@ -9,7 +9,7 @@ import re
 from typing import Any, Dict, Iterator, List, Optional, Tuple
 
 from ..files import Refusal, shown
-from .base import fits
+from .base import fits, once_each, row_in
 from .python_text import PACKAGE, STANDARD, Frame, Look, Row, kind_of
 
 MARK = "cmh-python "
@@ -64,7 +64,7 @@ def parts_of(path: str, text: str) -> Iterator[Tuple[int, Dict[str, Any], List[s
     start = 0
     body: List[str] = []
     for at, line in enumerate(text.replace("\r\n", "\n").split("\n"), 1):
-        row = row_of(line) if line.startswith(MARK) else None
+        row = row_in(line, MARK)
         if row is None and line.startswith(MARK):
             raise Refusal(f"{shown(path)}:{at}: this line of cmh_python_reader.py isn't understood")
         if row is None:
@@ -79,14 +79,6 @@ def parts_of(path: str, text: str) -> Iterator[Tuple[int, Dict[str, Any], List[s
                           "one before it is cut off")
     if head is not None:
         raise Refusal(f"{shown(path)}:{start}: this state is cut off: its last line is missing")
-
-
-def row_of(line: str) -> Optional[Dict[str, Any]]:
-    try:
-        row = json.loads(line[len(MARK):])
-    except (ValueError, RecursionError):
-        return None
-    return row if isinstance(row, dict) else None
 
 
 def look_of_reader(path: str, at: int, head: Dict[str, Any], body: List[str]) -> Look:
@@ -153,7 +145,7 @@ def frame_of(name: str, file: str, line: str) -> Frame:
 
 def json_rows(body: List[str]) -> List[Thread]:
     try:
-        rows = json.loads("\n".join(body))
+        rows = json.loads("\n".join(body), object_pairs_hook=once_each)
     except (ValueError, RecursionError):
         return []
     return [(row.get("os_thread_id") or hex(row["thread_id"]), row.get("thread_name") or "",

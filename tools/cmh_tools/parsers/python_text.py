@@ -14,7 +14,7 @@ from typing import Any, Dict, List, NamedTuple, Optional, Sequence, Set, Tuple
 
 from ..files import Refusal, shown
 from . import State
-from .base import fits, misfits
+from .base import fits, misfits, once_each
 
 MARK = "cmh-state "
 VERSION = 1
@@ -263,10 +263,10 @@ def row_of(text: str) -> Optional[Dict[str, Any]]:
 def object_of(pairs: List[Tuple[str, Any]]) -> Dict[str, Any]:
     """Returns an object of a line. What it describes has its form: a name is a text, and a gather has what is gathered.
     """
-    made = dict(pairs)
-    if len(made) < len(pairs) or not isinstance(made.get("id", ""), str) or (
+    made = once_each(pairs)
+    if not isinstance(made.get("id", ""), str) or (
             made.get("type") == "gather" and not isinstance(made.get("all"), list)):
-        raise ValueError("a key stands twice, or a value isn't as it is described")
+        raise ValueError("a value isn't as it is described")
     return made
 
 

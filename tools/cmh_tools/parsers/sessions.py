@@ -2,14 +2,13 @@
 break waits off. What a limit is called stands among the processes, so that an answer can name it as a doubt."""
 from __future__ import annotations
 
-import json
 from dataclasses import dataclass, field
 from typing import Any, Dict, List, NamedTuple, Optional, Tuple, Type, TypeVar
 
 from ..files import Refusal, shown
 from ..model import Part, Sign, wakers
 from ..sketch import LIMIT, OF_SERVER, Sketch, goes_on, premise
-from .base import misfits
+from .base import misfits, row_in
 
 Row = Dict[str, Any]
 SLACK = 2.0  # seconds by which a wait may outlast its limit, until that is carried out
@@ -93,13 +92,10 @@ class Lines(NamedTuple):
 
     def row(self, line: str, where: str) -> Tuple[str, Row]:
         """Returns the kind of a line and its row."""
-        try:
-            row = json.loads(line[len(self.mark):]) if line.startswith(self.mark) else None
-        except (ValueError, RecursionError):
-            row = None
-        kind = next((kind for kind in self.shapes if kind in row), "") if isinstance(row, dict) else ""
-        if not kind:
-            raise Refusal(f"{where}: {self.expected}, and this line isn't one, or is cut off")
+        row = row_in(line, self.mark)
+        kind = next((kind for kind in self.shapes if kind in row), "") if row is not None else ""
+        if row is None or not kind:
+            raise Refusal(f"{where}: {self.expected}, and this line isn't one, is cut off, or has a key twice")
         odd = next(misfits(row, self.shapes[kind]), "")
         if odd and (kind != self.kept or odd == f".{self.kept}"):
             raise Refusal(f"{where}: {self.expected}, and in this line {shown(odd[1:])} isn't as these have it")
