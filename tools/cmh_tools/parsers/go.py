@@ -279,15 +279,14 @@ class GoParser(Parser):
             if process.reason == GONE and process.name in idle:  # (as that of the request for the state before)
                 process.sign, process.parts, process.is_garbled = Sign.RESTS, any_of(unseen("outside")), False
                 process.reason, process.because = idle[process.name], [SYSTEM]
-        starters = Starters(rows, snapshots[0].places, self.names)
         over = {self.names[goroutine.number] for goroutine in rows if goroutine.state in NOBODY or goroutine.is_leaked}
+        starters = Starters(rows, snapshots[0].places, self.names, over)
         for goroutine in rows:
-            sketch.groups[f"starters:{self.names[goroutine.number]}"] = [
-                name for name in starters.of(goroutine) if name not in over]
+            sketch.groups[f"starters:{self.names[goroutine.number]}"] = starters.of(goroutine)
             if goroutine.parent in self.names:
                 sketch.groups.setdefault(f"children:{self.names[goroutine.parent]}", []).append(
                     self.names[goroutine.number])
-        if any(UNSEEN in starters.of(goroutine) for goroutine in rows):
+        if any(UNSEEN in names for names in [starters.callers, *starters.kept.values()]):
             sketch.processes.append(unseen_starter())
         if self.port and sketch.machine:
             reads = [self.names[goroutine.number] for goroutine in rows

@@ -2,7 +2,7 @@
 from __future__ import annotations
 
 from collections import defaultdict
-from typing import DefaultDict, Dict, List, Tuple
+from typing import DefaultDict, Dict, List, Set, Tuple
 
 from ..sketch import Process, unknown
 from .go_frames import ACCEPTOR, CONNECTION, OUTERMOST, Place, is_jobs, package_of
@@ -16,13 +16,16 @@ BY_ITSELF = frozenset(("context", "runtime", "time"))  # packages that start gor
 
 
 class Starters:
-    """Who stands in which function of a state, and who may call any function of the job (`callers`). `outer` has of
-    each function what called it there, or started a goroutine with it."""
+    """Who stands in which function of a state, and who may call any function of the job (`callers`), but for those of
+    whom it is known that they never go on. `outer` has of each function what called it there, or started a goroutine
+    with it."""
 
-    def __init__(self, goroutines: List[Goroutine], places: Dict[str, Place], names: Dict[str, str]) -> None:
+    def __init__(self, goroutines: List[Goroutine], places: Dict[str, Place], names: Dict[str, str],
+                 over: Set[str]) -> None:
         self.standing: DefaultDict[str, List[str]] = defaultdict(list, {UNSEEN: [UNSEEN]})
         self.outer: DefaultDict[str, Dict[str, None]] = defaultdict(dict)
         self.kept: Dict[Tuple[str, bool], List[str]] = {}
+        self.over = over
         for it in goroutines:
             functions = [frame.function for frame in it.frames if frame.function not in OUTERMOST]
             for function in dict.fromkeys(functions):
@@ -30,7 +33,8 @@ class Starters:
             for function, outer in zip(functions, [*functions[1:], origin_of(it)]):
                 self.outer[function][outer] = None
         unseen = [UNSEEN] if any(map(is_unseen, goroutines)) else []
-        self.callers = unseen + callers_of(goroutines, places, names)
+        self.callers = unseen + callers_of(goroutines, places, names, over)
+        self.calling = {*self.callers}
 
     def of(self, goroutine: Goroutine) -> List[str]:
         """Returns who may start more like a goroutine: those in the function that started it, and those who may call
@@ -44,9 +48,12 @@ class Starters:
                 new = [it for it in self.outer.get(function, ()) if it not in functions]
                 functions.update(dict.fromkeys(new))
                 todo += new
-            found = dict.fromkeys(name for function in functions for name in self.standing.get(function, ()))
+            found = dict.fromkeys(name for function in functions for name in self.standing.get(function, ())
+                                  if name not in self.over)
             is_any = goroutine.created_by and not (key[1] and self.standing.get(key[0]))
-            self.kept[key] = list(dict.fromkeys([*found, *(self.callers if is_any else [])]))
+            is_shared = is_any and self.calling.issuperset(found)
+            self.kept[key] = self.callers if is_shared else list(dict.fromkeys([*found, *(
+                self.callers if is_any else [])]))
         return self.kept[key]
 
 
@@ -62,15 +69,18 @@ def is_unseen(goroutine: Goroutine) -> bool:
     return package_of(goroutine.created_by) in BY_ITSELF and not is_jobs(goroutine.creator)
 
 
-def callers_of(goroutines: List[Goroutine], places: Dict[str, Place], names: Dict[str, str]) -> List[str]:
+def callers_of(goroutines: List[Goroutine], places: Dict[str, Place], names: Dict[str, str],
+               over: Set[str]) -> List[str]:
     """Returns who may call any function of the job: those that run code of it, and those at which a request may come
-    that it answers. Of many at one place two are enough."""
-    found: DefaultDict[Tuple[str, ...], List[str]] = defaultdict(list)
+    that it answers. Of the former all are kept, as of many at one place one may go on. Of the latter two of a place are
+    enough: all of them wait for what comes from outside, and one may be the very goroutine that waits."""
+    callers: List[str] = []
+    idle: DefaultDict[Tuple[str, ...], List[str]] = defaultdict(list)
     for it in goroutines:
-        place = places[it.number]
-        if place.idle in ("", ACCEPTOR, CONNECTION):
-            found[(it.state, *place.frames[:1])].append(names[it.number])
-    return [name for some in found.values() for name in some[:2]]
+        place, name = places[it.number], names[it.number]
+        if name not in over and place.idle in ("", ACCEPTOR, CONNECTION):
+            (idle[(it.state, *place.frames[:1])] if place.idle else callers).append(name)
+    return [*callers, *(name for alike in idle.values() for name in alike[:2])]
 
 
 def unseen_starter() -> Process:
