@@ -18,7 +18,7 @@ from ..assumptions import sentence_of
 from ..files import Refusal, shown
 from ..model import Part, Wakers, once, unseen, wakers
 from ..sketch import Process, Sketch, quote
-from ..snapshots import APART, CUT, ONCE, OVERLAP, PARTS, WHOLE, Moments, Reading, compare, doubt_waits, left_out, \
+from ..snapshots import APART, CUT, OVERLAP, PARTS, WHOLE, Moments, Reading, compare, doubt_waits, left_out, \
     overlap, snapshots_of
 from . import State
 
@@ -96,7 +96,7 @@ class Parser:
     has the assumptions that a state can show broken."""
 
     NAME, IDLE = "", "processes"
-    MOMENT = ONCE
+    MOMENT = APART
     SNAPSHOT_CLASS: Type[Snapshot] = Snapshot
     BREAKS: Dict[str, Break] = {}
 
