@@ -4,13 +4,12 @@ itself or as cmh_python_reader.py keeps it, with the kernel's counts. A look tha
 from __future__ import annotations
 
 import json
-import os
 import re
 from typing import Any, Dict, Iterator, List, Optional, Tuple
 
 from ..files import Refusal, shown
 from .base import fits, once_each, row_in
-from .python_text import PACKAGE, STANDARD, Frame, Look, Row, kind_of
+from .python_text import Frame, Look, Row, frame_in_file
 
 MARK = "cmh-python "
 VERSION = 1
@@ -85,13 +84,17 @@ def look_of_reader(path: str, at: int, head: Dict[str, Any], body: List[str]) ->
     known = {**head, "alarm": None}
     look = Look(f"{path}:{at}", head["name"] or f"process-{head['pid']}", head["pid"], head["seconds"], known,
                 shown_by=head["by"])
-    rows = json_rows(body) if body[:1] and body[0].startswith("[") else []
+    rows, lost = json_rows(body) if body[:1] and body[0].startswith("[") else ([], 0)
     rows = rows or list(spy_rows(body) if head["by"] == "py-spy" else gdb_rows(body))
     if not any(frames for _, _, frames, _ in rows):
         said = next((line.strip() for line in reversed(body) if line.strip()), "nothing")
         raise Refusal(f"{shown(path)}:{at}: {shown(head['by'])} shows no frame of Python of process {head['pid']}: "
                       f"{shown(said)[:200]}")
     add_threads(look, rows, head["threads"])
+    if lost:
+        look.is_whole = False
+        look.warnings.append(f"{shown(path)}:{at}: what py-spy shows of process {look.pid} isn't understood of so many "
+                             f"threads: {lost}. What they do is missing")
     return look
 
 
@@ -131,26 +134,24 @@ def is_outermost(it: Frame, outer: Frame) -> bool:
     return outer.kind == "own" and (is_main or found is not None and not outer.at.endswith(".run"))
 
 
-def frame_of(name: str, file: str, line: str) -> Frame:
-    """A frame, with the module that its file stands for."""
-    is_short = SHORT.match(file) is not None
-    found = STANDARD.search(file) or PACKAGE.search(file)
-    inner = file if is_short else (found[1] or "") if found else os.path.basename(file)
-    module = re.sub(r"\.py$|/__init__\.py$", "", inner).replace("/", ".")
-    return Frame(f"{module}.{name or '?'}", file, int(line or 0), {}, "standard" if is_short else kind_of(file))
+def frame_of(name: str, file: str, line: Optional[str]) -> Frame:
+    """A frame of py-spy, which shortens files of the library, or of gdb."""
+    return frame_in_file(file, line or "", name, SHORT.match(file) is not None)
 
 
 # What py-spy prints
 
 
-def json_rows(body: List[str]) -> List[Thread]:
+def json_rows(body: List[str]) -> Tuple[List[Thread], int]:
+    """Returns the threads of a JSON of py-spy, and how many of them aren't understood."""
     try:
         rows = json.loads("\n".join(body), object_pairs_hook=once_each)
     except (ValueError, RecursionError):
-        return []
+        return [], 0
+    known = [row for row in rows if fits(row, SPY_JSON)]
     return [(row.get("os_thread_id") or hex(row["thread_id"]), row.get("thread_name") or "",
              [frame_of(it["name"], it["filename"], str(it["line"])) for it in row["frames"]], None)
-            for row in rows if fits(row, SPY_JSON)]
+            for row in known], len(rows) - len(known)
 
 
 def spy_rows(lines: List[str]) -> Iterator[Thread]:

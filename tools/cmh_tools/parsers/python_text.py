@@ -412,7 +412,7 @@ def looks_of_faulthandler(path: str, lines: List[str]) -> List[Look]:
             row = Row(head[1], head[2] or "", [], {})
             looks[-1].threads[head[1]] = row
         elif step and row is not None:
-            row.frames.append(fault_frame(*step.groups()))
+            row.frames.append(frame_in_file(step[1], step[2], step[3]))
         elif row is not None and line.strip() and not line.startswith("  "):
             row = None
     for look in looks:
@@ -421,11 +421,14 @@ def looks_of_faulthandler(path: str, lines: List[str]) -> List[Look]:
     return looks
 
 
-def fault_frame(file: str, line: str, function: Optional[str]) -> Frame:
-    found = STANDARD.search(file) or PACKAGE.search(file)
-    inner = (found[1] or "") if found else os.path.basename(file)
+def frame_in_file(file: str, line: str, function: Optional[str], is_short: bool = False) -> Frame:
+    """Returns a frame as tools print it that name no module, with that of its file. A short file is one of the library,
+    by its path below it."""
+    match = STANDARD.search(file) or PACKAGE.search(file)
+    inner = file if is_short else (match[1] or "") if match else os.path.basename(file)
     module = re.sub(r"\.py$|/__init__\.py$", "", inner).replace("/", ".")
-    return Frame(f"{module}.{function or '?'}", file, int(line) if line.isdigit() else 0, {}, kind_of(file))
+    return Frame(f"{module}.{function or '?'}", file, int(line) if line.isdecimal() else 0, {},
+                 "standard" if is_short else kind_of(file))
 
 
 def thread_name(row: Row) -> str:
