@@ -9,7 +9,7 @@ from __future__ import annotations
 import re
 from typing import Dict, Iterable, List, Optional, Set
 
-from ..model import Part, Sign, Strength, Wakers, all_of, any_of, unseen, wakers
+from ..model import Part, Sign, Wakers, all_of, any_of, unseen, wakers
 from ..sketch import INNER, LIMIT, REST, SYSTEM, TIMER, Process, blocked, garbled, goes_on, premise, rests, unknown
 from ..snapshots import ONCE
 from .base import Snapshot, duration
@@ -123,7 +123,7 @@ class Threads(Snapshot):
             names = [self.names[other.key] for other in self.threads if has_lock(other)
                      and any(frame.method.startswith(inside) for frame in other.frames)]
             names += [REST] if self.lacks() else []
-            self.known_owners[inside] = (Wakers(names, Strength.AGAINST, "owns"),) if names else ()
+            self.known_owners[inside] = (wakers("releases", names),) if names else ()
         return self.known_owners[inside]
 
     def runners(self, place: Place) -> Part:

@@ -3,7 +3,7 @@ from __future__ import annotations
 
 from typing import List, Optional, Sequence, Tuple
 
-from ..model import Part, Sign, Strength, Wakers, any_of, unseen, wakers
+from ..model import Part, Sign, Strength, any_of, unseen, wakers
 from ..sketch import LIMIT
 from .linux_text import Machine, Owner, Thread
 from .linux_waits import AT_FILES, EPOLLS, FILES, UNTIMED, Ease, Wait, against, has_limit, int32, \
@@ -58,14 +58,15 @@ def set_any_child(machine: Machine, thread: Thread, wait: Wait, own: List[Owner]
 
 
 def guess_of(machine: Machine, thread: Thread, children: List[Owner]) -> Part:
-    """Returns the children of a shell of which one has to end, or all: rather those that do more than to sleep."""
+    """Returns the children of a shell of which one has to end, or all: rather those that do more than to sleep. The
+    end of a sleep is a limit."""
     sleeping = [owner for owner in children if only_sleeps(owner)]
     others = [owner for owner in children if owner not in sleeping] or sleeping
     part = tuple(group._replace(strength=Strength.ABLE, how="guess") if group.strength is Strength.NAMED else group
                  for group in ends_of(machine, thread, others))
     if len(others) == len(children):
         return part
-    return (*part, Wakers(machine.names_of(sleeping, thread), Strength.AGAINST, "ends"))
+    return (*part, wakers("limit", machine.names_of(sleeping, thread)))
 
 
 def all_as_guess(machine: Machine, thread: Thread, children: List[Owner]) -> List[Part]:
