@@ -22,13 +22,12 @@ NO_KEYS = ("lock:", CARRIES, RING, SIGMASK)  # what of a descriptor doesn't tell
 MASTER, TERMINAL = "/dev/ptmx", "/dev/pts/"  # the end of a terminal that a program has, and how others' names begin
 EPOLL = "anon_inode:[eventpoll]"
 OPEN = "open "  # how the name of an open file begins, which several descriptors may share
-TID = 0x3FFFFFFF  # the number of a thread in the word of a lock, or of a join
 ENDED = "ZX"  # the states of those that have ended
 NUMBER, NUMBERED = re.compile(r"\d+"), re.compile(r"(.* )?\d+")  # within the name of a thread, and at its end
 NUMBERS = re.compile(r"[0-9]{1,9}(\s+[0-9]{1,9})*")
 HEX = re.compile(r"(0x)?[0-9a-f]{1,16}")
 # Keys of older states, of code that was followed: they say nothing.
-OLD = {f"{key}?": object for key in ("apart", "awaits", "handlers", "traps", "builtin", "family", "spares")}
+OLD = {f"{key}?": object for key in ("awaits", "handlers", "traps", "builtin", "spares")}
 # The calls of those that are in none, and so have no arguments: one that computes, and one that is held meanwhile.
 RUNNING, NO_CALL = "running", "-1"
 STATE = re.compile("[A-Za-z]")
@@ -39,14 +38,15 @@ THREAD = {"tid": PID, "state": STATE, "inner?": PID, "comm?": str, "call?": str,
           "range?": [int] * 4, "path?": str, "wchan?": str, "memory?": str, "mask?": HEX, "key?": int, "users?": [int],
           "changed?": int, "within?": str, "frames?": [str], "stack?": [int], "cut?": bool, "again?": bool,
           "object?": [str, int], "limit?": [(float, int, type(None))] * 2, "waited?": (float, int), "pending?": bool,
-          "addressed?": bool, **OLD}
+          "addressed?": bool, "family?": range(1 << 16), **OLD}
 OWNER: Row = {"pid": PID, "ppid": PID, "comm": str, "group?": PID, "session?": PID, "exe?": str, "command?": str,
               "net?": str, "living?": int, "TracerPid?": re.compile(r"\d{1,9}"), "SigCgt?": HEX, "SigIgn?": HEX,
               "fds": {re.compile(r"\d{1,9}|memory .*"): [FILE, re.compile("r?w?"), str, ...]}, "threads?": [THREAD],
               "kin?": [PID], "timers?": bool, "aio?": bool, "runtime?": str, "frames?": [[str, int, int]],
               "modules?": [[str, str]], "start?": int, "NSpid?": NUMBERS, "NSpgid?": NUMBERS, "collects?": bool,
               "state": STATE, **OLD}
-UNREADABLE = {**{f"{key.rstrip('?')}?": shape for key, shape in OWNER.items()}, "pid": PID, "unreadable": str}
+UNREADABLE = {**{f"{key.rstrip('?')}?": shape for key, shape in OWNER.items()}, "pid": PID, "unreadable": str,
+              "apart?": bool}  # (the last one: beside those that were asked for)
 SOCKET = {"socket": int, "kind": re.compile("tcp|u_(str|dgr|seq)"), "state": str, "at": str, "to": str,
           "peers": [int], "away?": bool, "unread?": int, "timer?": object}
 # The form of each row, by the first of these keys that it has.
