@@ -16,7 +16,7 @@ from ..model import ANYBODY, Sign, Strength, Wakers, any_of, of_list, wakers
 from ..sketch import Process, Sketch, garbled, goes_on, has_how, lists_of_wakers, premise, rests, unknown
 from ..snapshots import APART, Reading
 from . import State
-from .base import Break, Parser, Snapshot
+from .base import Parser, Snapshot
 from .rabbitmq_broker import Broker
 from .rabbitmq_clients import COMPUTES, ELSEWHERE, SLEEPING, ticking_of
 from .rabbitmq_services import TO_COME, UNSEEN, Service, process_name
@@ -27,11 +27,6 @@ READY, MOVES, ROUTED, ACTS, EXPIRES = "ready", "moves", "routed", "acts", "expir
 READY_FOR_IT = "a message is ready for it"
 WAITS_FOR_MESSAGE = "waits for a message"
 NO_PUBLISHER = "no service is known to publish to a queue that it consumes"
-
-
-def movers_of(service: Service, snapshot: Snapshot) -> str:
-    """Returns what shows that a message may come to a queue of a service by itself, or nothing."""
-    return next(filter(None, map(service.broker.routes.mover, service.queues)), "")
 
 
 def row_of(process: Process) -> Dict[str, List[str]]:
@@ -46,7 +41,6 @@ class RabbitmqParser(Parser):
     """One list is printed after the other."""
 
     NAME, IDLE, MOMENT = "rabbitmq", "services", APART
-    BREAKS = {MOVES: Break(movers_of, True)}
 
     def __init__(self) -> None:
         self.keys: Dict[str, Dict[str, None]] = {}  # of messages that end waits, the expressions of those that do
