@@ -52,14 +52,19 @@ class MariadbParser(Parser):
 
     def __init__(self) -> None:
         self.limits = Limits()
+        self.last = self.later = 0.0  # the time of the last look, and how much later it is than the one at hand
         self.warnings: Dict[str, None] = {}
 
     def read(self, state: State) -> List[Reading]:
         return [Reading(look.path, "server", [look], machine=look.end["machine"], time=look.taken)
                 for look in LINES.looks(state.text, state.path, Look)]
 
+    def begin(self, readings: List[Reading]) -> None:
+        self.last = max(reading.rows[0].taken[1] for reading in readings)
+
     def prepare(self, snapshot: Server) -> None:
         snapshot.look = snapshot.readings[0].rows[0]
+        self.later = self.last - snapshot.look.taken[1]
         snapshot.rows_by_id = {row["thread"]: row for row in snapshot.look.of("thread")}
         snapshot.names = {number: name_of(row) for number, row in snapshot.rows_by_id.items()}
 
@@ -88,7 +93,8 @@ class MariadbParser(Parser):
             return ()
         if spent is None or limit - spent <= -SLACK:
             return (unseen("unshown", f"{setting} was over before, or isn't that of its session"),)
-        name = self.limits.name(f"{setting} of connection {row['thread']}", row["thread"], limit - spent)
+        left = limit - spent - self.later
+        name = self.limits.name(f"{setting} of connection {row['thread']}", row["thread"], left)
         return (wakers("expires", [name], premise(LIMIT)),)
 
     def statement_limit(self, row: Row, look: Look) -> Part:
