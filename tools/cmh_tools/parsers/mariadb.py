@@ -119,7 +119,7 @@ class MariadbParser(Parser):
             return unknown(name, "its lock came while it was read, or isn't shown", **more)
         what = look.told(trx["lock"])
         more.update(operation="row lock", objects=[*more["objects"], what])
-        more["note"] = f"{what} for {words_for(trx['waited'] or 0)}: {query_of(row)}"
+        more["note"] = f"{what}{lasting(trx['waited'])}: {query_of(row)}"
         timeout = look.limits["innodb_lock_wait_timeout"]
         limits = (*self.limit(row, "innodb_lock_wait_timeout", timeout, trx["waited"]),
                   *self.statement_limit(row, look))
@@ -133,14 +133,14 @@ class MariadbParser(Parser):
         if match:
             limits = self.limit(row, "the limit of GET_LOCK", max(float(match[1]), 0), row["time"])
         part: Part = (wakers("owns", [owner]),) if owner else (unseen("unshown", "who has its lock isn't shown"),)
-        more.update(operation="get_lock", note=f"{lock_of(row)} for {words_for(row['time'] or 0)}: {query_of(row)}")
+        more.update(operation="get_lock", note=f"{lock_of(row)}{lasting(row['time'])}: {query_of(row)}")
         parts = with_limits([part], (*limits, *self.statement_limit(row, snapshot.look)))
         return blocked(name, parts, [SYSTEM, premise(LIMITS)], **more)
 
     def at_metadata(self, name: str, row: Row, kind: str, snapshot: Server, more: Dict[str, Any]) -> Process:
         """One that waits for a metadata lock, of a table whose name stands in its statement."""
         look = snapshot.look
-        more.update(operation=kind, note=f"{kind} for {words_for(row['time'] or 0)}: {query_of(row)}")
+        more.update(operation=kind, note=f"{kind}{lasting(row['time'])}: {query_of(row)}")
         limits = (*self.limit(row, "lock_wait_timeout", look.limits["lock_wait_timeout"], row["time"]),
                   *self.statement_limit(row, look))
         if not look.head["metadata_locks"]:
@@ -163,9 +163,9 @@ class MariadbParser(Parser):
         if command == SLEEP and trx is not None:
             limits = tuple(group for setting in ("wait_timeout", "idle_transaction_timeout")
                            for group in self.limit(row, setting, look.limits.get(setting), row["time"]))
-            why = f"sleeps in a transaction for {words_for(row['time'] or 0)}; {client_words(end_of_client(row))}"
-            more.update(operation="idle in transaction", note=f"next statement; {why.partition(';')[0]}, begun "
-                        f"{words_for(trx['age'] or 0)} ago{client_of(row)}")
+            why = f"sleeps in a transaction{lasting(row['time'])}; {client_words(end_of_client(row))}"
+            more.update(operation="idle in transaction", note=f"next statement; {why.partition(';')[0]}{begun(trx)}"
+                        f"{client_of(row)}")
             if not is_wanted(trx, look):
                 parts = any_of(unseen("client"), unseen("to-come"))
                 return rests(name, "has an open transaction", parts, [SYSTEM], **more)
@@ -175,7 +175,7 @@ class MariadbParser(Parser):
             more.update(operation="idle")
             parts = any_of(unseen("client"), unseen("to-come", "its wait_timeout"))
             has = held_by(row["thread"], look)
-            why = f"sleeps for {words_for(row['time'] or 0)}, and has {has[0]}; {client_words(end_of_client(row))}" \
+            why = f"sleeps{lasting(row['time'])}, and has {has[0]}; {client_words(end_of_client(row))}" \
                 if has else "has nothing to do"
             return rests(name, why, parts, [SYSTEM], **more)
         if state == USER_SLEEP:
@@ -226,8 +226,18 @@ def more_of(row: Row, trx: Optional[Row], look: Look) -> Dict[str, Any]:
             "thread": f"{look.end['process']}/{row['tid']}" if is_here else "",
             "frames": [row["user"] or "connection"], "operation": row["state"] or row["command"],
             "objects": count if is_counted else [], "count": " ".join(count) if is_counted else None,
-            "note": f"{row['state'] or row['command']} for {words_for(row['time'] or 0)}{client_of(row)}, "
+            "note": f"{row['state'] or row['command']}{lasting(row['time'])}{client_of(row)}, "
                     f"{query_of(row)}"}
+
+
+def lasting(seconds: Optional[int]) -> str:
+    """Returns in words for how long something lasts, or nothing where that isn't known."""
+    return "" if seconds is None else f" for {words_for(seconds)}"
+
+
+def begun(trx: Row) -> str:
+    """Returns in words when a transaction has begun, or nothing where that isn't known."""
+    return "" if trx["age"] is None else f", begun {words_for(trx['age'])} ago"
 
 
 def name_of(row: Row) -> str:
