@@ -14,11 +14,11 @@ DELETED = " (deleted)"  # behind the name of a file that is gone
 LIBC = ctypes.CDLL(None, use_errno=True)
 
 
-def slurp(path: str, size: int = MOST) -> str:
+def slurp(path: str) -> str:
     """Returns what one read of a file of /proc gives."""
     handle = os.open(path, os.O_RDONLY | os.O_CLOEXEC)
     try:
-        return os.read(handle, size).decode("utf-8", "backslashreplace")
+        return os.read(handle, MOST).decode("utf-8", "backslashreplace")
     finally:
         os.close(handle)
 

@@ -84,14 +84,11 @@ LIMITED = re.compile(r"java\.(?:lang\.\w+|util\.concurrent\.locks\.LockSupport)\
 NEEDS_ALL = re.compile(r"(?:CountDownLatch|CyclicBarrier|Phaser)\.\w+|\w+\.(?:invokeAll|awaitTermination|close)"
                        r"|StructuredTaskScope\w*\.join\w*|.*WriteLock\.lock\w*")
 READS = re.compile(r"ReentrantReadWriteLock\$ReadLock\.lock\w*")
-LATCH = re.compile(r"CountDownLatch\.await")
 # Operations that need all of a group to come to them.
 MEETS = re.compile(r"CyclicBarrier\.await|Phaser\.arriveAndAwaitAdvance")
 # Calls by which nobody means to wait for ever: to put something where there is no room, or to meet others.
 NEVER_MEANT = re.compile(r"\w+(?:Queue|Deque)\.(?:put\w*|transfer)|Exchanger\.exchange|CyclicBarrier\.await"
                          r"|Phaser\.arriveAndAwaitAdvance")
-# Waits for the end of threads and pools.
-LEAVES = re.compile(r"java\.lang\.Thread\.join|java\.util\.concurrent\.\w+\.(?:awaitTermination|close)")
 # Calls that end once a task has run, and the frames of threads of pools, which run tasks.
 TASK = re.compile(r"(?:FutureTask|CompletableFuture|ForkJoinTask)\.(?:get|join)")
 POOLED = re.compile(r"java\.util\.concurrent\.(?:ThreadPoolExecutor\$Worker|ForkJoinWorkerThread)\.run")

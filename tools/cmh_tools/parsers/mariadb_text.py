@@ -14,7 +14,7 @@ NUMBER = (int, float, NONE)
 SECONDS = range((1 << 30) + 1)  # no limit of a server's may be longer
 KEY = (int, str)  # of a transaction: MySQL's are larger than some take as a number
 SHAPES: Dict[str, Row] = {
-    "look": {"look": str, "version": str, "metadata_locks": int, "detects": int},
+    "look": {"look": str, "version": str, "metadata_locks": int, "detects?": int},  # (the last one: of older states)
     "limits": {"limits": str, "idle_transaction_timeout?": NUMBER, "max_statement_time?": NUMBER,
                "innodb_lock_wait_timeout": SECONDS, "lock_wait_timeout": SECONDS, "wait_timeout": SECONDS},
     "thread": {"thread": int, "user": TEXT, "host": TEXT, "db": TEXT, "command": str, "time": WHOLE, "state": TEXT,
