@@ -176,6 +176,8 @@ def add_marks(thread: Thread, row: Dict[str, Any]) -> None:
     owner = blocker.get("owner") or blocker.get("exclusiveOwnerThreadId")
     thread.waits_for_owner = str(owner) if owner else None
     for owned in row.get("monitorsOwned") or []:
-        marks = [("locked", str(lock)) for lock in owned["locks"] if lock]
+        marks, depth = [("locked", str(lock)) for lock in owned["locks"] if lock], int(owned["depth"])
+        if depth < 0:
+            raise ValueError(f"a monitor of {thread.key} has the depth {depth}")
         if thread.frames:
-            thread.frames[min(int(owned["depth"]), len(thread.frames) - 1)].marks += marks
+            thread.frames[min(depth, len(thread.frames) - 1)].marks += marks

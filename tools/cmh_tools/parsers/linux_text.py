@@ -32,6 +32,8 @@ OLD = {f"{key}?": object for key in ("awaits", "handlers", "traps", "builtin", "
 RUNNING, NO_CALL = "running", "-1"
 STATE = re.compile("[A-Za-z]")
 FILE = re.compile(r"(?!pipe:|socket:).*|(pipe|socket):\[\d{1,20}\]", re.S)
+# What more is known of a descriptor: of some kinds a number.
+MORE = re.compile(r"(?!Pid:|sigmask:).*|Pid:\s*-?\d{1,10}|sigmask:\s*[0-9a-f]{1,16}", re.S)
 PID = range(1 << 22)  # what the kernel numbers processes and threads with
 THREAD = {"tid": PID, "state": STATE, "inner?": PID, "comm?": str, "call?": str, "args?": [HEX] * 6,
           "counts?": [int, int], "set?": ([[int, int]], [[int, int, int]]), "words?": re.compile("([0-9a-f]{2})*"),
@@ -41,7 +43,7 @@ THREAD = {"tid": PID, "state": STATE, "inner?": PID, "comm?": str, "call?": str,
           "addressed?": bool, "family?": range(1 << 16), **OLD}
 OWNER: Row = {"pid": PID, "ppid": PID, "comm": str, "group?": PID, "session?": PID, "exe?": str, "command?": str,
               "net?": str, "living?": int, "TracerPid?": re.compile(r"\d{1,9}"), "SigCgt?": HEX, "SigIgn?": HEX,
-              "fds": {re.compile(r"\d{1,9}|memory .*"): [FILE, re.compile("r?w?"), str, ...]}, "threads?": [THREAD],
+              "fds": {re.compile(r"\d{1,9}|memory .*"): [FILE, re.compile("r?w?"), MORE, ...]}, "threads?": [THREAD],
               "kin?": [PID], "timers?": bool, "aio?": bool, "runtime?": str, "frames?": [[str, int, int]],
               "modules?": [[str, str]], "start?": int, "NSpid?": NUMBERS, "NSpgid?": NUMBERS, "collects?": bool,
               "state": STATE, **OLD}
