@@ -98,8 +98,8 @@ def attribute_of(value: object, name: str) -> Thing:
 
 
 def of_class(value: object, name: str, of_kind: Thing) -> Thing:
-    """What a class has for all its objects by a name, if that is a value and no way to one. `found` is what the class
-    of the value has."""
+    """What a class has for all its objects by a name, if that is a value and no way to one. `of_kind` is what the
+    class of the value has."""
     rows = [kind.__dict__ for kind in classes_of(value)] if isinstance(value, type) else []
     is_shadowed = hasattr(type(of_kind), "__set__")
     of_kind = next((row[name] for row in rows if name in row), of_kind)

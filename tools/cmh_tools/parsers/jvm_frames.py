@@ -1,5 +1,5 @@
 """What the frames of a JVM's threads mean: which are the job's own, which belong to idle workers, and which natives
-compute. `jvm` classifies threads by it."""
+compute. `jvm_waits` classifies threads by it."""
 from __future__ import annotations
 
 import re

@@ -1,5 +1,5 @@
 """What a JVM prints of its threads: `jstack -l`, `jcmd PID Thread.print -l`, SIGQUIT. Each thread is read line by line,
-as `jvm_dumps` does too; what it waits for stands in `jvm`.
+as `jvm_dumps` does too; what it waits for stands in `jvm_waits`.
 
 Read from real texts of JDK 17 and 25. JDK 8, 11 and 21 are written by hand, from the sources of HotSpot.
 """

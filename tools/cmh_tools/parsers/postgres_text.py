@@ -36,7 +36,7 @@ SHAPES: Dict[str, Row] = {
     "setting": {"setting": str, "value": OF_TEXT},
     "set": {"set": str, "value": str, "role": NUMBER, "database": NUMBER},
     "end": {"end": int}, "taken": {"taken": [float, float], "machine": str}}
-# What tells the rows of a kind from each other, and how many of the kind a look has.
+# What tells the rows of a kind from each other.
 KEYS = {"backend": ("backend",), "prepared": ("gid",), "setting": ("setting",), "set": ("set", "role", "database")}
 LINES = Lines("cmh-postgres ", "lines of take-postgres are expected", SHAPES, "backend", "taken")
 
@@ -106,7 +106,7 @@ class Look(ServerLook):
         own = self.set_for(name, self.head["role"], self.head["database"])
         if value is None and own is None:  # (else the value of all is hidden by that of the role that looks)
             value = next((str(row["value"]) for row in self.of("setting") if row["setting"] == name), None)
-        return milliseconds(value) if value is not None else None
+        return seconds_in(value) if value is not None else None
 
     def has_setting(self, name: str) -> bool:
         """Whether this version of the server has a limit of that name."""
@@ -121,7 +121,7 @@ class Look(ServerLook):
 UNITS = {"": 0.001, "ms": 0.001, "s": 1.0, "min": 60.0, "h": 3600.0, "d": 86400.0, "us": 0.000001}
 
 
-def milliseconds(text: str) -> Optional[float]:
+def seconds_in(text: str) -> Optional[float]:
     """Returns a limit in seconds, as a setting has it: in milliseconds where it has no unit."""
     match = re.fullmatch(r"\s*(\d{1,12})\s*(us|ms|s|min|h|d|)\s*", text)
     return int(match[1]) * UNITS[match[2]] if match else None

@@ -190,8 +190,9 @@ class PythonParser(Parser):
             snapshot.moments[process.name] = ONCE
 
     def stops_of_main(self, thread: Row, look: Look) -> Optional[int]:
-        """Returns how often the main thread has stopped. Each signal that asks for states wakes it, so that is known of
-        the states of the first signal alone: if there are two, later ones count as the last of these."""
+        """Returns how often the main thread has stopped. Up to 1.1 each signal that asked for states woke it, and no
+        state says by which version it was printed: so that is known of the states of the first signal alone. If there
+        are two, later ones count as the last of these."""
         looks = self.looks[look.place()]
         first = [other for other in looks if other.head.get("signal") == looks[0].head.get("signal")]
         if "new_stops" not in thread.more or look not in first and len(first) < 2:
