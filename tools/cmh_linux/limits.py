@@ -17,7 +17,7 @@ AS_TIMES = {"ppoll": 2, "pselect6": 4, "select": 4, "epoll_pwait2": 3, "rt_sigti
             "io_getevents": 4, "nanosleep": 0, "clock_nanosleep": 2, "futex": 3, "mq_timedsend": 4,
             "mq_timedreceive": 4}  # and those where a time stands in memory
 OPERATION, BY_CLOCK = 127, 256  # of a futex: what it does, and that its limit is by the clock
-WAITS, LOCKS = 0, (6, 7)  # of these a limit is how long, or a time of the clock; of others when it ends
+WAIT, LOCK = 0, 6  # of these a limit is how long, or a time of the clock; of others when it ends
 IS_A_TIME = 1  # TIMER_ABSTIME
 FAR = 3600.0  # seconds
 RAN_AT = re.compile(r"^se\.exec_start *: *([0-9.]+)", re.M)
@@ -69,9 +69,9 @@ def clock_of(call: str, args: List[int]) -> Optional[int]:
         return int32(args[0]) if args[1] & IS_A_TIME else None
     if call in QUEUES:
         return time.CLOCK_REALTIME
-    if call != "futex" or args[1] & OPERATION == WAITS:
+    if call != "futex" or args[1] & OPERATION == WAIT:
         return None
-    is_real = args[1] & BY_CLOCK or args[1] & OPERATION in LOCKS
+    is_real = args[1] & BY_CLOCK or args[1] & OPERATION == LOCK
     return time.CLOCK_REALTIME if is_real else time.CLOCK_MONOTONIC
 
 
