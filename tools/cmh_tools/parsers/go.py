@@ -22,9 +22,9 @@ from ..sketch import GOING, LIMIT, SYSTEM, Process, Sketch, blocked, garbled, go
 from ..snapshots import APART, CUT, GONE, ONCE, Reading
 from . import State
 from .base import FAR, Parser, Reach, Snapshot, duration, is_loop, without_sleep
-from .go_frames import (CONNECTION, NEEDS_ALL, WATCHER, Call, Place, accepts_for_library, callers_in, cut_short,
-                        entry_of, is_at_connection, is_jobs, is_of_runtime, lacks_wait, misplaced, own_calls,
-                        receiver_locked, receivers_past_lock, serves_request, takes_state, watches_client)
+from .go_frames import (CONNECTION, NEEDS_ALL, WATCHER, WRITER, Call, Place, accepts_for_library, callers_in,
+                        cut_short, entry_of, is_at_connection, is_jobs, is_of_runtime, lacks_wait, misplaced,
+                        own_calls, receiver_locked, receivers_past_lock, serves_request, takes_state, watches_client)
 from .go_starters import MAIN, UNSEEN, Starters, unseen_starter
 from .go_text import ADDRESS, AGAIN, LOOKED, TAKER, WHERE, Dump, Goroutine, read_dumps
 
@@ -38,7 +38,7 @@ OF_THE_SYSTEM = frozenset(("IO wait", "syscall"))
 RECEIVES = frozenset(("chan receive", "select", "sync.Cond.Wait"))  # operations at which one rests in its own loop
 END_OF_MAIN = "waits in the empty select of main"
 YIELD = "runtime.Gosched"
-READER, WRITER = "sync.RWMutex.RLock", "sync.RWMutex.Lock"
+READER = "sync.RWMutex.RLock"
 SIGNALS = "os/signal.signal_recv"  # of the goroutine that is there once the program asks for a signal
 # What functions are called that wait for a signal.
 OF_SIGNALS = re.compile(r"(?i)signal|shut_?down|interrupt|graceful|terminat")

@@ -20,7 +20,8 @@ from ..sketch import LIMIT, SYSTEM, Process, Sketch, blocked, frame, garbled, go
 from ..snapshots import APART, PARTS, Reading
 from . import State
 from .base import Break, Parser, Snapshot, without_sleep
-from .mpi_records import COMPUTES, FINALIZED, ONE_THREAD, RecordsParser, doubt_reach, say_missing
+from .mpi_ranks import FEW
+from .mpi_records import COMPUTES, FINALIZED, ONE_THREAD, RecordsParser, doubt_reach, pids_of, say_missing
 from .mpi_text import MARK
 
 HEADING = re.compile(r"^# (?:gdb|eu-stack) -p \d+.*$", re.M)
@@ -72,7 +73,6 @@ LIMITED = re.compile(r"(timed|clock)(wait|lock|join|rdlock|wrlock)")
 
 Counts = Dict[str, List[Tuple[int, str]]]
 KEPT = 65536  # texts of stacks whose frames are kept
-FEW = 200  # of more ranks all waits share the list, with the one that waits in it: so it takes time linear in them
 
 
 @dataclass
@@ -226,15 +226,9 @@ class MpiParser(Parser):
         return [reading_of(state.path, head, text[head.end():end], counts) for head, end in zip(heads, ends)]
 
     def begin(self, readings: List[Reading]) -> None:
-        """Checks that each rank is one process, and says which ranks the job has that the state lacks."""
-        pids: Dict[int, str] = {}
+        """Says which ranks the job has that the state lacks."""
         ranks: List[Rank] = [rank for reading in readings for rank in reading.rows]
-        for reading in readings:
-            for rank in reading.rows:
-                before = pids.setdefault(rank.number, rank.process_id())
-                if before != rank.process_id():
-                    raise Refusal(f"{shown(reading.path)}: rank {rank.number} is process {rank.process_id()} here, and "
-                                  f"{before} before: states of one job are expected, and of one process for each rank")
+        pids = pids_of(readings, Rank.process_id)
         self.polls = {rank.own[0]["function"]: rank for rank in reversed(ranks)
                       if rank.own and POLLS.search(rank.operation)}
         say_missing(readings, pids, [rank.size for rank in ranks])

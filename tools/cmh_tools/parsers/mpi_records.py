@@ -7,7 +7,7 @@ One that looks for something again and again, and sleeps between, ticks: whateve
 """
 from __future__ import annotations
 
-from typing import Any, Dict, Iterable, List, Tuple, Union
+from typing import Any, Callable, Dict, Iterable, List, Tuple, Union
 
 from ..files import Refusal, shown
 from ..model import Part, Sign, Wakers, all_of, any_of, unseen, wakers
@@ -50,15 +50,9 @@ class RecordsParser(Parser):
         return readings
 
     def begin(self, readings: List[Reading]) -> None:
-        """Checks that each rank is one process, and says which ranks the job has that the state lacks."""
-        pids: Dict[int, str] = {}
+        """Says which ranks the job has that the state lacks."""
         ranks: List[Rank] = [rank for reading in readings for rank in reading.rows]
-        for reading in readings:
-            for rank in reading.rows:
-                before = pids.setdefault(rank.number, f"{rank.pid} on {rank.host}")
-                if before != f"{rank.pid} on {rank.host}":
-                    raise Refusal(f"{shown(reading.path)}: rank {rank.number} is process {rank.pid} on {rank.host} "
-                                  f"here, and {before} before: states of one job are expected, each once")
+        pids = pids_of(readings, lambda rank: f"{rank.pid} on {rank.host}")
         align(ranks)
         say_missing(readings, pids, [rank.row.get("size", 0) for rank in ranks])
 
@@ -99,6 +93,19 @@ def doubt_reach(sketch: Sketch) -> None:
         ends.update({key: not going.isdisjoint(names) for key, names in lists.items() if key not in ends})
         if process.sign is Sign.BLOCKED and any(ends[key] for key in lists):
             process.sign = Sign.UNKNOWN
+
+
+def pids_of(readings: List[Reading], name_of_process: Callable[[Any], str]) -> Dict[int, str]:
+    """Returns what tells the process of each rank, by its number. Raises Refusal if a rank is another one in a later
+    reading."""
+    pids: Dict[int, str] = {}
+    for reading, rank in ((reading, rank) for reading in readings for rank in reading.rows):
+        here = name_of_process(rank)
+        before = pids.setdefault(rank.number, here)
+        if before != here:
+            raise Refusal(f"{shown(reading.path)}: rank {rank.number} is process {here} here, and {before} before: "
+                          "states of one job are expected, and of one process for each rank")
+    return pids
 
 
 def say_missing(readings: List[Reading], numbers: Dict[int, str], sizes: List[int]) -> None:
