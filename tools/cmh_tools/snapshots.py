@@ -261,9 +261,12 @@ def names_of_part(part: Part) -> FrozenSet[str]:
 
 def part_of_both(first: Part, second: Part, known: Known) -> Part:
     """Returns the wakers of both states. Where they have the same list it stays one that waits may share."""
-    later = {(group.how, group.strength, group.what): group for group in second}
-    made = [wakers_of_both(group, later.pop((group.how, group.strength, group.what), group), known) for group in first]
-    return (*made, *later.values())
+    later: Dict[Tuple[object, ...], List[Wakers]] = {}
+    for group in second:
+        later.setdefault((group.how, group.strength, group.what), []).append(group)
+    kin = (later.get((group.how, group.strength, group.what)) or [group] for group in first)
+    made = [wakers_of_both(group, alike.pop(0), known) for group, alike in zip(first, kin)]
+    return (*made, *(group for alike in later.values() for group in alike))
 
 
 def wakers_of_both(first: Wakers, second: Wakers, known: Known) -> Wakers:
