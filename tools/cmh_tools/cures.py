@@ -15,6 +15,7 @@ WITH_NUMBER = re.compile(r"(?P<name>.+)-(?P<pid>\d+)")
 JVM = re.compile(r"JVM (?P<pid>\d+)")
 PID = re.compile(r" \(PID (\d+)\)")  # as a unit is called
 MOST = 64  # members of a root that are looked at
+WIDE = 72  # characters of a word that has no room in a line
 STEPS = 60_000  # looks at roots in which fewer units are looked for
 SHOWN = 3  # units, or members of a root without any
 PIDS = 12  # of processes that are restarted with another one: who doesn't know them can't see whether they are gone
@@ -236,7 +237,8 @@ class Cures:
         if len(process.parts) > 1 or not rest or process.remedy and self.system != "erlang":
             return ""
         if "called" in hows:
-            return f"an answer to {what} of {short_name(process.name)}" if ANSWERS.search(operation) else ""
+            call = what if max(map(len, what.split())) < WIDE else operation
+            return f"an answer to {call} of {short_name(process.name)}" if ANSWERS.search(operation) else ""
         if "owns" in hows:
             where = rest if rest.startswith("lock ") else f"{kind or 'lock'} {rest}"
             is_lock = LOCKS.search(operation) and len(hows["owns"]) == 1

@@ -225,7 +225,8 @@ class Screen:
         for doubts in (whole, short):
             if self.has_room([*lines, *who, *behind], doubts):
                 return [*lines, *who, *behind, *doubts]
-        return [*lines, *who[:-1 if who[-1].endswith(FOR_WHICH) else None], *behind, *short]
+        who = who[:-1 if who[-1].endswith(FOR_WHICH) else None]
+        return [*lines, *who, *behind, *self.unless(members, is_cut=True)]
 
     def likely_behind(self, number: int) -> List[str]:
         """Returns the line of those who are only likely to be stuck behind a group that is certain."""
@@ -239,14 +240,16 @@ class Screen:
         words = sum(len(line.split()) for line in [*self.head(), *group])
         return words <= WORDS and self.height([*self.head(), *group, *doubts]) <= LINES
 
-    def unless(self, members: List[int], rows: int = 1) -> List[str]:
-        """Returns the first few doubts on which it hangs that some are stuck, of so many rows each if that helps."""
+    def unless(self, members: List[int], rows: int = 1, is_cut: bool = False) -> List[str]:
+        """Returns the first few doubts on which it hangs that some are stuck, of so many rows each if that helps, or
+        cut to one."""
         whom, doubts = self.whose_wait(members), self.told_doubts(members)
         left, numbers = len(self.this.doubts_of(members)) - len(doubts), [doubt.number for doubt in doubts]
         if numbers and self.said.issuperset(numbers):
             return [f"Unless {whom} is freed by {self.some(map(str, numbers), ' or ')}, as above"]
         room = rows * (self.width - HEAD)
-        lines = [self.doubt_lines(doubt.number, self.this.doubter_words(doubt, self.name_of, room)) for doubt in doubts]
+        words = [self.this.doubter_words(doubt, self.name_of, room) for doubt in doubts]
+        lines = [self.doubt_lines(number, cut(text, room) if is_cut else text) for number, text in zip(numbers, words)]
         more = [f"  and {left:,} more"] if left else []
         return [f"Unless {whom} is freed by", *lines, *more] if lines else []
 
