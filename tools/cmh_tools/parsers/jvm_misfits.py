@@ -20,6 +20,8 @@ PARKS = re.compile(r"java\.util\.concurrent\.locks\.AbstractQueued(?:Long)?Synch
 # Private methods of the JDK in which one waits, with their classes.
 PRIVATE = re.compile(r"(java\.util\.concurrent\.(?:CompletableFuture|FutureTask|Phaser|CyclicBarrier|Exchanger))\.(?:"
                      r"waitingGet|timedGet|awaitDone|internalAwaitAdvance|dowait|(?:slot|arena)Exchange)")
+# What calls these within their classes.
+CALLS_PRIVATE = re.compile(r".*\.(?:get|join|await|awaitAdvance\w*|arriveAndAwaitAdvance|doRegister|exchange)")
 AWAITS = re.compile(rf".*\${CONDITION}\.await\w*")
 # The object of a lock of the JDK at which its waiters are parked, with the class of that lock.
 OF_LOCKS = re.compile(r"(java\.util\.concurrent\.[\w.]+)\$(?:Nonfair|Fair)?Sync")
@@ -75,8 +77,8 @@ def misfit_of_park(stack: Stack, parked_class: str) -> str:
         return f"it is parked, and {parking} calls no such thing"
     for method, caller in zip(methods, [*methods[1:], "nobody"]):
         own = PRIVATE.fullmatch(method)
-        if own and not caller.startswith(f"{own[1]}."):
-            return f"its own class alone calls {method}, and {caller} does"
+        if own and not (caller.startswith(f"{own[1]}.") and CALLS_PRIVATE.fullmatch(caller)):
+            return f"its own class alone calls {method}, and not {caller}"
     awaits = any(map(AWAITS.fullmatch, methods))
     if parked_class.endswith(f"Synchronizer${CONDITION}") and not awaits:
         return "it is parked at a condition, and no frame awaits one"
