@@ -297,7 +297,7 @@ class Screen:
                  for name, (columns, alike) in zip(names, shown_groups)]
         lines += [f"  and {sum(map(len, left)):,} more"] if left else []
         are_all = all(whom == "" for _, whom, _ in groups)
-        who = f"{'Each' if are_all else 'The others'} can be freed by another one of them alone"
+        who = f"{'Each' if are_all else 'The others'} can be freed only by another one of them"
         return lines + ([f"  {who}{FOR_WHICH}"] if is_of_any else [])
 
     def is_of_any(self, waiting: List[int]) -> bool:
