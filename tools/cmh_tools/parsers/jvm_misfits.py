@@ -7,6 +7,7 @@ from collections import defaultdict
 from functools import lru_cache
 from typing import DefaultDict, Dict, List, Set
 
+from ..sketch import quote
 from .jvm_frames import CONDITION, JDK, LIBRARY, OF_QUEUES, caller_of
 from .jvm_text import OWNERS, PARKED, Dump, Stack, Thread, stack_of
 
@@ -28,6 +29,7 @@ OF_LOCKS = re.compile(r"(java\.util\.concurrent\.[\w.]+)\$(?:Nonfair|Fair)?Sync"
 PARK, SUPPORT = re.compile(r"java\.util\.concurrent\.locks\.LockSupport\.park"), re.compile(r".*\.LockSupport\.park")
 OF_CLASS = re.compile(r"\.[A-Z$][^.]*\.")  # (as a package has no capital)
 RUN = "java.lang.Thread.run"
+STATES = ("", "NEW", "RUNNABLE", "BLOCKED", "WAITING", "TIMED_WAITING", "TERMINATED")  # of Thread.State, or none
 NEAR = 6  # frames in which a queue of the JDK stands above whoever waits in it
 
 
@@ -47,6 +49,8 @@ def misfit(thread: Thread, dump: Dump) -> str:
         return f"{thread.place}: no state follows this line"
     if thread.number and not thread.is_virtual and thread.has_top != bool(thread.frames):
         return f"{thread.place}: this line doesn't fit whether frames follow it"
+    if thread.state not in STATES:
+        return f"{thread.place}: no thread has the state {quote(thread.state)}"
     wanted = TOPS.get(thread.detail) if thread.state in ("WAITING", "TIMED_WAITING") else None
     if wanted and (top is None or not wanted.fullmatch(top.method)):
         return f"{thread.place}: its state is '{thread.state} ({thread.detail})', and its first frame is another"
