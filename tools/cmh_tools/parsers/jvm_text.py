@@ -23,7 +23,8 @@ HEADER = re.compile(
     r"(?P<status> [^\[]*)?(?:\[0x0*(?P<top>\w*)\])?\s*"
 )
 STATE = re.compile(r"\s+java\.lang\.Thread\.State: (\w+)(?: \((.*)\))?\s*")
-FRAME = re.compile(r"\s+at (?:[\w.@$-]*/{1,2}(?!0x))?(?P<method>[^()]+\.[^().]+)\((?P<place>.*)\)\s*")
+FRAME = re.compile(r"\s+at (?:[\w.@$-]*/{1,2}(?!0x))?(?P<method>[^()]+\.[^().]+)"
+                   r"\((?P<place>(?:\S*/)?(?:Native Method|Unknown Source|\S*))\)\s*")
 MARK = re.compile(
     r"\s+- (?P<kind>waiting on|waiting to lock|waiting to re-lock in wait\(\)|locked|parking to wait for|eliminated)"
     r" +<(?P<object>[^>]*)>(?: \(a (?P<class>.*)\))?(?:, owned by #(?P<owner>\d+))?\s*"
