@@ -30,6 +30,7 @@ TOLD = ("reason", *TEXTS, *LISTS, "count")
 SIGNS = {sign.value: sign for sign in Sign}
 STRENGTHS = {strength.value: strength for strength in Strength}
 WAKER_KEYS = {"who", "how", "strength", "because", "what"}
+TEXT = {str}  # (made once, as each list is looked at by it)
 FLAGS = {"spoilt": "is_garbled", "collective": "is_collective"}
 KEYS = {"name", *KINDS, *TEXTS, *LISTS, *FLAGS, "count", "sign", "wait", "reason"}
 # Keys of older notes, which say nothing any more, but for who may end a wait besides, and that an unknown one is idle.
@@ -95,7 +96,7 @@ def texts_of(tree: Dict[str, Any], key: str, who: str = "") -> List[str]:
 
 
 def is_texts(value: object) -> bool:
-    return isinstance(value, list) and set(map(type, value)) <= {str}
+    return isinstance(value, list) and TEXT.issuperset(map(type, value))
 
 
 def lists_of(tree: Dict[str, Any]) -> Dict[str, List[str]]:

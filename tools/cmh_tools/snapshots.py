@@ -9,9 +9,11 @@ add to it.
 from __future__ import annotations
 
 import functools
+from collections import defaultdict
 from dataclasses import dataclass, field, replace
-from itertools import zip_longest
-from typing import Any, Dict, FrozenSet, Iterable, List, Optional, Sequence, Set, Tuple
+from itertools import chain, zip_longest
+from operator import attrgetter
+from typing import Any, DefaultDict, Dict, FrozenSet, Iterable, List, Optional, Sequence, Set, Tuple
 
 from .files import escaped, short_name
 from .model import Anybody, Part, Sign, Wakers, once, unseen
@@ -34,6 +36,7 @@ SHOWN = 5  # names in a reason
 # What one with a limit does, by what its place says, if a count says that it has come back there.
 COME_BACK = {Sign.TICKS: Sign.TICKS, Sign.SLEEPS: Sign.POLLS, Sign.POLLS: Sign.POLLS}
 COME = "the states differ in who hasn't come yet"
+WAY = attrgetter("how", "strength", "what")  # in which way wakers end a wait
 Moments = Dict[str, str]  # how processes were read, by their names
 Known = Dict[Tuple[int, int], Any]  # lists of two states in one, and waits for all, by the ids of both
 
@@ -261,12 +264,11 @@ def names_of_part(part: Part) -> FrozenSet[str]:
 
 def part_of_both(first: Part, second: Part, known: Known) -> Part:
     """Returns the wakers of both states. Where they have the same list it stays one that waits may share."""
-    later: Dict[Tuple[object, ...], List[Wakers]] = {}
+    later: DefaultDict[Tuple[object, ...], List[Wakers]] = defaultdict(list)
     for group in second:
-        later.setdefault((group.how, group.strength, group.what), []).append(group)
-    kin = (later.get((group.how, group.strength, group.what)) or [group] for group in first)
-    made = [wakers_of_both(group, alike.pop(0), known) for group, alike in zip(first, kin)]
-    return (*made, *(group for alike in later.values() for group in alike))
+        later[WAY(group)].append(group)
+    made = [wakers_of_both(group, (later[WAY(group)] or [group]).pop(0), known) for group in first]
+    return (*made, *chain.from_iterable(later.values()))
 
 
 def wakers_of_both(first: Wakers, second: Wakers, known: Known) -> Wakers:
@@ -275,7 +277,7 @@ def wakers_of_both(first: Wakers, second: Wakers, known: Known) -> Wakers:
         return first if isinstance(first.who, Anybody) else second
     key = id(first.who), id(second.who)
     if key not in known:
-        is_whole = first.who is second.who or set(second.who) <= set(first.who)
+        is_whole = first.who == second.who or set(second.who) <= set(first.who)
         known[key] = first.who if is_whole else list(dict.fromkeys([*first.who, *second.who]))
     if known[key] is first.who:
         return first
