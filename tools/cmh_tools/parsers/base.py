@@ -12,7 +12,7 @@ import json
 import re
 from collections import Counter
 from functools import lru_cache
-from typing import Any, Callable, Dict, Iterable, Iterator, List, NamedTuple, Optional, Sequence, Tuple, Type
+from typing import Any, Callable, Dict, Iterable, Iterator, List, NamedTuple, Optional, Sequence, Set, Tuple, Type
 
 from ..assumptions import sentence_of
 from ..files import Refusal, shown
@@ -212,11 +212,14 @@ def once_each(pairs: List[Tuple[str, Any]]) -> Dict[str, Any]:
     return row
 
 
+ROW = json.JSONDecoder(object_pairs_hook=once_each)  # (to make one for each line takes long)
+
+
 def row_in(line: str, mark: str = "") -> Optional[Dict[str, Any]]:
     """Returns the object of JSON that stands in a line behind a mark, or None: where there is none, or one that isn't
     whole, or that has a key twice."""
     try:
-        row = json.loads(line[len(mark):], object_pairs_hook=once_each) if line.startswith(mark) else None
+        row = ROW.decode(line[len(mark):]) if line.startswith(mark) else None
     except (ValueError, RecursionError):
         return None
     return row if isinstance(row, dict) else None
@@ -256,7 +259,7 @@ def check_of(shape: Any) -> Check:
     if isinstance(shape, list):
         return check_of_list([check_of(part) for part in shape if part is not ...], ... in shape)
     if isinstance(shape, tuple):
-        return check_of_any([check_of(one) for one in shape])
+        return check_of_any({one for one in shape if isinstance(one, type)}, list(map(check_of, shape)))
     if isinstance(shape, range):
         return lambda value: None if type(value) is int and value in shape else ""
     if isinstance(shape, re.Pattern):
@@ -264,9 +267,11 @@ def check_of(shape: Any) -> Check:
     return lambda value: None if type(value) is shape or shape is object else ""
 
 
-def check_of_any(checks: List[Check]) -> Check:
-    """Returns the check of what has one of some shapes."""
+def check_of_any(types: Set[Any], checks: List[Check]) -> Check:
+    """Returns the check of what has one of some shapes, by those of them that are types before all others."""
     def check(value: Any) -> Optional[str]:
+        if type(value) in types:
+            return None
         for one in checks:
             if one(value) is None:
                 return None
@@ -329,7 +334,7 @@ def check_of_object(rows: List[Tuple[str, str, Any, Check]], has_more: bool) -> 
                 odd = None if type(value[name]) is wanted else of_part(value[name])
             if odd is not None:
                 return f".{name}{odd}"
-        return None if has_more else next((f".{key}" for key in value if key not in names), None)
+        return None if has_more or value.keys() <= names else f".{next(key for key in value if key not in names)}"
     return check
 
 
