@@ -3,6 +3,7 @@ from __future__ import annotations
 
 import re
 from collections import Counter
+from functools import cached_property
 from typing import Dict, Iterable, List, NamedTuple, Sequence, Set, Tuple
 
 from .files import short_name, shown
@@ -58,6 +59,7 @@ class Cures:
     def __init__(self, answer: Findings) -> None:
         self.answer, self.system, self.begun_by = answer, answer.dump.sketch.system, answer.dump.sketch.begun_by
         self.members: Dict[str, List[int]] = {}
+        self.words: Dict[str, str] = {}  # what is done with each unit
         self.by_pid: Dict[str, str] = {}  # of those that are restarted by themselves, the first name of each process
         for index in range(answer.waits.number):
             self.members.setdefault(self.unit_of(index), []).append(index)
@@ -246,12 +248,19 @@ class Cures:
         return next((f"{words} {kind} {rest}".replace("  ", " ") for pattern, words in ITEMS
                      if pattern.search(operation)), "")
 
+    @cached_property
+    def waiting(self) -> Dict[str, List[int]]:
+        """Those who wait at the same, by what that is."""
+        waiting: Dict[str, List[int]] = {}
+        for index in range(self.answer.waits.number):
+            waiting.setdefault(self.answer.what(index), []).append(index)
+        return waiting
+
     def takers(self, index: int) -> List[List[int]]:
         """Returns who may get a thing first that one waits for: each who waits there for an item, or one after another
         all who wait for a lock."""
-        answer, process = self.answer, self.answer.process(index)
-        there = [other for other in range(answer.waits.number) if answer.what(other) == answer.what(index)]
-        hows = {wakers.how for part in process.parts for wakers in part}
+        there = self.waiting[self.answer.what(index)]
+        hows = {wakers.how for part in self.answer.process(index).parts for wakers in part}
         return [[index]] if "called" in hows else [there] if "owns" in hows else [[other] for other in there]
 
     def lets_go_on(self, some: Iterable[int], members: Sequence[int]) -> bool:
@@ -327,13 +336,17 @@ def apart(sets: List[List[str]]) -> int:
 
 
 def unit_words(this: Cures, unit: str) -> str:
-    """Returns in words what is done with a unit: a command that ends it where there is one, else a restart."""
+    """Returns in words what is done with a unit: a command that ends it where there is one, else a restart. They are
+    kept, as many roots may be broken by one unit."""
+    if unit in this.words:
+        return this.words[unit]
     command, called, below = this.remedies.get(unit), this.name_of_unit(unit), this.pids_below(unit)
     left = f" and {len(below) - PIDS:,} more" if below[PIDS:] else ""
     what = "its ranks" if unit in WHOLE.values() else "what it has begun"
     more = f", with {what} (PID {', '.join(map(str, below[:PIDS]))}{left})" if below else ""
     again = ", which its supervisor may start again" if this.system == "erlang" else ""
-    return f"end {short_name(unit)}{again}: {shown(command)}" if command else f"restart {called}{more}"
+    this.words[unit] = f"end {short_name(unit)}{again}: {shown(command)}" if command else f"restart {called}{more}"
+    return this.words[unit]
 
 
 def words_of(this: Cures, cure: Cure) -> str:
