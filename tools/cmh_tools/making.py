@@ -9,6 +9,8 @@ from .command import Read, read_any
 from .facts import Facts
 from .files import Refusal, read_text, shown
 from .idle import leave_out
+from .model import Sign, Strength
+from .nearness import owners_of
 from .parsers import MODULES, State, parser_of
 from .sketch import Sketch
 from .sketch_json import read_sketch
@@ -33,10 +35,22 @@ def sketch_for(system: str, paths: Sequence[str], facts: Facts, read: Read = rea
 
 def with_facts(sketch: Sketch, facts: Facts, what: str = "processes") -> Sketch:
     """Applies facts to a sketch, and leaves those out who have nothing to do. `what` is what these are called."""
+    let_holders_work(sketch)
     apply(facts, sketch)
     leave_out(sketch, what)
     sketch.check()
     return sketch
+
+
+def let_holders_work(sketch: Sketch) -> None:
+    """Says of each one at rest that it is blocked, if another one waits for a lock that it has: whoever has something
+    that is wanted is in the middle of work, wherever it waits."""
+    blocked = [process for process in sketch.processes if process.sign is Sign.BLOCKED]
+    holders = {name for process in blocked for name in owners_of(process.parts)}
+    for process in sketch.processes:
+        able = {wakers.strength for part in process.parts for wakers in part} & {Strength.NAMED, Strength.ABLE}
+        if process.sign is Sign.RESTS and process.name in holders and able:
+            process.sign = Sign.BLOCKED
 
 
 def record(system: str, states: List[State]) -> Sketch:
