@@ -100,6 +100,7 @@ def root_row(found: Explanation, number: int) -> Tree:
         "doubts": [doubt.number for doubt in found.doubts_of(members)],
         "is_cycle": bool(found.cycle(number)),
         "members": names(found, members),
+        "maybe_behind": names(found, found.roots.maybe_behind(number)),
         "behind": names(found, behind),
         "enough": found.cures.enough_words(number),
         "sites": sites,
@@ -155,22 +156,22 @@ def process_rows(found: Findings, lists: SharedLists) -> List[Tree]:
 def process_row(found: Findings, at: int, end: Optional[int]) -> Tree:
     """Returns the row of a process, but for its wakers. `end` is who may unblock it in the end, if it isn't stuck."""
     process, waits, root = found.process(at), found.waits, found.roots.root_of.get(at)
-    shared = waits.list_of(at)
+    shared, kind = waits.list_of(at), process.kind
     kept = set(waits.without_hubs(waits.left_of(at)))
-    one_of = [it for it in waits.left[at] if it >= waits.number] if process.kind == ALL and shared is None else []
+    one_of = [it for it in waits.left[at] if it >= waits.number] if kind == ALL and shared is None else []
     nodes = [it for it in waits.left[at] if it < waits.number] if one_of else waits.all_left(at)
-    others = [] if shared is not None or process.kind not in (ANY, ALL) else nodes
-    waits_for = [it for it in others if process.kind == ALL or it in kept]
+    others = [] if shared is not None or kind not in (ANY, ALL) else nodes
+    waits_for = [it for it in others if kind == ALL or it in kept]
     return {
         "name": process.name,
         "verdict": found.verdict(at),
         "root": None if root is None else root + 1,
         "behind": [it + 1 for it in found.roots.above.get(at, ())] if root is None else [],
-        "kind": process.kind,
+        "kind": kind,
         "waits_for": names(found, waits_for),
         "waits_for_list": list_name(found, shared) if shared is not None else None,
         "one_of": [list_name(found, it) for it in one_of],
-        "besides": names(found, [it for it in others if process.kind != ALL and it not in kept]),
+        "besides": names(found, [it for it in others if kind != ALL and it not in kept]),
         "in_transit_from": names(found, sorted(waits.senders[at])),
         "site": process.site,
         "note": found.place(at),

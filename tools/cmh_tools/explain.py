@@ -114,7 +114,7 @@ class Explanation(Findings):
 
     def ended_word(self, name: str) -> str:
         process = self.waits.processes[self.waits.index[name]]
-        return " (has ended)" if process.kind == ENDED else ""
+        return " (has ended)" if process.sign is Sign.ENDED else ""
 
     def wait_for_all(self, at: int) -> str:
         """Returns whom one needs, of those that have not come, with what is known of each: stuck ones first."""
@@ -210,13 +210,19 @@ class Explanation(Findings):
     def root(self, number: int) -> List[str]:
         members, behind = self.roots.roots[number], self.roots.behind[number]
         rests = self.rests.of(self.processes(members))
-        lines = self.root_head(number) + self.group(members) + self.doubt_lines(members)
+        lines = self.root_head(number) + self.group(members) + self.behind_lines(number) + self.doubt_lines(members)
         lines += rests_lines(self.rests, rests, self.everything)
         if behind:
             head = f"Stuck behind root {number + 1} alone: {number_of(len(behind))}"
             lines += [paint_line(head, STUCK), *self.group(behind)]
             lines += more_lines(self.rests, self.rests.of(self.processes(behind), rests), self.everything)
         return lines
+
+    def behind_lines(self, number: int) -> List[str]:
+        """Returns the line that tells which members may only be behind the rest."""
+        names = [self.name(index) for index in self.roots.maybe_behind(number)]
+        return [f"Some may only be behind the rest, as the state doesn't show who has what is wanted: "
+                f"{self.some(names)}"] if names else []
 
     # Doubts
 

@@ -19,6 +19,9 @@ if TYPE_CHECKING:
 OWNS, PROCESS = "owns", "same-process"  # hows
 NEAR = ("inside", "guess")  # those of able ones that are nearer to what is waited at than who merely reaches it
 HAVE = (OWNS, "inside")  # those who have what is waited for, or are likely to have it
+REACH = ("reaches", PROCESS)  # those who merely reach what is waited at
+MAY_HAVE = (*REACH, *NEAR, "listed", "subscribes")  # those of whom the state doesn't show who has it
+FOR_END = ("Thread.join", "System.exit")  # of a JVM, whose states without a heap don't show for whose end one waits
 JOINS = ("Thread.join", "pthread_join", "asyncio.wait", "await of a package", "ThreadPoolExecutor.awaitTermination")
 
 
@@ -65,9 +68,16 @@ class Nearness:
                     behind.setdefault(self.waits.index[names.pop()], []).append(index)
         return behind
 
+    def is_shown(self, index: int) -> bool:
+        """Whether the state shows more than who can reach what one waits for, or one waits for all of some."""
+        hows = {wakers.how for part in self.waits.processes[index].parts for wakers in part}
+        return self.waits.kinds[index] == ALL or hows.isdisjoint(REACH)
+
     def of(self, index: int, nodes: List[int]) -> List[int]:
-        """Returns those of the nodes of a list who are likely to free one as the first."""
-        return self.without_joiners(index, self.of_holder(index, nodes))
+        """Returns those of the nodes of a list who are likely to free one as the first: anybody of a list whose end is
+        waited for, wherever it waits itself."""
+        is_for_end = self.waits.processes[index].operation in FOR_END
+        return nodes if is_for_end else self.without_joiners(index, self.of_holder(index, nodes))
 
     def of_holder(self, index: int, nodes: List[int]) -> List[int]:
         """Returns the nodes of a list of one that has what others wait for, and that anybody of its process may free:
@@ -107,12 +117,10 @@ class Nearness:
         return others or nodes
 
     def without_joiners(self, index: int, nodes: List[int]) -> List[int]:
-        """Returns the nodes of a list without those of the waiter's process that only wait for the end of others of it,
-        or of the waiter: they don't end its wait as the first, unless all have to come."""
-        processes = self.waits.processes
-        process, inside = processes[index], {*nodes, index}
-        left = [node for node in nodes if node >= self.waits.number or processes[node].site != process.site
-                or not self.is_joiner(node, inside)]
+        """Returns the nodes of a list without those that only wait for the end of others of it, or of the waiter: they
+        don't end its wait as the first, unless all have to come."""
+        process, inside = self.waits.processes[index], {*nodes, index}
+        left = [node for node in nodes if node >= self.waits.number or not self.is_joiner(node, inside)]
         return left if {*left} - {index} and not process.is_collective else nodes
 
     def is_joiner(self, index: int, whom: Set[int]) -> bool:

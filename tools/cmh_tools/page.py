@@ -168,6 +168,7 @@ class Page:
     def root(self, row: Tree) -> str:
         number, members = row["root"], row["members"]
         words = f"{len(members):,} processes wait for each other" if members[1:] else "nobody can unblock it"
+        words += ", or some only for the rest" if row["maybe_behind"] else ""
         words += "" if row["is_certain"] else ", likely"
         restart = self.restarts[number - 1]
         several = self.links(members, " → ") + f" → {self.link(members[0])}" if row["is_cycle"] and \

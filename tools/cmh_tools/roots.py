@@ -6,6 +6,7 @@ it leads to those alone who are near, as `nearness` has it. So a root is as smal
 """
 from __future__ import annotations
 
+from itertools import islice
 from typing import AbstractSet, Callable, Container, Dict, Iterable, Iterator, List, Optional, Set, Tuple
 
 from .stuck import Answer, Waits
@@ -62,6 +63,30 @@ class Roots:
         self.behind = [behind[number] for number in tops]
         self.above = {at: sorted(place[root] for root in above[of[at]]) for at in members}
         self.root_of = {at: place[of[at]] for at in members if of[at] in place}
+
+    def maybe_behind(self, number: int) -> List[int]:
+        """Returns the members of a root of more than two for each of whom nobody waits alone. Where the state shows who
+        can reach what is waited at, but not who has it, some of them may only be behind the rest."""
+        members = self.roots[number]
+        needed = self.needed(set(members)) if len(members) > 2 else {*members}
+        return [index for index in members if index not in needed]
+
+    def needed(self, inside: Set[int]) -> Set[int]:
+        """Returns those of some for whom another one of them waits alone, or since it has what is wanted."""
+        shown_ones = {index for index in inside if self.waits.nearness.is_shown(index)}
+        needed = set(self.waits.without_hubs({node for index in shown_ones for node in self.edges[index]}))
+        hubs: Dict[int, List[int]] = {}
+        for index in inside - shown_ones:
+            few = list(islice(self.others_of(index, inside, hubs), 2))
+            needed.update(few if len(few) == 1 else ())
+        return needed
+
+    def others_of(self, index: int, inside: Set[int], hubs: Dict[int, List[int]]) -> Iterator[int]:
+        """Yields those of some for whom another one of them waits. `hubs` keeps those of each hub."""
+        for node in self.edges[index]:
+            if node >= self.waits.number and node not in hubs:
+                hubs[node] = [other for other in self.waits.all_left(node) if other in inside]
+            yield from (other for other in hubs.get(node, [node]) if other in inside and other != index)
 
     def chain(self, at: int) -> List[int]:
         """Returns a shortest way from one who is stuck to the first member of a root, both included."""

@@ -16,6 +16,7 @@ from .doubts import STAND_INS, Doubt
 from .explain import Explanation, number_of, runs_of
 from .files import short_name, shown
 from .model import Sign, Wakers
+from .nearness import MAY_HAVE
 from .rule import Headline
 from .sketch import ALL, ANY, ENDED, OF_SERVER, REST, UNREADABLE
 from .terminal import AsItIs, Painted, fill, paint_line
@@ -30,8 +31,7 @@ NAME, LONGEST, SHORT = 38, 44, 26  # letters of the names in a line, and of thos
 LEAST = 12  # letters of what one waits at
 OTHERS = "of the others"
 ANY_OTHER = f"any {OTHERS}"
-FOR_WHICH = ": the state doesn't show which."
-NOT_SHOWN = ("listed", "reaches", "same-process", "inside", "subscribes", "guess")  # hows of those who may have it
+FOR_WHICH, SOME_BEHIND = ": the state doesn't show which.", "ome may only wait behind."
 LINES, WORDS = 10, 60  # before what to do, and to the end of a group
 # Operations of those that wait for the end or the answer of others, and have nothing themselves that others want.
 FOR_OTHERS = re.compile(r"join|WaitGroup|CountDownLatch|HttpClient|http|sync$|invokeAll|awaitTermination", re.I)
@@ -225,8 +225,14 @@ class Screen:
         for doubts in (whole, short):
             if self.has_room([*lines, *who, *behind], doubts):
                 return [*lines, *who, *behind, *doubts]
-        who = who[:-1 if who[-1].endswith(FOR_WHICH) else None]
-        return [*lines, *who, *behind, *self.unless(members, is_cut=True)]
+        note, cut_doubts = self.brief_note(who[-1]), self.unless(members, is_cut=True)
+        who = who[:-1 if who[-1].endswith((FOR_WHICH, SOME_BEHIND)) else None]
+        who += note if self.has_room([*lines, *who, *note, *behind], cut_doubts) else []
+        return [*lines, *who, *behind, *cut_doubts]
+
+    def brief_note(self, note: str) -> List[str]:
+        """Returns the least that is to be said of who frees whom, where a note takes too much room."""
+        return [f"  S{SOME_BEHIND}"] if note.endswith(SOME_BEHIND) else []
 
     def likely_behind(self, number: int) -> List[str]:
         """Returns the line of those who are only likely to be stuck behind a group that is certain."""
@@ -297,13 +303,15 @@ class Screen:
                  for name, (columns, alike) in zip(names, shown_groups)]
         lines += [f"  and {sum(map(len, left)):,} more"] if left else []
         are_all = all(whom == "" for _, whom, _ in groups)
-        who = f"{'Each' if are_all else 'The others'} can be freed only by another one of them"
-        return lines + ([f"  {who}{FOR_WHICH}"] if is_of_any else [])
+        who = f"  {'Each' if are_all else 'The others'} can be freed only by another one of them"
+        if self.this.roots.maybe_behind(self.this.roots.root_of[members[0]]):
+            return [*lines, f"{who}; s{SOME_BEHIND}" if is_of_any else f"  S{SOME_BEHIND}"]
+        return lines + ([who + FOR_WHICH] if is_of_any else [])
 
     def is_of_any(self, waiting: List[int]) -> bool:
         """Whether the state doesn't show who has what some wait for."""
         hows = {wakers.how for index in waiting for part in self.waits.processes[index].parts for wakers in part}
-        return bool(waiting) and not hows.isdisjoint(NOT_SHOWN)
+        return bool(waiting) and not hows.isdisjoint(MAY_HAVE)
 
     def names_of(self, names: List[str]) -> str:
         """Returns some names that share a line, or the first of them."""
