@@ -11,12 +11,13 @@ import itertools
 import math
 import re
 from dataclasses import replace
-from typing import Dict, List, Optional, Sequence
+from typing import AbstractSet, Dict, List, Optional, Sequence
 
 from .connections import join_connections, merge_connections, on_machine, rename_connections, servers_first, serves
 from .files import Refusal, shown
 from .insides import insides
 from .model import ANYBODY, Anybody, Part, Sign, Strength, Wakers, Who, once
+from .nearness import PROCESS
 from .sketch import (ALL, ANY, DONE, ENDED, INNER, RUNS, SYSTEM, UNKNOWN, UNREADABLE, WAITING, Process, Sketch, premise,
                      quote, reason_of)
 from .snapshots import COME_BACK, UNCOUNTED, doubt_waits
@@ -71,8 +72,8 @@ def join_two(first: Sketch, second: Sketch) -> Sketch:
     others = {process.name: process for process in second.processes}
     mine = {process.name for process in first.processes}
     known = serves(first)
-    processes = [join_process(it, others[it.name]) if it.name in others and it.name not in known else it
-                 for it in first.processes]
+    processes = [join_process(it, others[it.name], mine, others.keys()) if it.name in others and it.name not in known
+                 else it for it in first.processes]
     processes += [it for it in second.processes if it.name not in mine]
     idle, readers = {*first.idle, *second.idle}, {*first.readers, *second.readers}
     inner = {*first.inner, *second.inner}
@@ -176,9 +177,9 @@ def check_facts(first: Sketch, second: Sketch) -> None:
             raise Refusal(f"two lines of facts are called {quote(row['at'])}: give the two files different names")
 
 
-def join_process(one: Process, other: Process) -> Process:
-    """Returns a process by what both know of it: who waits by one system, and goes on by the other, isn't
-    understood."""
+def join_process(one: Process, other: Process, mine: AbstractSet[str], others: AbstractSet[str]) -> Process:
+    """Returns a process by what both know of it, each of which has those of some names: who waits by one system, and
+    goes on by the other, isn't understood."""
     odd = next((it for it in (one, other) if it.is_garbled), None)
     known, less = (one, other) if one.kind != UNKNOWN else (other, one)
     if one.sign is Sign.SLEEPS and other.sign in COME_BACK:  # (only the other one counts that it has come back)
@@ -192,10 +193,10 @@ def join_process(one: Process, other: Process) -> Process:
         made.is_garbled = True
     elif less.kind == UNKNOWN:
         join_unknown(made, known, less)
-    elif one.kind == other.kind == ANY and is_within(one, other):
+    elif one.kind == other.kind == ANY and is_within(one, other, others):
         made.parts = [(*one.parts[0], *against_in(other))]
         made.because = list(dict.fromkeys([*one.because, *other.because]))
-    elif one.kind == other.kind == ANY and is_within(other, one):
+    elif one.kind == other.kind == ANY and is_within(other, one, mine):
         made.parts = [(*other.parts[0], *against_in(one))]
         made.because = list(dict.fromkeys([*one.because, *other.because]))
     elif one.kind == other.kind and {*one.whom} == {*other.whom}:
@@ -226,11 +227,15 @@ def join_unknown(made: Process, known: Process, less: Process) -> None:
     elif known.sign in WAITING:
         against = against_in(less)
         made.parts = [(*part, *against) for part in known.parts] if against else known.parts
+        if less.sign is Sign.RESTS:  # (the other one, as the kernel, only sees that it waits)
+            made.sign, made.reason = Sign.RESTS, less.reason
 
 
-def is_within(less: Process, more: Process) -> bool:
-    """Whether one system names some of those alone who may end a wait by the other."""
-    return {*less.whom} < {*more.whom}
+def is_within(less: Process, more: Process, there: AbstractSet[str]) -> bool:
+    """Whether one system names some of those alone who may end a wait by the other. Where anybody of its process may,
+    these may be its tasks too, which the other system doesn't have."""
+    is_of_any = {some.how for part in more.parts for some in part if some.strength is Strength.ABLE} == {PROCESS}
+    return {name for name in less.whom if name in there or not is_of_any} < {*more.whom}
 
 
 def against_in(process: Process) -> Part:
