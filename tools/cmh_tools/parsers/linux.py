@@ -6,6 +6,7 @@ voluntary context switches is the same.
 """
 from __future__ import annotations
 
+import os
 import re
 from typing import Any, Dict, Iterable, List, Optional, Set, Tuple, Union
 
@@ -21,8 +22,7 @@ from .linux_children import (FOR_SIGNAL, FORKS, IPC, SHELL, SIGCHLD, SIGINT, is_
                              wait_to_connect)
 from .linux_connections import connections_of
 from .linux_files import self_connections, wait_at, wait_at_set
-from .linux_frames import (OWN_THREADS, has_names, is_known, nameless_programs, own_frames, sleeps_in_own_loop,
-                           system_of)
+from .linux_frames import OWN_THREADS, has_names, is_known, nameless_programs, own_frames, sleeps_in_own_loop
 from .linux_limits import far_limit, is_far, limit_of, words_of
 from .linux_locks import SETLKW, locks_besides, wait_for_lock
 from .linux_notes import frames_of, whole_note
@@ -85,14 +85,10 @@ def begun_by(machine: Machine, asked: Set[int]) -> Dict[str, str]:
 
 def handlers_of(owner: Owner) -> List[int]:
     """Returns the signals for which a process has a handler of its own, and not of its runtime's."""
-    if system_name(owner) in OWN_THREADS:
+    if owner.system in OWN_THREADS:
         return []
-    own = (*OF_ITSELF, SIGINT) if system_name(owner) == "python" or is_shell(owner) else OF_ITSELF
+    own = (*OF_ITSELF, SIGINT) if owner.system == "python" or is_shell(owner) else OF_ITSELF
     return owner.handled_besides(own)
-
-
-def system_name(owner: Owner) -> str:
-    return system_of(owner.threads[0]) if owner.threads else ""
 
 
 def unseen_signals(owner: Owner) -> Dict[str, str]:
@@ -183,7 +179,7 @@ class LinuxParser(Parser):
         for snapshot in snapshots:
             sketch.warnings += [line for line in snapshot.machine.warnings if line not in sketch.warnings]
         sketch.warnings += filter(None, (self_connections(owner, snapshots[0].machine)
-                                         for owner in snapshots[0].machine.owners if system_name(owner) in OWN_THREADS))
+                                         for owner in snapshots[0].machine.owners if owner.system in OWN_THREADS))
         sketch.warnings += nameless_programs(
             thread for owner in snapshots[0].machine.owners for thread in owner.threads if owner.living[1:])
 
@@ -313,12 +309,12 @@ def is_owned(wait: Wait) -> bool:
 
 
 def is_of_runtime(thread: Thread) -> bool:
-    return system_of(thread) in OWN_THREADS
+    return thread.owner.system in OWN_THREADS
 
 
 def is_helper(machine: Machine, owner: Owner) -> bool:
     """Whether a process is a program of a runtime that one above it runs in, as erl_child_setup."""
-    return any(system_name(above) in WITH_HELPERS and folder_of(above) == folder_of(owner)
+    return any(above.system in WITH_HELPERS and folder_of(above) == folder_of(owner)
                for above in machine.above(owner))
 
 
@@ -335,7 +331,7 @@ def time_of(row: Row) -> Optional[Tuple[float, float]]:
 def polls(thread: Thread, is_awake: bool) -> str:
     """Returns why a thread that doesn't wait for ever may be of no use to others, or nothing: runtimes have threads of
     their own that look after something now and then, and a rank of MPI waits awake."""
-    system = system_of(thread)
+    system = thread.owner.system
     if system == "mpi" and is_awake:
         return f"it computes, or waits awake{hint(thread)}"
     if system in OWN_THREADS and not is_awake and thread.arguments and has_limit(thread):
@@ -409,7 +405,7 @@ def wait_at_call(machine: Machine, thread: Thread) -> Wait:
     if call == "rt_sigtimedwait" and "mask" in thread.row:
         return wait_for_signals(machine, thread, int(thread.row["mask"], 16))
     if call in OPENS:
-        return not_shown("who may open the other end isn't known", shown(str(thread.row.get("path", ""))), "by-name")
+        return wait_to_open(machine, thread)
     if call in WAYS:
         return WAYS[call](machine, thread)
     if call == "restart_syscall":
@@ -418,7 +414,26 @@ def wait_at_call(machine: Machine, thread: Thread) -> Wait:
     return not_understood(f"what ends it isn't known{place_of(thread)}")
 
 
-OPENS = ("open", "openat", "openat2")
+def wait_to_open(machine: Machine, thread: Thread) -> Wait:
+    """Returns the wait for whoever opens the other end of a FIFO. Where a writer waits so, and one of another process
+    too, each is likely to wait for the other: nobody idles to write. Readers alone may."""
+    wait = not_shown("who may open the other end isn't known", shown(str(thread.row.get("path", ""))), "by-name")
+    others = [other for owner in machine.owners if owner is not thread.owner for other in owner.living
+              if is_opening(other) and (opens_to_write(thread) or opens_to_write(other))]
+    if others:
+        wait.parts = [(wakers("guess", [other.name for other in others]), *part) for part in wait.parts]
+    return wait
+
+
+def is_opening(thread: Thread) -> bool:
+    return thread.call in OPENS and thread.row.get("wchan") == AT_FIFO
+
+
+def opens_to_write(thread: Thread) -> bool:
+    return thread.call in OPENS[:2] and bool(thread.arguments[OPENS.index(thread.call) + 1] & os.O_ACCMODE)
+
+
+OPENS, AT_FIFO = ("open", "openat", "openat2"), "wait_for_partner"
 WAYS = {**dict.fromkeys((*SETS, *EPOLLS, *MOVES), wait_at_set), **dict.fromkeys(("wait4", "waitid"), wait_for_children),
         "futex": wait_at_futex, "flock": wait_for_lock, **dict.fromkeys(IPC, wait_at_ipc), "connect": wait_to_connect,
         **dict.fromkeys(SUSPENDS, wait_for_any_signal), **dict.fromkeys(FORKS, wait_for_fork)}

@@ -6,7 +6,7 @@ from __future__ import annotations
 from typing import Dict, Iterator, List, Set, Tuple
 
 from .linux_files import AT_LISTENER
-from .linux_frames import OWN_THREADS, system_of
+from .linux_frames import OWN_THREADS
 from .linux_text import Machine, Owner, Row, Thread
 from .linux_waits import EPOLLS, READ, SETS, int32
 
@@ -40,8 +40,7 @@ def connections_of(machine: Machine, space: str, asked: Set[int]) -> Connections
 def add_ends(owner: Owner, machine: Machine, space: str, rows: Connections) -> Tuple[List[str], Dict[str, List[str]]]:
     """Adds the connections of a process to servers. Of a program of Go's it returns the ports at which it listens, and
     its threads with the other ends of its connections: the threads that have one, or else its key."""
-    system = system_of(owner.threads[0]) if owner.threads else ""
-    is_go = system == "go"
+    is_go = owner.system == "go"
     ports: List[str] = []
     inside: Dict[str, List[str]] = {"has": [*owner.names], "ends": [], "peers": []}
     standard = [owner.files.get(fd, [""])[0] for fd in "012"] if is_go else []  # (by which it is begun, as by systemd)
@@ -60,7 +59,7 @@ def add_ends(owner: Owner, machine: Machine, space: str, rows: Connections) -> T
             made = rows.setdefault(key, {"has": [], "awaits": [], "sockets": [target]})
             made["has"] += [name for name in owner.names if name not in made["has"]]
             made["awaits"] += [name for name, own in awaited(owner, machine) if own == target] if not is_go else []
-            if system in OWN_THREADS:
+            if owner.system in OWN_THREADS:
                 made["runtime"] = made["has"]
         inside["ends"] += [key] if is_go else []
     inside["peers"] = list(dict.fromkeys(inside["peers"]))

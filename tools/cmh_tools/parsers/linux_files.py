@@ -14,6 +14,7 @@ from .linux_text import EPOLL, MASTER, READS, SIGMASK, TERMINAL, WRITES, Machine
 from .linux_waits import COMES, EPOLLS, FILES, MOVES, SETS, UNTIMED, Ease, Wait, against, int32, names_of_epoll, \
     not_shown, not_understood, users_of, with_end, with_sleeper
 
+INOTIFY = "anon_inode:inotify"
 TERMINALS = ("/dev/tty", TERMINAL, MASTER, "/dev/console")
 UNARMED, AT_LISTENER = "it_value: (0, 0)", "LISTEN"
 LOOPS = re.compile(r".*/lib(event|ev|uv|glib-2)\b[^/]*")  # libraries with a loop for events
@@ -49,6 +50,9 @@ def wait_at_file(machine: Machine, thread: Thread, words: List[str], events: int
         return wait_at_anonymous(machine, thread, words)
     if target.startswith(TERMINALS):
         return wait_at_terminal(machine, thread, target, events)
+    if target == INOTIFY:
+        return Wait(any_of(unseen("outside")), INOTIFY, sign=Sign.RESTS, why="waits for changes of files",
+                    ease=Ease.CALM)
     return not_understood(f"what ends a wait at {target} isn't known", target)
 
 

@@ -15,7 +15,7 @@ from .linux_text import Frame, Thread
 
 OF_THE_SYSTEM = re.compile(r".*/(libc|libpthread|libstdc\+\+|libm|libgcc_s|librt|libdl|ld-linux-x86-64)[.-][^/]*")
 KEPT = 65536  # names that are kept as people read them
-OF_CPLUSPLUS, OF_JAVA = "/libstdc++.", "/libjvm.so"
+OF_CPLUSPLUS = "/libstdc++."
 OF_LIBRARY = re.compile(r"(_|std::|<?(std|core|alloc|boost)::|\?\?|0x|pthread_|__gnu|clone3?$|start_thread$|futex_|lll_"
                         r"|execute_native_thread_routine)")
 LIBRARIES = ("./", "../", "/usr/include/")  # where sources of glibc and of the library of C++ are said to be
@@ -39,28 +39,24 @@ LOOPS = re.compile(r"(\w+::)*(run\w*|work|serve|consume|\w*(loop|thread|worker|m
                    r"|((worker|thread|main|event|run|work|job|queue)_?)+(loop|main|func|fn|proc|entry|body)?)", re.I)
 PLACE = re.compile(r".*\+0x[0-9a-f]+")  # a frame without a name
 NAMELESS = re.compile(r".*\blambda(#\d+)?")
-PARSERS = {"python": "python", "java": "jvm", "beam": "erlang", "go": "go", "mpi": "mpi"}
 OWN_THREADS = ("erlang", "go", "jvm", "mpi")  # whose runtimes have threads that are none of the job's
-
-
-def system_of(thread: Thread) -> str:
-    """Returns the parser that knows more of a process, or nothing."""
-    name = str(thread.owner.row.get("exe", "")).rpartition("/")[2]
-    runtime = str(thread.owner.row.get("runtime", "")) or next((key for key in PARSERS if name.startswith(key)), "")
-    is_java = any(module.endswith(OF_JAVA) for module, _ in thread.owner.row.get("modules", ()))  # (as jcmd has it)
-    return "jvm" if is_java and not runtime else PARSERS.get(runtime, "")
 
 
 def own_frames(thread: Thread) -> List[str]:
     """Returns the frames of the job's own: as a debugger shows them, or else as they were unwound from memory. Those of
     an interpreter are none of the job's."""
-    frames = [text for text in map(own_frame, thread.stack) if text]
-    return frames or ([] if system_of(thread) else [text_of(it) for it in own_steps(thread)])
+    return own_in(tuple(thread.stack)) or ([] if thread.owner.system else list(map(text_of, own_steps(thread))))
+
+
+@lru_cache(maxsize=KEPT)
+def own_in(stack: Tuple[Tuple[str, str], ...]) -> List[str]:
+    """Returns those that a debugger shows. Many threads stand at one place, so nobody changes this list."""
+    return [text for text in map(own_frame, stack) if text]
 
 
 @lru_cache(maxsize=KEPT)
 def own_frame(step: Tuple[str, str]) -> str:
-    """Returns a frame as a debugger shows it, if it is none of a library. Many threads stand at one place."""
+    """Returns a frame as a debugger shows it, if it is none of a library."""
     function, where = step
     file, _, line = where.rpartition(":")
     if OF_LIBRARY.match(function) or file.startswith(LIBRARIES):
@@ -147,7 +143,7 @@ def word_of(thread: Thread) -> str:
 
 def nameless_programs(threads: Iterable[Thread]) -> Iterator[str]:
     """Yields of each program of which a stack has functions without names how these are found."""
-    steps = (step for thread in threads if not system_of(thread) for step in own_steps(thread) if not step.function)
+    steps = (step for thread in threads if not thread.owner.system for step in own_steps(thread) if not step.function)
     for step in {step.module: step for step in steps if step.build_id}.values():
         yield (f"{step.module} has no names of its functions: its build-id is {step.build_id}, and with its debug "
                f"information `addr2line -fe FILE {step.place:#x}` says what {text_of(step)} is")
@@ -160,7 +156,7 @@ def is_known(thread: Thread) -> bool:
 
 def program_frames(thread: Thread) -> List[str]:
     """Returns the frames of the job's own but for those of libraries that other programs have too."""
-    if thread.stack or system_of(thread):
+    if thread.stack or thread.owner.system:
         return own_frames(thread)
     frames = [text_of(step) for step in own_steps(thread) if not COMMON.fullmatch(step.module)]
     is_begun = frames[1:] and NAMELESS.fullmatch(frames[-1]) and LOOPS.fullmatch(frames[-2])

@@ -11,7 +11,7 @@ from typing import Dict, Iterable, List, Optional, Tuple
 
 from ..model import Sign, any_of, unseen, wakers
 from .linux_children import SIGCHLD
-from .linux_frames import KEPT, is_known, library_names, system_of, takes_next
+from .linux_frames import KEPT, is_known, library_names, takes_next
 from .linux_text import ENDED, Machine, Owner, Row, Thread
 from .linux_waits import FILES, Wait, against, int32
 
@@ -56,13 +56,12 @@ def stacks_of(text: str) -> Dict[int, List[Tuple[str, str]]]:
     stacks: Dict[int, List[Tuple[str, str]]] = {}
     frames: Optional[List[Tuple[str, str]]] = None
     for line in text.split("\n"):
-        head = TID.match(line) if line.startswith("T") else None
-        source = SOURCE.match(line) if line.startswith(" ") else None
-        if head:
+        mark = line[:1]
+        if mark == "T" and (head := TID.match(line)):
             frames = stacks.setdefault(int(head[1] or head[2]), [])
-        elif frames is not None and line.startswith("#"):
-            frames += filter(None, [step_in(line)])
-        elif source and frames:
+        elif mark == "#" and frames is not None and (step := step_in(line)):
+            frames.append(step)
+        elif mark == " " and frames and (source := SOURCE.match(line)):
             frames[-1] = frames[-1][0], f"{source[1]}:{source[2]}"
     return stacks
 
@@ -108,7 +107,7 @@ def wait_at_futex(machine: Machine, thread: Thread) -> Wait:
     wait = owner_of_futex(machine, thread)
     if wait.sign is Sign.UNKNOWN and int32(thread.arguments[1]) & OPERATION in (*WAITS, *LOCKS):
         set_wakers(machine, thread, wait)
-        is_calm = not wait.operation and not system_of(thread) and takes_next(thread)
+        is_calm = not wait.operation and not thread.owner.system and takes_next(thread)
         wait.sign = Sign.RESTS if is_calm else Sign.BLOCKED
         wait.why = "waits for work" if is_calm else wait.why
     return wait
@@ -189,6 +188,6 @@ def owned(wait: Wait, owners: List[Thread], how: str) -> Wait:
 
 def hint(thread: Thread) -> str:
     """Returns which parser knows more of a process, as words for a reason."""
-    system = system_of(thread)
+    system = thread.owner.system
     ways = ", by cmh_state or cmh_python_reader.py" if system == "python" else ""
     return f"; `cmh-dump {system}` sees inside of it{ways}" if system else ""

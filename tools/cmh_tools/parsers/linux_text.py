@@ -21,7 +21,12 @@ SIGMASK = "sigmask:"  # which signals a descriptor of them takes
 NO_KEYS = ("lock:", CARRIES, RING, SIGMASK)  # what of a descriptor doesn't tell its file from others
 MASTER, TERMINAL = "/dev/ptmx", "/dev/pts/"  # the end of a terminal that a program has, and how others' names begin
 EPOLL = "anon_inode:[eventpoll]"
+PARSERS = {"python": "python", "java": "jvm", "beam": "erlang", "go": "go", "mpi": "mpi"}  # by how programs are called
+OF_JAVA = "/libjvm.so"
 OPEN = "open "  # how the name of an open file begins, which several descriptors may share
+# How many arguments those calls have that often come back to one place; the other registers have what was left in them.
+ARGUMENTS = {"nanosleep": 2, "poll": 3, "clock_nanosleep": 4, "epoll_wait": 4, "select": 5, "ppoll": 5}
+MOST_ARGUMENTS = 6
 ENDED = "ZX"  # the states of those that have ended
 NUMBER, NUMBERED = re.compile(r"\d+"), re.compile(r"(.* )?\d+")  # within the name of a thread, and at its end
 NUMBERS = re.compile(r"[0-9]{1,9}(\s+[0-9]{1,9})*")
@@ -31,7 +36,7 @@ OLD = {f"{key}?": object for key in ("awaits", "handlers", "traps", "builtin", "
 # The calls of those that are in none, and so have no arguments: one that computes, and one that is held meanwhile.
 RUNNING, NO_CALL = "running", "-1"
 STATE = re.compile("[A-Za-z]")
-FILE = re.compile(r"(?!pipe:|socket:).*|(pipe|socket):\[\d{1,20}\]", re.S)
+FILE = re.compile(r"(?!pipe:|socket:).+|(pipe|socket):\[\d{1,20}\]", re.S)
 # What more is known of a descriptor: of some kinds a number.
 MORE = re.compile(r"(?!Pid:|sigmask:).*|Pid:\s*-?\d{1,10}|sigmask:\s*[0-9a-f]{1,16}", re.S)
 PID = range(1 << 22)  # what the kernel numbers processes and threads with
@@ -88,6 +93,14 @@ class Owner:
     def names(self) -> List[str]:
         """What its living threads are called, once that is known."""
         return [thread.name for thread in self.living]
+
+    @cached_property
+    def system(self) -> str:
+        """The parser that knows more of it, or nothing, also if it has no threads."""
+        name = str(self.row.get("exe", "")).rpartition("/")[2]
+        runtime = str(self.row.get("runtime", "")) or next((key for key in PARSERS if name.startswith(key)), "")
+        is_java = any(module.endswith(OF_JAVA) for module, _ in self.row.get("modules", ()))  # (as jcmd has it)
+        return ("jvm" if is_java and not runtime else PARSERS.get(runtime, "")) if self.threads else ""
 
     @cached_property
     def mark(self) -> str:
@@ -314,11 +327,16 @@ def keep_calls(machines: List[Machine]) -> None:
     for owner in (owner for machine in machines[1:] for owner in machine.owners):
         for thread in owner.threads:
             first = known.get((owner.pid, owner.row.get("start"), thread.tid), thread)
-            calls = [(row.get("call"), row.get("args")) for row in (first.row, thread.row)]
-            if first is not thread and thread.counts and calls[0] == calls[1]:
+            if first is not thread and thread.counts and call_of(first) == call_of(thread):
                 thread.frames, thread.is_whole = first.frames, first.is_whole
                 thread.is_again = first.is_again or thread.counts != first.counts
                 thread.within = "" if thread.is_again else first.within
+
+
+def call_of(thread: Thread) -> Tuple[object, List[str]]:
+    """Returns the call that a thread is in, with its arguments: what the other registers have is of no call."""
+    call = thread.row.get("call")
+    return call, (thread.row.get("args") or [])[:ARGUMENTS.get(str(call), MOST_ARGUMENTS)]
 
 
 def may_carry(words: List[str]) -> bool:
