@@ -9,10 +9,11 @@ operation says for whom it only waits again and again.
 """
 from __future__ import annotations
 
+import re
 from typing import Dict, Iterable, List, Optional, Set
 
 from ..model import Sign, wakers
-from ..sketch import WAITING, WORK, Process, Sketch, frame, garbled, premise
+from ..sketch import WAITING, WORK, Process, Sketch, frame, garbled, premise, quote
 from ..snapshots import APART, ONCE, WHOLE, WOKEN, Reading
 from . import State
 from .base import Break, Parser
@@ -26,6 +27,19 @@ from .jvm_states import check_dumps, is_coarse, missing_of, names_of
 from .jvm_text import Dump, Thread, stack_of
 from .jvm_waits import MAIN, NATIVE, TIMED, Everybody, Threads, has_stood, is_locking, meetings_of, wait_of
 from .jvm_whole import add_inner, count_owned, kernel_thread, owner_of
+
+# A line of take-jvm that isn't known: `code` is of older ones, and nobody reads it any more.
+ODD_MARK = re.compile(r"^# cmh(?! (?:began|ended|heap|virtual|limits|code) ).{0,9}", re.M)
+
+
+def lost_of(dump: Dump, has_heap: bool, odd: str) -> str:
+    """Returns what the lines of take-jvm around a dump lack, or nothing. `odd` is one that isn't understood."""
+    if odd:
+        return f"{dump.path}: a line begins with {quote(odd)}, which isn't understood"
+    if has_heap and not dump.time:
+        return (f"{dump.path}: a heap stands beside a dump whose lines '# cmh began ..' and '# cmh ended ..' aren't "
+                "whole")
+    return ""
 
 
 class JvmParser(Parser):
@@ -45,9 +59,9 @@ class JvmParser(Parser):
     def read(self, state: State) -> List[Reading]:
         dumps = read_dumps(state.path, state.text)
         heap = read_heap(state.path, state.text)
-        for dump in dumps if heap else ():
-            dump.lost = dump.lost or ("" if dump.time else f"{dump.path}: a heap stands beside a dump whose lines "
-                                      "'# cmh began ..' and '# cmh ended ..' aren't whole")
+        odd = next(iter(ODD_MARK.findall(state.text)), "")
+        for dump in dumps:
+            dump.lost = dump.lost or lost_of(dump, heap is not None, odd)
         self.heap = heap or self.heap
         self.dumps += dumps
         return [Reading(dump.path, self.NAME, [dump], missing_of(dump), WHOLE, machine=dump.machine, time=dump.time)

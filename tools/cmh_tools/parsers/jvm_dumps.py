@@ -20,7 +20,7 @@ LIMITS = re.compile(r"java\.(lang\.(Virtual)?Thread\.(sleep\w*|parkNanos)|util\.
                     r"(Nanos|Until))")
 INNER = 8  # frames among which these are
 VIRTUAL = "\n# cmh virtual "  # before the JSON that take-jvm has of virtual threads, behind what jstack prints
-FAR = re.compile(r"^# cmh limits (\{.*\})$", re.M)  # limits of waits that end in more than an hour, in seconds
+FAR = re.compile(r"\n# cmh limits (\{.*\})$", re.M)  # limits of waits that end in more than an hour, in seconds
 UNMARKED = re.compile(r" {6}(?=[^\s-]\S*\()(?!at )")  # before a frame of JDK 21, which has no 'at'
 
 

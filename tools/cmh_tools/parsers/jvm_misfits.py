@@ -83,9 +83,11 @@ def misfit_of_park(stack: Stack, parked_class: str) -> str:
         own = PRIVATE.fullmatch(method)
         if own and not (caller.startswith(f"{own[1]}.") and CALLS_PRIVATE.fullmatch(caller)):
             return f"its own class alone calls {method}, and not {caller}"
-    awaits = any(map(AWAITS.fullmatch, methods))
-    if parked_class.endswith(f"Synchronizer${CONDITION}") and not awaits:
+    awaits, is_condition = any(map(AWAITS.fullmatch, methods)), parked_class.endswith(f"Synchronizer${CONDITION}")
+    if is_condition and not awaits:
         return "it is parked at a condition, and no frame awaits one"
+    if QUEUES.fullmatch(parked_class) and not is_condition:
+        return f"nobody parks at a {parked_class}"
     lock = OF_LOCKS.fullmatch(parked_class)
     is_in_class = lock is not None and any(name.startswith((f"{lock[1]}.", f"{lock[1]}$")) for name in methods)
     if lock and not (is_in_queue and (awaits or is_in_class)):

@@ -3,6 +3,7 @@ from __future__ import annotations
 
 import json
 import re
+from itertools import accumulate
 from typing import Any, Dict, List, Optional, Tuple
 
 from ..files import Refusal, shown
@@ -10,15 +11,17 @@ from .base import once_each
 from .jvm_text import Thread
 
 BUILT = re.compile(r"\$\$Lambda.*(?=\.)|[+/]0x[0-9a-f]+(?=\.)")  # what jstack and a heap dump write differently
-LABEL = [int, re.compile(r"0x[0-9a-f]{1,16}")]
+IDENTITY = re.compile(r"0x[0-9a-f]{1,16}")
+LABEL = [int, IDENTITY]
 Label = Tuple[int, int]
 NOBODY: Label = 0, 0
 
 
 def trees_in(path: str, text: str, mark: str, what: str) -> List[Tuple[str, Dict[str, Any]]]:
     """Returns the rows of a text that begin with a mark, each with where it stands."""
-    lines = enumerate(text.split("\n"), 1) if mark in text else ()
-    rows = [(f"{shown(path)}:{number}", line[len(mark):]) for number, line in lines if line.startswith(mark)]
+    pieces = f"\n{text}".split(f"\n{mark}") if mark in text else [""]
+    numbers = accumulate(piece.count("\n") + 1 for piece in pieces)
+    rows = [(f"{shown(path)}:{number}", piece.partition("\n")[0]) for number, piece in zip(numbers, pieces[1:])]
     return [(place, tree_of(place, line, what)) for place, line in rows]
 
 
@@ -36,7 +39,7 @@ def key_of(label: List[Any]) -> Label:
 
 def label_of(thread: Thread) -> Optional[Label]:
     """Returns by what a row knows a thread, or None if the text doesn't say it."""
-    is_known = thread.number and re.fullmatch(r"0x[0-9a-f]{1,16}", thread.identity)
+    is_known = thread.number and IDENTITY.fullmatch(thread.identity)
     return (int(thread.number or 0), int(thread.identity, 16)) if is_known else None
 
 

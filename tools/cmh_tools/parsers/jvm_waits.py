@@ -29,6 +29,7 @@ RESTS_ON: Dict[str, List[str]] = {QUEUED: [POOLS], SUPPLIED: [POOLS, COMPLETES],
                                   FUTURES: [COMPLETES]}
 OF_THE_JDK = "java.util.concurrent.locks."
 END, MAIN = "waits for the end of the JVM", "main"
+CLOSES = re.compile(r"io\.netty\.channel\.\w+\$CloseFuture")
 UNSHOWN, TO_COME = "unshown", "to-come"
 
 
@@ -257,6 +258,11 @@ def wait_without_limit(thread: Thread, place: Place, name: str, snapshot: Thread
     return wait_for_some(thread, place, name, snapshot)
 
 
+def awaits_close(thread: Thread) -> bool:
+    """Whether a thread waits until a channel of Netty is closed, as main does that has begun a server."""
+    return any(map(CLOSES.fullmatch, thread.monitors))
+
+
 def parked_at(thread: Thread) -> str:
     """Returns the object at which a thread is parked, or nothing."""
     return next((thing for frame in thread.frames[:1] for kind, thing in frame.marks if kind == PARKED), "")
@@ -276,8 +282,8 @@ def wait_for_some(thread: Thread, place: Place, name: str, snapshot: Threads) ->
     is_receiver = is_receive(place) and is_own_loop(stack_of(thread))
     is_meant = reached is not None and reached.is_alone and not awaits_task(thread) and not NEVER_MEANT.fullmatch(
         place.call)
-    is_at_end = thread.name == MAIN and (is_meant or reached is None and is_for_the_end(place) and is_own_loop(
-        stack_of(thread)))
+    is_at_end = thread.name == MAIN and (is_meant or awaits_close(thread) or reached is None and is_for_the_end(
+        place) and is_own_loop(stack_of(thread)))
     if is_meant or is_at_end or reached is None and is_receiver:
         part = (*part, unseen("outside"))
     if not has_jobs(stack_of(thread)):
