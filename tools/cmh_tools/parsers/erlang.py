@@ -24,7 +24,7 @@ from .erlang_locks import locks_of, wait_of_lock
 from .erlang_mnesia import rows_of, wait_of_transaction
 from .erlang_names import name_all
 from .erlang_nodes import Lists, More, Nodes, limited, not_shown
-from .erlang_receives import PORT, count_of, wait_for_stop, wait_of_receive
+from .erlang_receives import PORT, count_of, wait_for_output, wait_for_stop, wait_of_receive
 from .erlang_remote import wait_for_remote
 from .erlang_tasks import wait_of_task
 from .erlang_readings import NodeReading, readings_of
@@ -245,6 +245,8 @@ def wait_of_function(block: Block, snapshot: Nodes, more: More) -> Process:
         return limited(block, snapshot, "it waits with a limit", {**more, "operation": "timed gen_server:call"})
     if top == "proc_lib:stop":
         return wait_for_stop(block, snapshot, more)
+    if top == "io:execute_request":
+        return wait_for_output(block, snapshot, more)
     if top.startswith("proc_lib:sync_start"):
         return wait_for_child(block, snapshot, more, *child_begun(block))
     if top in READS:

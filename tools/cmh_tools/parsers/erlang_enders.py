@@ -49,9 +49,10 @@ def by_code(snapshot: Nodes, word: str) -> DefaultDict[str, List[Block]]:
     """Those whose code has a word, by the node on which they may do so: their own, or any if it is `far`. All are kept,
     as of some that stand at one place one may go on."""
     ending: DefaultDict[str, List[Block]] = defaultdict(list)
-    far = [block for block in snapshot.rows() if {word, "far"} <= {*block.code()}]
+    able = [block for block in snapshot.rows() if word in block.code() or is_unread(block)]
+    far = [block for block in able if {word, "far"} <= {*block.code()}]
     for reading in snapshot.readings:
-        own = [block for block in reading.rows if word in block.code() or is_unread(block)]
+        own = [block for block in able if block.node == reading.source]
         ending[reading.source] = own + [block for block in far if block.node != reading.source]
     return ending
 

@@ -87,7 +87,7 @@ class Nodes(Snapshot):
 
     def find(self, key: Key) -> Optional[Block]:
         """Returns a process by what another one knows it by: a pid of another node begins with the number of that."""
-        if isinstance(key, tuple):
+        if self.nodes and isinstance(key, tuple):
             number, _, rest = key[1].partition(".")
             node = self.nodes.get((key[0], number))
             key = (node, f"<0.{rest}") if node else key
@@ -111,9 +111,9 @@ class Nodes(Snapshot):
         """Those of some processes, if there are any, as wakers."""
         return (wakers(how, self.names(blocks), *because),) if blocks else ()
 
-    def any_of_lists(self, how: str, own: Iterable[Block], *shared: List[Block]) -> Part:
+    def any_of_lists(self, how: str, own: List[Block], *shared: List[Block]) -> Part:
         """The same of a few and of lists that many have."""
-        names = self.lists.names(own, shared)
+        names = self.lists.names(own, shared) if own or any(shared) else []
         if names[-1:] == [MANY]:
             self.stand_ins[MANY] = STANDS_FOR
         return (wakers(how, names),) if names else ()

@@ -124,6 +124,19 @@ def wait_for_stop(block: Block, snapshot: Nodes, more: More) -> Process:
     return blocked(name, any_of(*snapshot.some("ends", there)), [SYSTEM, premise(DOWNS)], **more)
 
 
+def wait_for_output(block: Block, snapshot: Nodes, more: More) -> Process:
+    """Returns a process that has sent text to its group leader, or asked it for some, and waits without a limit."""
+    pids = {term for term in block.registers() if PID.fullmatch(term)}
+    leaders = [leader for leader in (snapshot.find((block.node, pid)) for pid in pids) if leader is not None]
+    if len(pids) != 1 or not leaders:
+        return not_shown(block, snapshot, "the process that prints for it isn't in the state", more)
+    if block.is_answered(block.references, "{{io_reply,{0},"):
+        return goes_on(snapshot.name(block), "the answer is in its mailbox", [SYSTEM], **more)
+    more.update(objects=snapshot.names(leaders), note=f"io request in {block.frames()[0]}")
+    part = (*snapshot.some("called", leaders), unseen("unshown", "another process may print for it in the end"))
+    return blocked(snapshot.name(block), any_of(*part), [], **{**more, "reason": part[-1].because[0]})
+
+
 def stopped_by(block: Block, snapshot: Nodes) -> List[Optional[Block]]:
     """Returns the process that one stops: Elixir has its pid on the stack. Else it is one that it monitors, and none
     that is in its loop, as it has heard that it is to stop."""

@@ -5,7 +5,7 @@ import re
 from typing import List, Tuple
 
 # Of a stack, its places, and the numbers of the terms that each of them has; and the beginning of a pid or a reference.
-SLOT = re.compile(r"^(?:y\((\d{1,6})\) |Program counter: |0x)", re.M)
+SLOT = re.compile(r"\n(?:y\((\d{1,6})\) |Program counter: |0x)")  # (to seek '^' takes twice as long)
 QUOTED = re.compile(r'"(?:[^"\\\n]|\\.)*"|\'(?:[^\'\\\n]|\\.)*\'')
 CUT_OFF = re.compile(r"<[\d.]*$", re.M)
 # The frame that has the lock which a process wants, that of Mnesia with the number of a transaction which is begun
@@ -35,10 +35,10 @@ def is_paired(text: str) -> bool:
 def lost_of_stack(text: str) -> str:
     """Returns what shows that a stack isn't whole, or nothing: each place has its terms from y(0) up."""
     following = 0
-    for slot in SLOT.finditer(text):
-        if slot[1] and int(slot[1]) != following:
-            return f"its stack has y({slot[1]}) where y({following}) is expected"
-        following = following + 1 if slot[1] else 0
+    for number in SLOT.findall(f"\n{text}"):
+        if number and int(number) != following:
+            return f"its stack has y({number}) where y({following}) is expected"
+        following = following + 1 if number else 0
     return "a term of its stack is cut off" if CUT_OFF.search(text) else ""
 
 
