@@ -38,7 +38,8 @@ RECEIVES = re.compile(r"\w*Queue\.get|(\w*Connection|\w*[Ss]ocket|SSL\w*|StreamR
                       r"|connection\.wait")
 QUEUE = "Queue.get"
 ACCEPTS = re.compile(r"(.*[.:])?_?(accept\w*|serve_forever)")
-FOR_THE_END = "Event.wait"  # where a program's main function waits until a signal ends it
+FOR_THE_END = "Event.wait"  # where the function of a thread waits until it is told to begin, or to end
+OF_LIBRARIES = ("Condition.wait", "Event.wait")  # where a package's own thread waits for what comes next
 MODULE = ".<module>"
 
 
@@ -267,6 +268,8 @@ def process_at(subject: Subject, frames: List[Frame], wait: Wait, standing: Opti
     operation, objects = operation_of(standing) if standing else ("", [])
     own = own_frames(frames)
     sign = sign_of(subject, wait, operation, own, is_job(frames))
+    if sign is Sign.BLOCKED and operation in OF_LIBRARIES and all(frame.kind != "own" for frame in frames):
+        sign = Sign.RESTS  # (a thread of a package that runs nothing of the program's)
     if wait.sign is Sign.SLEEPS:
         operation, objects = f"timed {operation or 'wait'}", lasting_objects(standing) if standing else []
     called = package_call(frames) or (f"{operation} {awaited_by(standing)}".rstrip() if standing else operation)
@@ -297,7 +300,7 @@ def sign_of(subject: Subject, wait: Wait, operation: str, own: List[str], has_jo
     if wait.sign is not Sign.BLOCKED:
         return wait.sign
     awaits_next = (takes_next(subject, operation) or awaits_data(subject)) and is_in_own_loop(subject, own)
-    awaits_end = operation == FOR_THE_END and subject.is_main() and is_in_start(own)
+    awaits_end = operation == FOR_THE_END and is_in_start(own)
     return Sign.RESTS if accepts or awaits_next or awaits_end else Sign.BLOCKED
 
 

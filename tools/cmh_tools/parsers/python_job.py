@@ -29,8 +29,8 @@ class Machine(NamedTuple):
     """What the looks of one time share. `mains` has the main threads by the places of their processes, `stands` where
     these stand, and `children` those of the processes that one has begun. `takers` has by machine and lock of
     multiprocessing, and `sharers` by machine and queue, who is in a process that has it, and `missing` by machine why
-    that isn't known of all. `enders` has by the place of a process those whose code may end it, and by None those that
-    may end any."""
+    that isn't known of all. `acting` has by the place of a process all who act in it, and `above` which has begun it,
+    and `enders` those whose code may end it, and by None those that may end any."""
 
     mains: Dict[Any, str]
     stands: Dict[Any, List[Frame]]
@@ -39,6 +39,15 @@ class Machine(NamedTuple):
     sharers: Dict[Any, List[str]]
     enders: Dict[Any, List[str]]
     missing: Dict[Any, str]
+    acting: Dict[Any, List[str]]
+    above: Dict[Any, Any]
+
+    def kin_of(self, place: Any) -> List[str]:
+        """Returns those who act in a process, in the one that has begun it, and in those that either of them has begun.
+        """
+        heads = {place, self.above[place]}
+        return [name for other, names in self.acting.items() if other in heads or self.above[other] in heads
+                for name in names]
 
 
 class Job:
@@ -56,6 +65,7 @@ class Job:
                                          *(key for key, caller in look.callers.items() if caller.cancelling)])
         self.releasing = self.names_of(row.key for row in look.rows() if row.more.get("releases") is not False)
         self.acting = acting_in(look, names)
+        self.taken, self.around = (takers_in(look, word) for word in ("taken", "around"))
         self.idle_timers = self.names_of(key for key, caller in look.callers.items() if not caller.is_waking)
         self.handlers = self.names_of(key for key, coming in self.coming.items() if not coming.is_end)
         self.unshown = why_unshown(look)
@@ -142,6 +152,16 @@ def is_idle(row: Row) -> bool:
     return row.more.get("loop") is not None and "thread" in row.more and is_idle_loop(row.frames)
 
 
+def takers_in(look: Look, word: str) -> Dict[Any, List[Any]]:
+    """Returns the keys of the threads and tasks that have each object by a word of their rows: as `taken` for a block,
+    or `around` an inner block."""
+    takers: Dict[Any, List[Any]] = defaultdict(list)
+    for row in look.rows():
+        for what in dict.fromkeys(row.more.get(word, ())):
+            takers[what].append(row.key)
+    return takers
+
+
 def why_unshown(look: Look) -> str:
     """Returns why others may end a wait at an object of the runtime than the state shows, or nothing."""
     others = look.head.get("others")
@@ -173,7 +193,8 @@ def enders_of(looks: List[Look], names: Names) -> Dict[Any, List[str]]:
     enders: Dict[Any, List[str]] = defaultdict(list)
     for look in looks:
         for row in look.rows():
-            ends = row.more.get("ends", [] if CODE.isdisjoint(row.more) else {})
+            is_older = CODE.isdisjoint(row.more) and "reader" not in look.head  # (which later heads have)
+            ends = row.more.get("ends", [] if is_older else {})
             place = None if KILLS.intersection(map(str, ends)) else look.place()
             name = names.of(look, row.key)
             enders[place] += [name] if (ends or isinstance(ends, dict)) and name is not None else []
@@ -188,9 +209,13 @@ def machine_of(looks: List[Look], names: Names) -> Machine:
     takers: Dict[Any, List[str]] = defaultdict(list)
     sharers: Dict[Any, List[str]] = defaultdict(list)
     missing: Dict[Any, str] = {}
+    acting: Dict[Any, List[str]] = defaultdict(list)
+    above: Dict[Any, Any] = {}
     for look in looks:
         here = acting_in(look, names)
         host, parent = look.place()[0], look.place(look.head.get("parent"))
+        acting[look.place()] += here
+        above[look.place()] = parent
         rows = [row for row in look.threads.values() if row.more.get("main") is True]
         main = [str(names.of(look, row.key)) for row in rows]
         mains.update({look.place(): name for name in main})
@@ -202,4 +227,4 @@ def machine_of(looks: List[Look], names: Names) -> Machine:
             takers[host, what] += here
         for what in look.queues:
             sharers[host, what] += here
-    return Machine(mains, stands, children, takers, sharers, enders_of(looks, names), missing)
+    return Machine(mains, stands, children, takers, sharers, enders_of(looks, names), missing, acting, above)

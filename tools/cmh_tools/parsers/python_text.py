@@ -49,6 +49,8 @@ ROWS: Dict[str, Dict[str, Any]] = {
     "quiet": {"of": int, "quiet": object, "loops": object, "apart?": object, "steady?": object},
     "sleeper": {"of": int, "sleeper": object, "ends": object}}
 OLDER = ("wait", "quiet", "sleeper")  # kinds of rows that older states have, and that nobody reads any more
+LOCKS = ("lock", "RLock")
+METHODS = ("acquire", "acquire_lock", "release", "locked", "__enter__", "__exit__", "_acquire_restore")  # of a lock
 # Keys that not all rows have, and those that both kinds have.
 VARY, BOTH = {"at", "again", "completes", "parent"}, {key.rstrip("?") for key in PLACE}
 STANDARD = re.compile(r"/lib(?:64)?/python3(?:\.\d+)?/(?!(?:site|dist)-packages/)(.*)$|^<frozen (.*)>$")
@@ -254,7 +256,7 @@ def row_of(text: str) -> Optional[Dict[str, Any]]:
     """The object of a line, or None. One that has a key twice is none, or in which something isn't as it is described.
     """
     try:
-        row = json.loads(text, object_pairs_hook=object_of)
+        row = ROW.decode(text)
     except (ValueError, RecursionError):
         return None
     return row if isinstance(row, dict) else None
@@ -268,6 +270,9 @@ def object_of(pairs: List[Tuple[str, Any]]) -> Dict[str, Any]:
             made.get("type") == "gather" and not isinstance(made.get("all"), list)):
         raise ValueError("a value isn't as it is described")
     return made
+
+
+ROW = json.JSONDecoder(object_pairs_hook=object_of)  # (to make one for each line takes long)
 
 
 def head_of(row: Dict[str, Any], path: str, at: int) -> Look:
@@ -287,7 +292,7 @@ def close(look: Optional[Look], path: str, ended: bool = False) -> None:
     thread, isn't there may wait for anything."""
     if look is None:
         return
-    look.is_whole = look.is_whole and ended and are_alike(look) and have_loops(look)
+    look.is_whole = look.is_whole and ended and are_alike(look) and have_loops(look) and are_tasks(look)
     for row in look.tasks.values():
         loop = look.loops.get(row.more["loop"])
         if loop is None or loop["thread"] is not None and loop["thread"] not in look.threads:
@@ -300,6 +305,17 @@ def have_loops(look: Look) -> bool:
     """Whether each thread that says which loop it runs is the one that this loop says to be run by."""
     loops = {row.more["loop"]: row.key for row in look.threads.values() if row.more["loop"] is not None}
     return all(look.loops[loop]["thread"] == key for loop, key in loops.items() if loop in look.loops)
+
+
+def are_tasks(look: Look) -> bool:
+    """Whether each object with the address of a task is described as one: who doesn't see that may miss a cancel."""
+    values: List[Any] = [frame.has for row in look.rows() for frame in row.frames] if look.tasks else []
+    values += [row.more["waits"] for row in look.tasks.values()]
+    for value in values:
+        if isinstance(value, dict) and value.get("id") in look.tasks and value.get("type") != "Task":
+            return False
+        values += value if isinstance(value, list) else value.values() if isinstance(value, dict) else ()
+    return True
 
 
 def are_alike(look: Look) -> bool:
@@ -373,7 +389,15 @@ def row_of_place(key: Any, row: Dict[str, Any]) -> Row:
         fault = fault or "the limit of its wait isn't shown"
     if frames and isinstance(row.get("call"), dict):
         frames[0].call = row["call"]
+        fault = fault or ("" if is_of_lock(row["call"]) else "its call is none of a lock")
     return Row(key, row["name"], frames[:outermost], row, fault)
+
+
+def is_of_lock(call: Dict[str, Any]) -> bool:
+    """Whether a call has the name of a method of a lock, if it is one of a lock."""
+    on, words = call.get("on"), call.get("words")
+    is_method = isinstance(on, dict) and on.get("type") in LOCKS and call.get("how") == "call" and words
+    return not is_method or isinstance(words, str) and last_word(call) in METHODS
 
 
 @lru_cache(maxsize=65536)
@@ -389,6 +413,7 @@ def frame_of(row: Dict[str, Any]) -> Frame:
     return Frame(row["in"], row["file"], row["line"] or 0, row.get("has", {}), kind_of(row["file"]))
 
 
+@lru_cache(maxsize=65536)
 def kind_of(path: str) -> str:
     if STANDARD.search(path):
         return "standard"

@@ -14,6 +14,7 @@ from .python_text import Frame, is_number, last_word
 
 SHARED = re.compile(r"multiprocessing\.queues\.(?:Joinable)?Queue\.(put|get|join)$")
 FEED = "multiprocessing.queues.Queue._feed"
+MEETS = re.compile(r"multiprocessing\.synchronize\.(Condition|Event)\.wait$")  # also of a Barrier
 SEMAPHORES = re.compile(r"multiprocessing\.synchronize\.\w+\.__enter__$")
 CHILDREN = re.compile(r"subprocess\.Popen\.(wait|_wait)$")
 WAITS = re.compile(r"(os|posix)\.(wait|waitpid|wait3|wait4|waitid)$")
@@ -185,21 +186,20 @@ def by_block(standing: Standing, lock: Dict[str, Any], most: int = 1) -> Optiona
     if lock.get("locked") is False:
         return unsure("its lock is free, so it is about to go on")
     look, job = standing.look, standing.job
-    known = {key: [row.key for row in look.rows() if lock.get("id") in row.more.get(key, ())]
-             for key in ("taken", "around")}
-    keys = known["taken"] or known["around"]
+    taken = job.taken.get(lock.get("id"), [])
+    keys = taken or job.around.get(lock.get("id"), [])
     if len(keys) != most:
         return None
     names = [name for key in keys for name in (job.owners(key) if key in look.threads else job.names_of([key]))]
     wait = blocked(any_of(wakers("owns", list(dict.fromkeys(names)), premise(BLOCK))), premise(BLOCK))
-    able = () if known["taken"] else job.same_process(standing.name)
+    able = () if taken else job.same_process(standing.name)
     return wait.beside(*able, *([wakers("releases", job.releasing)] if job.releasing else []))
 
 
 def by_takers(standing: Standing, semaphore: Dict[str, Any]) -> Optional[Wait]:
     """The wait for a permit, of which the state doesn't show how many there are: for those whose code has taken one for
     a block, and for others who may have one besides. None if nobody has."""
-    keys = [row.key for row in standing.look.rows() if semaphore.get("id") in row.more.get("taken", ())]
+    keys = standing.job.taken.get(semaphore.get("id"), [])
     owners = wakers("owns", standing.job.names_of(keys), premise(BLOCK))
     return blocked(any_of(owners, *standing.job.same_process(standing.name))) if owners.who else None
 
@@ -263,6 +263,8 @@ def by_object(standing: Standing) -> Wait:
     queue = next((line for line in standing.standard if SHARED.match(line.at)), None)
     if queue is not None:
         return shared_wait(job, queue.has.get("self"))
+    if any(map(MEETS.match, places)):
+        return reached_wait(job.machine.kin_of(standing.look.place()), "which processes have it isn't shown")
     if is_feeding(standing):
         return feeding_wait(job)
     if semaphore_in(standing):
