@@ -164,8 +164,8 @@ class Rank:
 
 class Ranks(Snapshot):
     """The ranks at one time, by their numbers, and the names of all. `to_finalize` has a part for each that hasn't come
-    to MPI_Finalize, and `late` the names of those that aren't in the one collective call in which all others are, if
-    there is one."""
+    to MPI_Finalize, and `late` the names of those that aren't in the one collective call in which all others are, by
+    the same calls of the job's own, if there is one."""
 
     ranks: Dict[int, Rank]
     names: List[str]
@@ -239,7 +239,8 @@ class MpiParser(Parser):
         snapshot.names = self.names = self.names if self.names == names else names
         working = [rank.name() for rank in snapshot.ranks.values() if rank.operation != "MPI_Finalize"]
         snapshot.to_finalize = all_of(working, "comes", premise(FINALIZED))
-        places = {rank.name(): rank.more()["note"] for rank in snapshot.ranks.values() if rank.is_together()}
+        places = {rank.name(): (rank.operation, *rank.more()["frames"]) for rank in snapshot.ranks.values()
+                  if rank.is_together()}
         threads = [thread for rank in snapshot.ranks.values() for thread in rank.threads]
         is_one = len({*places.values()}) == 1 and not any(thread.is_together() for thread in threads)
         snapshot.late = [rank.name() for rank in snapshot.ranks.values() if is_one and rank.name() not in places]
@@ -397,6 +398,7 @@ def like_gdb(text: str, pid: str) -> str:
     return BARE.sub(frame_line, text)
 
 
+@functools.lru_cache(maxsize=KEPT)
 def lost_of(text: str) -> str:
     """Returns what shows that lines of a rank are missing, or nothing."""
     numbers = sorted(int(head[1]) for head in THREAD.finditer(text))
