@@ -22,6 +22,7 @@ TABLE = [([str, re.compile("longstr"), str], [str, re.compile("bool"), bool],
 ARGUMENTS = (TABLE, re.compile(""))
 NUMBER = (COUNT, re.compile(""))  # nothing where the queue is down
 CHANNEL = re.compile(r"#PID<\d+\.\d+\.\d+>")
+STATISTICS = re.compile("none|coarse|fine")  # how much the broker counts
 SHAPES = {
     "list_connections": [object],
     "list_channels": [{"pid": str, "connection": str, "messages_unacknowledged": COUNT, ...: object}],
@@ -32,7 +33,8 @@ SHAPES = {
                        "destination_kind?": re.compile("queue|exchange"), ...: object}],
     "list_exchanges": [{"name": str, "type": str, "arguments?": ARGUMENTS, ...: object}],
     "list_policies": [{"name": str, "definition": (str, {str: object}), ...: object}],
-    "eval": ([], {"value": {"statistics": str, "published": [{"channel": CHANNEL, "queue": str, "number": COUNT}],
+    "eval": ([], {"value": {"statistics": STATISTICS,
+                            "published": [{"channel": CHANNEL, "queue": str, "number": COUNT}],
                             "taken?": [{"channel": CHANNEL, "number": COUNT}]}, ...: object}),
     "server": ([], {"value": {"plugins": [str], "connections": [{"pid": str, "vhost": str, "timeout": int}],
                               "channels": [{"pid": str, "messages_unconfirmed": COUNT}]}, ...: object}),
