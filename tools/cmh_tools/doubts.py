@@ -19,7 +19,7 @@ from .stuck import Waits
 ORDER = (Sign.POLLS, Sign.TICKS, Sign.SLEEPS, Sign.GOES_ON, Sign.RESTS, Sign.UNKNOWN, None, Sign.BLOCKED)
 UNSEEN = {
     "unread": "somebody who couldn't be looked at",
-    "unshown": "somebody who can't be seen from here",
+    "unshown": "somebody or a timer that can't be seen from here",
     "left-out": "somebody who wasn't looked at",
     "by-name": "somebody who opens it by its name",
     "outside": "somebody outside of what was looked at",
