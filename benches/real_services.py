@@ -243,7 +243,7 @@ ssh.stdout.read()' & wait""", "sleep 6", root="python3 ssh sshd cat", behind="ba
         $NOBODY initdb -D data -U shop --auth=trust -N > /dev/null; $NOBODY postgres -D data -k $PWD 2> log &
         sleep 6; echo "select pg_advisory_lock(1);
 \\! psql -c 'select pg_advisory_lock(1)'" > script; exec psql -f script""", "sleep 10",
-        root="psql sh psql", looks=["linux $PID --with postgres"], behind="session session"),
+        root="psql sh psql psql@postgres psql@postgres", looks=["linux $PID --with postgres"]),
     Row("expect that waits for who waits for it", "expect cat",
         "exec expect -c 'set timeout -1; spawn cat; expect password:'", "sleep 2", root="cat expect expect"),
 ]
