@@ -30,6 +30,7 @@ GONE = "it isn't in the second state"
 ONE_STATE = "there is one state alone, and a wait that is about to end looks like any other"
 OVERLAP = "its first state was read after a second one of another process, so the two show no one time"
 UNCOUNTED = "nothing counts how often it has waited, so the states may show two waits"
+NEW = "it came after the first state"
 GROWN = "it may have come back to the same place between the looks, and go on"
 DIFFER = "the states differ in whether it waits for any or for all"
 SHOWN = 5  # names in a reason
@@ -169,10 +170,13 @@ def forget(process: Process) -> Process:
 
 
 def newcomer(process: Process, extent: str) -> Process:
-    """One of the second state alone: it came after the first, if both have all that were there."""
+    """One of the second state alone: it came after the first, if both have all that were there. If it has nothing to do
+    already, it rests, for all that its one state says."""
     if extent == PARTS and process.sign not in GOING:
         return replace(process, sign=Sign.UNKNOWN, parts=[], because=[], reason="it isn't in the first state")
-    return replace(process, sign=Sign.GOES_ON, parts=[], because=[SYSTEM], reason="it came after the first state")
+    if process.sign is Sign.RESTS:
+        return replace(process, parts=[(*part, unseen("uncounted", NEW)) for part in process.parts])
+    return replace(process, sign=Sign.GOES_ON, parts=[], because=[SYSTEM], reason=NEW)
 
 
 def join(process: Process, later: Optional[Process], known: Known) -> Process:
