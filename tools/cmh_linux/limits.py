@@ -123,7 +123,7 @@ def boot_time() -> float:
 
 
 def ran_at(folder: str) -> Optional[float]:
-    """Returns when a thread has last run, by the clock of the processor where that was, or None if that isn't known: the
-    kernel notes 0 for one that it has moved to another processor since then, as it may where one falls asleep."""
+    """Returns when a thread has last run, by the clock of the processor where that was, or None if that isn't known:
+    the kernel notes 0 for one that it has moved since then, as it may where one falls asleep."""
     ran = RAN_AT.search(try_slurp(f"{folder}/sched"))
     return float(ran[1]) / 1000 or None if ran else None
