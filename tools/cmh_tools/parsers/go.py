@@ -243,9 +243,9 @@ class GoParser(Parser):
         if children:
             parts = all_of(children, COMES, beside=(snapshot.everybody, unseen("unshown")))
         awaits_signal = snapshot.has_signals and OF_SIGNALS.search(place.function) is not None
-        awaits_end = snapshot.has_signals and (len(place.frames) == 1 or place.operation == "select")
-        may_rest = awaits_signal or accepts_for_library(goroutine, place) or (
-            awaits_end if goroutine.number == MAIN else is_in_own_loop(goroutine, snapshot))
+        awaits_end = goroutine.number == MAIN and snapshot.has_signals and place.operation == "select"
+        may_rest = awaits_signal or awaits_end or accepts_for_library(goroutine, place) or is_in_own_loop(
+            goroutine, snapshot)
         receives = place.operation in RECEIVES or goroutine.state in RECEIVES and is_loop(place.operation)
         if receives and may_rest:
             return rests(name, why, parts, [SYSTEM])
