@@ -175,8 +175,13 @@ def newcomer(process: Process, extent: str) -> Process:
     if extent == PARTS and process.sign not in GOING:
         return replace(process, sign=Sign.UNKNOWN, parts=[], because=[], reason="it isn't in the first state")
     if process.sign is Sign.RESTS:
-        return replace(process, parts=[(*part, unseen("uncounted", NEW)) for part in process.parts])
+        return with_doubt(process, NEW)
     return replace(process, sign=Sign.GOES_ON, parts=[], because=[SYSTEM], reason=NEW)
+
+
+def with_doubt(process: Process, why: str) -> Process:
+    """One at rest in each of some states that has it, where these aren't known to show one wait."""
+    return replace(process, parts=[(*part, unseen("uncounted", why)) for part in process.parts])
 
 
 def join(process: Process, later: Optional[Process], known: Known) -> Process:
@@ -188,10 +193,11 @@ def join(process: Process, later: Optional[Process], known: Known) -> Process:
         return replace(process, sign=Sign.UNKNOWN, parts=[], because=[], reason=odd.reason, is_garbled=True, count=None)
     if process.sign is Sign.ENDED:
         return end_by_both(process, later)
-    if later is None or later.sign is Sign.ENDED:
-        return mover_of(process, "it has ended since")
-    if is_elsewhere(process, later):
-        return mover_of(process, "it has moved")
+    has_ended = later is None or later.sign is Sign.ENDED
+    if has_ended or is_elsewhere(process, later):
+        why = "it has ended since" if has_ended else "it has moved"
+        still_rests = process.sign is Sign.RESTS and (has_ended or later.sign is Sign.RESTS)
+        return with_doubt(process, why) if still_rests else mover_of(process, why)
     going = [either for either in (process, later) if either.sign in GOING]
     if going and (SYSTEM in going[0].because or Sign.UNKNOWN not in (process.sign, later.sign)):
         return runner_of(process, later)
@@ -238,17 +244,8 @@ def waiter_of(process: Process, later: Process, known: Known) -> Process:
     elif not made.parts and process.parts:
         made.become_unknown(COME)
     elif None not in (process.count, later.count) and made.count is None:
-        doubt_place(made)
+        return with_doubt(made, GROWN) if made.sign is Sign.RESTS else replace(made, sign=Sign.UNKNOWN, reason=GROWN)
     return made
-
-
-def doubt_place(process: Process) -> None:
-    """Says of one that is at the same place with a count that has grown that it may have come back there. One at rest
-    still rests."""
-    if process.sign is Sign.RESTS:
-        process.parts = [(*part, unseen("uncounted", GROWN)) for part in process.parts]
-    else:
-        process.sign, process.reason = Sign.UNKNOWN, GROWN
 
 
 def parts_of_both(first: List[Part], second: List[Part], known: Known) -> List[Part]:

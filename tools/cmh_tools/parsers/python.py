@@ -268,8 +268,9 @@ def process_at(subject: Subject, frames: List[Frame], wait: Wait, standing: Opti
     operation, objects = operation_of(standing) if standing else ("", [])
     own = own_frames(frames)
     sign = sign_of(subject, wait, operation, own, is_job(frames))
-    if sign is Sign.BLOCKED and operation in OF_LIBRARIES and all(frame.kind != "own" for frame in frames):
-        sign = Sign.RESTS  # (a thread of a package that runs nothing of the program's)
+    if sign is Sign.BLOCKED and all(frame.kind != "own" for frame in frames) and (
+            operation in OF_LIBRARIES or standing is not None and awaited_by(standing) == "Future"):
+        sign = Sign.RESTS  # (a thread or task of a package that runs nothing of the program's)
     if wait.sign is Sign.SLEEPS:
         operation, objects = f"timed {operation or 'wait'}", lasting_objects(standing) if standing else []
     called = package_call(frames) or (f"{operation} {awaited_by(standing)}".rstrip() if standing else operation)
