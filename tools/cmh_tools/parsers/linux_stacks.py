@@ -12,7 +12,7 @@ from typing import Dict, Iterable, List, Optional, Tuple
 from ..model import Sign, any_of, unseen, wakers
 from .linux_children import SIGCHLD
 from .linux_frames import KEPT, is_known, library_names, takes_next
-from .linux_text import ENDED, Machine, Owner, Row, Thread
+from .linux_text import CONDITION, ENDED, Machine, Owner, Row, Thread
 from .linux_waits import FILES, Wait, against, int32
 
 STACK = "stack"
@@ -32,7 +32,6 @@ OWNER = 0x3FFFFFFF  # the owner in the word of a robust mutex, or of one of whic
 PRIVATE = 128  # the flag of a futex of one process alone
 WAITS, LOCKS = (0, 9), (6, 13)  # FUTEX_WAIT and FUTEX_WAIT_BITSET, FUTEX_LOCK_PI and FUTEX_LOCK_PI2
 OPERATION = 127  # the operation of a futex without its flags
-CONDITION = re.compile(r"pthread_cond_\w*wait|_ZNSt18condition_variable\d+wait\w+|std::condition_variable::wait")
 JOINS = ("_ZNSt6thread4joinEv", "std::thread::join")
 
 

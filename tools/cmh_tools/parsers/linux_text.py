@@ -27,6 +27,8 @@ OPEN = "open "  # how the name of an open file begins, which several descriptors
 # How many arguments those calls have that often come back to one place; the other registers have what was left in them.
 ARGUMENTS = {"nanosleep": 2, "poll": 3, "clock_nanosleep": 4, "epoll_wait": 4, "select": 5, "ppoll": 5}
 MOST_ARGUMENTS = 6
+WORD = 4  # how far the two words are apart at which threads wait for a condition of glibc
+CONDITION = re.compile(r"pthread_cond_\w*wait|_ZNSt18condition_variable\d+wait\w+|std::condition_variable::wait")
 ENDED = "ZX"  # the states of those that have ended
 NUMBER, NUMBERED = re.compile(r"\d+"), re.compile(r"(.* )?\d+")  # within the name of a thread, and at its end
 NUMBERS = re.compile(r"[0-9]{1,9}(\s+[0-9]{1,9})*")
@@ -327,6 +329,8 @@ def keep_calls(machines: List[Machine]) -> None:
     for owner in (owner for machine in machines[1:] for owner in machine.owners):
         for thread in owner.threads:
             first = known.get((owner.pid, owner.row.get("start"), thread.tid), thread)
+            if are_at_condition(first, thread):
+                thread.row["args"], thread.arguments = first.row["args"], first.arguments
             if first is not thread and thread.counts and call_of(first) == call_of(thread):
                 thread.frames, thread.is_whole = first.frames, first.is_whole
                 thread.is_again = first.is_again or thread.counts != first.counts
@@ -337,6 +341,13 @@ def call_of(thread: Thread) -> Tuple[object, List[str]]:
     """Returns the call that a thread is in, with its arguments: what the other registers have is of no call."""
     call = thread.row.get("call")
     return call, (thread.row.get("args") or [])[:ARGUMENTS.get(str(call), MOST_ARGUMENTS)]
+
+
+def are_at_condition(first: Thread, thread: Thread) -> bool:
+    """Whether a thread is at the same condition in two readings. Who comes next waits at the other one of its words."""
+    (call, args), (later_call, later_args) = call_of(first), call_of(thread)
+    is_one = call == later_call == "futex" and args[1:] == later_args[1:] and CONDITION.fullmatch(first.within)
+    return bool(is_one) and int(args[0], 16) ^ int(later_args[0], 16) == WORD
 
 
 def may_carry(words: List[str]) -> bool:
