@@ -24,8 +24,9 @@ EPOLL = "anon_inode:[eventpoll]"
 PARSERS = {"python": "python", "java": "jvm", "beam": "erlang", "go": "go", "mpi": "mpi"}  # by how programs are called
 OF_JAVA = "/libjvm.so"
 OPEN = "open "  # how the name of an open file begins, which several descriptors may share
-# How many arguments those calls have that often come back to one place; the other registers have what was left in them.
-ARGUMENTS = {"nanosleep": 2, "poll": 3, "clock_nanosleep": 4, "epoll_wait": 4, "select": 5, "ppoll": 5}
+# How many arguments tell those calls from others that often come back to one place, without a limit that is a number;
+# the other registers have what was left in them.
+ARGUMENTS = {"nanosleep": 2, "poll": 2, "clock_nanosleep": 4, "epoll_wait": 3, "select": 5, "ppoll": 5}
 MOST_ARGUMENTS = 6
 WORD = 4  # how far the two words are apart at which threads wait for a condition of glibc
 CONDITION = re.compile(r"pthread_cond_\w*wait|_ZNSt18condition_variable\d+wait\w+|std::condition_variable::wait")
