@@ -17,8 +17,9 @@ HEAD = re.compile(rf"({A_PID}) (\S+)$", re.M)
 CALLS = r"gen_server:call/3|gen_statem:call_dirty/4|gen_event:call1/4|'Elixir\.GenServer':call/3|sys:send_system_msg/3"
 LIMIT = re.compile(
     r"Program counter: \S+ \((?:gen:(?:receive|wait)_response/[23] \+ \d+\)\ny\(0\) +(?P<response>\w+)"
-    r"|gen:do_call/4 .*\n(?:y.*\n)*\n\S+ Return addr \S+ "
-    rf"\((?:(?P<call>{CALLS}) \+ \d+\)\ny\(0\) +(?P<limit>\w+)|(?P<event>gen_event:rpc/2) \+ \d+\)))\n")
+    r"|gen:do_call/4 .*\n(?:y.*\n)*\n(?:\S+ Return addr \S+ \(gen:do_for_proc/2 .*\n(?:y.*\n)*\n)?"
+    rf"\S+ Return addr \S+ \((?:(?P<call>{CALLS}) \+ \d+\)\ny\(0\) +(?P<limit>\w+)"
+    r"|(?P<event>gen_event:rpc/2) \+ \d+\)))\n")
 UNREAD = re.compile(r"'\$gen_call',{[^{}]*?#Ref<\d+\.([\d.]+)>")
 REQUEST = re.compile(rf"Return addr \S+ \((?:{CALLS}) \+ \d+\)\ny\(0\).*\ny\(1\) +(.*)\n(?:y\(2\) +(.*))?")
 WITH_A_LIMIT = re.compile(r"\(gen_server:call/2 \+ \d+\)")  # of five seconds
