@@ -24,7 +24,8 @@ from . import State
 from .base import FAR, Parser, Reach, Snapshot, duration, is_loop, without_sleep
 from .go_frames import (CONNECTION, NEEDS_ALL, WATCHER, WRITER, Call, Place, accepts_for_library, callers_in,
                         cut_short, entry_of, is_at_connection, is_jobs, is_of_runtime, lacks_wait, misplaced,
-                        own_calls, receiver_locked, receivers_past_lock, serves_request, takes_state, watches_client)
+                        own_calls, receiver_locked, receivers_past_lock, serves_request, takes_state, types_of,
+                        watches_client)
 from .go_starters import MAIN, UNSEEN, Starters, unseen_starter
 from .go_text import ADDRESS, AGAIN, LOOKED, TAKER, WHERE, Dump, Goroutine, read_dumps
 
@@ -165,6 +166,8 @@ class GoParser(Parser):
                     snapshot.reach.add(address, [self.names[goroutine.number]], "inside")
             for receiver in receivers_past_lock(goroutine, snapshot.places[goroutine.number]):
                 snapshot.reach.add(receiver, [self.names[goroutine.number]], "inside")
+            for maker in types_of(goroutine.created_by):
+                snapshot.reach.add(maker, [self.names[goroutine.number]], "inside")
 
     def process_of(self, subject: Goroutine, snapshot: Goroutines) -> Process:
         goroutine, name = subject, self.names[subject.number]
@@ -252,8 +255,9 @@ class GoParser(Parser):
         return blocked(name, parts, [SYSTEM], reason=why)
 
     def inside(self, goroutine: Goroutine, place: Place, name: str, snapshot: Goroutines) -> Tuple[Wakers, ...]:
-        """Returns those in whose frames stands what one waits at, or who run a method of that whose lock it wants."""
-        things = [*place.objects, *receiver_locked(goroutine, place)]
+        """Returns those in whose frames stands what one waits at, or who run a method of that whose lock it wants, or
+        who were started by the type of a library in whose method it waits, as by a group."""
+        things = [*place.objects, *receiver_locked(goroutine, place), *types_of(place.called)]
         found = [some for thing in things for some in snapshot.reach.of(thing)]
         if sum(len(some.names()) for some in found) > MOST:
             return ()

@@ -275,6 +275,12 @@ def receiver_of(step: Frame) -> Optional[Tuple[str, str]]:
     return (method[1], first) if method and ADDRESS.fullmatch(first) else None
 
 
+def types_of(function: str) -> List[str]:
+    """Returns the type that a function is a method of, if it is one."""
+    method = RECEIVER.match(function)
+    return [method[1]] if method else []
+
+
 def receivers_past_lock(goroutine: Goroutine, place: Place) -> List[Tuple[str, str]]:
     """Returns of what a goroutine runs methods: but for that which only now takes a lock. A writer that waits for the
     readers of a lock keeps others out already."""
