@@ -1,7 +1,7 @@
 """From raw states or sketches to the sketch that a dump is made of: facts are applied here, once, for all."""
 from __future__ import annotations
 
-from typing import List, Sequence, Tuple
+from typing import Dict, List, Sequence, Set, Tuple
 
 from .application import apply
 from .assumptions import ASSUMPTIONS
@@ -12,7 +12,7 @@ from .idle import leave_out
 from .model import Sign, Strength
 from .nearness import owners_of
 from .parsers import MODULES, State, parser_of
-from .sketch import Sketch
+from .sketch import Process, Sketch
 from .sketch_json import read_sketch
 from .snapshots import both
 
@@ -43,14 +43,25 @@ def with_facts(sketch: Sketch, facts: Facts, what: str = "processes") -> Sketch:
 
 
 def let_holders_work(sketch: Sketch) -> None:
-    """Says of each one at rest that it is blocked, if another one waits for a lock that it has: whoever has something
-    that is wanted is in the middle of work, wherever it waits."""
-    blocked = [process for process in sketch.processes if process.sign is Sign.BLOCKED]
-    holders = {name for process in blocked for name in owners_of(process.parts)}
+    """Says of each one at rest that it is blocked, if it is wanted: whoever has something that another one wants is in
+    the middle of work, wherever it waits."""
+    wanted = wanted_ones({process.name: process for process in sketch.processes if process.sign is Sign.BLOCKED})
     for process in sketch.processes:
         able = {wakers.strength for part in process.parts for wakers in part} & {Strength.NAMED, Strength.ABLE}
-        if process.sign is Sign.RESTS and process.name in holders and able:
+        if process.sign is Sign.RESTS and process.name in wanted and able:
             process.sign = Sign.BLOCKED
+
+
+def wanted_ones(blocked: Dict[str, Process]) -> Set[str]:
+    """Returns the names of those who have a lock that a blocked one waits for, and of those for whom these wait."""
+    wanted = {name for process in blocked.values() for name in owners_of(process.parts)}
+    todo = [blocked[name] for name in wanted if name in blocked]
+    for process in todo:
+        named = {name for part in process.parts for wakers in part if wakers.strength is Strength.NAMED
+                 for name in wakers.names()} - wanted
+        wanted |= named
+        todo += [blocked[name] for name in named if name in blocked]
+    return wanted
 
 
 def record(system: str, states: List[State]) -> Sketch:
