@@ -272,11 +272,11 @@ def wait_for_some(thread: Thread, place: Place, name: str, snapshot: Threads) ->
     """One that waits at an object of the runtime. One that takes its next message in the loop of its own thread rests,
     and where no heap says that nobody else may end its wait, a signal or a hook of the program's may. If nobody has a
     reference to what it waits at, it may be meant to wait for ever, but at no queue that is full, nor where several
-    meet."""
+    meet. Where it alone runs tasks like the one that it waits for, somebody else may give what it waits for."""
     if place.has(OUTSIDE):
         return wait_for_outside(thread, name, f"{place.call}: the state doesn't show what is outside of the JVM")
     reached = snapshot.heap.reach_of(thread)
-    near = snapshot.runners(place) if reached is None else ()
+    near = tuple(some for some in snapshot.runners(place) if some.names() != [name]) if reached is None else ()
     part = (*near, *snapshot.able(thread), *snapshot.owners(thread), *snapshot.breaking(place))
     because = [premise(INNER if reached is None else REACHES)]
     is_receiver = is_receive(place) and is_own_loop(stack_of(thread))

@@ -178,8 +178,16 @@ def sleeps_in_own_loop(thread: Thread) -> bool:
 
 def is_in_start(thread: Thread, frames: List[str]) -> bool:
     is_there = not thread.is_first and is_known(thread) and bool(own_frames(thread))
-    has_job = frames and any(COMMON.fullmatch(step.module) and POOLS.match(step.function) for step in own_steps(thread))
-    return is_there and len(frames) <= 1 and not has_job
+    return is_there and len(frames) <= 1 and not (frames and has_job(thread))
+
+
+def has_job(thread: Thread) -> bool:
+    """Whether a library has called a function of the program for a job, as a pool does: by its name, or since more than
+    one function of the library stands below it, where one is enough to begin a thread."""
+    steps = own_steps(thread)
+    are_common = [COMMON.fullmatch(step.module) is not None for step in steps]
+    below = are_common[::-1].index(False) if False in are_common else 0
+    return below > 1 or any(is_common and POOLS.match(step.function) for is_common, step in zip(are_common, steps))
 
 
 def takes_next(thread: Thread) -> bool:
