@@ -124,7 +124,9 @@ class Nearness:
         return left if {*left} - {index} and not process.is_collective else nodes
 
     def is_joiner(self, index: int, whom: Set[int]) -> bool:
-        """Whether one can't go on before one of some others has ended."""
-        left = self.waits.left[index]
-        is_behind = not whom.isdisjoint(left) if self.waits.kinds[index] == ALL else whom.issuperset(left)
-        return self.waits.processes[index].operation in JOINS and is_behind
+        """Whether one can't go on before one of some others has ended, as where it waits for the end of all."""
+        left, process = self.waits.left[index], self.waits.processes[index]
+        if self.waits.kinds[index] != ALL:
+            return process.operation in JOINS and whom.issuperset(left)
+        named = {wakers.how for part in process.parts for wakers in part if wakers.strength is Strength.NAMED}
+        return (process.operation in JOINS or named == {"ends"}) and not whom.isdisjoint(left)
