@@ -193,15 +193,20 @@ def join(process: Process, later: Optional[Process], known: Known) -> Process:
         return replace(process, sign=Sign.UNKNOWN, parts=[], because=[], reason=odd.reason, is_garbled=True, count=None)
     if process.sign is Sign.ENDED:
         return end_by_both(process, later)
-    has_ended = later is None or later.sign is Sign.ENDED
-    if has_ended or is_elsewhere(process, later):
-        why = "it has ended since" if has_ended else "it has moved"
-        still_rests = process.sign is Sign.RESTS and (has_ended or later.sign is Sign.RESTS)
-        return with_doubt(process, why) if still_rests else mover_of(process, why)
+    if later is None or later.sign is Sign.ENDED:
+        return leaver_of(process, "it has ended since", process.sign)
+    if is_elsewhere(process, later):
+        return leaver_of(process, "it has moved", later.sign)
     going = [either for either in (process, later) if either.sign in GOING]
     if going and (SYSTEM in going[0].because or Sign.UNKNOWN not in (process.sign, later.sign)):
         return runner_of(process, later)
     return waiter_of(process, later, known)
+
+
+def leaver_of(process: Process, why: str, last: Sign) -> Process:
+    """One that isn't at the same wait in both states. One at rest in each that has it only rests, and else it moves."""
+    is_at_rest = process.sign is Sign.RESTS and last is Sign.RESTS
+    return with_doubt(process, why) if is_at_rest else mover_of(process, why)
 
 
 def mover_of(process: Process, why: str) -> Process:
