@@ -33,10 +33,11 @@ class Row(NamedTuple):
 
 
 def proposals() -> List[str]:
-    """Returns for each process that a parser sees inside of some lines: what it is with the command that takes its
-    state, and who runs it."""
+    """Returns for each other process that a parser sees inside of some lines: what it is with the command that takes
+    its state, and who runs it."""
     by_command: Dict[str, Row] = {}
-    for pid in sorted(filter(str.isdigit, os.listdir("/proc")), key=int):
+    others = {*filter(str.isdigit, os.listdir("/proc"))} - {link_of("/proc/self")}
+    for pid in sorted(others, key=int):
         for row in rows_of(pid):
             by_command.setdefault(row.command, row)
     clocks = Clocks()
