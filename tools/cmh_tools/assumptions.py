@@ -177,4 +177,6 @@ ASSUMPTIONS: Dict[str, Assumption] = {
 
 
 def sentence_of(name: str) -> str:
+    if name not in ASSUMPTIONS:
+        raise RuntimeError(f"ASSUMPTIONS has no row for {name}")  # (a fault of the parser, and not of the state)
     return ASSUMPTIONS[name].sentence
