@@ -8,16 +8,32 @@ from functools import lru_cache
 from typing import DefaultDict, Dict, List, Set
 
 from ..sketch import quote
-from .jvm_frames import CONDITION, JDK, LIBRARY, OF_QUEUES, caller_of
+from .jvm_frames import CONDITION, JDK, LIBRARY, MACHINERY, OF_QUEUES, caller_of, is_like
 from .jvm_text import OWNERS, PARKED, Dump, Stack, Thread, stack_of
 
 # The first frame of one that waits, by what its state says besides.
-TOPS = {"parking": re.compile(r".*\.Unsafe\.park"), "on object monitor": re.compile(r"java\.lang\.Object\.wait0?"),
+TOPS = {"parking": re.compile(r"(?:jdk\.internal|sun)\.misc\.Unsafe\.park"),
+        "on object monitor": re.compile(r"java\.lang\.Object\.wait0?"),
         "sleeping": re.compile(r"java\.lang\.Thread\.sleep\w*")}
 QUEUES = re.compile(r"java\.util\.concurrent\.locks\.AbstractQueued(?:Long)?Synchronizer[.$].*")
 # What of such a queue parks by itself, of JDK 8 and later.
 PARKS = re.compile(r"java\.util\.concurrent\.locks\.AbstractQueued(?:Long)?Synchronizer(?:\.(?:acquire|"
                    r"doAcquire\w*Nanos|parkAndCheckInterrupt)|[.$]ConditionObject\.await\w*|[.$]ConditionNode\.block)")
+# What of the package above them parks, or calls what does, of JDK 8 to 25.
+WAITS = re.compile(r"java\.util\.concurrent\.(?:(?:(?:Array|Linked|Priority)BlockingQueue|DelayQueue"
+                   r"|ScheduledThreadPoolExecutor\$DelayedWorkQueue)\.(?:put|take|offer|poll)"
+                   r"|LinkedBlockingDeque\.(?:put|take|offer|poll)(?:First|Last)"
+                   r"|LinkedTransferQueue\.(?:awaitMatch|xfer)"
+                   r"|SynchronousQueue\$Transfer(?:Stack|Queue|er)\.(?:transfer|awaitFulfill|xferLifo)"
+                   r"|CompletableFuture\$Signaller\.block|(?:FutureTask|ForkJoinTask)\.awaitDone"
+                   r"|Semaphore\.(?:acquire|tryAcquire|acquireUninterruptibly)|Phaser\.internalAwaitAdvance"
+                   r"|CyclicBarrier\.dowait|CountDownLatch\.await|Exchanger\.(?:(?:slot|arena)Exchange|xchg)"
+                   r"|ForkJoinPool\.(?:awaitWork|deactivate|idleAwaitWork|runWorker|awaitTermination|invokeAll"
+                   r"|\w*[hH]elpQuiesce\w*|spinLockRunState)|DelayScheduler\.loop|ThreadPoolExecutor\.awaitTermination"
+                   r"|ThreadPerTaskExecutor\.invokeAny|SubmissionPublisher\$BufferedSubscription\.(?:awaitSpace|block)"
+                   r"|ConcurrentHashMap\$TreeBin\.contendedLock|locks\.StampedLock\.acquire(?:Read|Write)"
+                   r"|locks\.(?:ReentrantLock(?:\$(?:Nonfair|Fair)?Sync)?|ReentrantReadWriteLock\$(?:Read|Write)Lock)"
+                   r"\.(?:lock|lockInterruptibly|tryLock|tryLockNanos))")
 # Private methods of the JDK in which one waits, with their classes.
 PRIVATE = re.compile(r"(java\.util\.concurrent\.(?:CompletableFuture|FutureTask|Phaser|CyclicBarrier|Exchanger))\.(?:"
                      r"waitingGet|timedGet|awaitDone|internalAwaitAdvance|dowait|(?:slot|arena)Exchange)")
@@ -79,6 +95,9 @@ def misfit_of_park(stack: Stack, parked_class: str) -> str:
     parking = next((method for method in methods[1:] if not PARK.match(method)), "")
     if QUEUES.fullmatch(parking) and not PARKS.fullmatch(parking):
         return f"it is parked, and {parking} calls no such thing"
+    waiting = next((method for method in methods if not is_like(MACHINERY, method)), "")
+    if waiting.startswith(OF_QUEUES) and not WAITS.fullmatch(waiting):
+        return f"it is parked, and {waiting} calls no such thing"
     for method, caller in zip(methods, [*methods[1:], "nobody"]):
         own = PRIVATE.fullmatch(method)
         if own and not (caller.startswith(f"{own[1]}.") and CALLS_PRIVATE.fullmatch(caller)):
