@@ -17,7 +17,10 @@ from .jvm_rows import LABEL, Label, frames_of, key_of, label_of, plain, trees_in
 from .jvm_text import Dump, Thread, stack_of
 
 MARK = "# cmh heap "
-WAITS, NAMED = re.compile(r"java\.lang\.Object\.wait0?"), re.compile(r"java\.lang\.(?:String|Class(?: for .*)?)")
+WAITS = re.compile(r"java\.lang\.Object\.wait0?")
+# The classes of what others may come to by a name or a value: a text, a class, a number, and what else is of that
+# package but for these two.
+NAMED = re.compile(r"java\.lang\.(?!(?:Object|Thread)\Z)[^.]*(?: for .*)?")
 KINDS = TASK, QUEUED, READERS, JOIN, FUTURE, FUTURES, SUPPLIED, POOL, REACH, HOOK, TIMER, STREAM, LOST = (
     "task", "queued", "readers", "join", "future", "futures", "supplied", "pool", "reach", "hook", "timer", "stream",
     "lost")
