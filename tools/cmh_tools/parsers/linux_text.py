@@ -20,7 +20,11 @@ CARRIES, RING = "scm_fds:", "UserFiles:"  # a socket with descriptors on their w
 SIGMASK = "sigmask:"  # which signals a descriptor of them takes
 NO_KEYS = ("lock:", CARRIES, RING, SIGMASK)  # what of a descriptor doesn't tell its file from others
 MASTER, TERMINAL = "/dev/ptmx", "/dev/pts/"  # the end of a terminal that a program has, and how others' names begin
+NEVER_BY_PATH = ("pipe:", "socket:", "anon_inode:")  # what is open to read or to write, and so by no path alone
 EPOLL = "anon_inode:[eventpoll]"
+# The files without a name that keep no others: of a kind that isn't known it isn't known either.
+KEEPS_NONE = re.compile(r"(?!anon_inode:).*|anon_inode:(\[(event(poll|fd)|timerfd|signalfd|pidfd|fanotify|userfaultfd"
+                        r"|perf_event|fscontext)\]|inotify|seccomp notify|sync_file|(bpf|kvm|landlock)[\w:-]+)", re.S)
 PARSERS = {"python": "python", "java": "jvm", "beam": "erlang", "go": "go", "mpi": "mpi"}  # by how programs are called
 OF_JAVA = "/libjvm.so"
 OPEN = "open "  # how the name of an open file begins, which several descriptors may share
@@ -39,9 +43,12 @@ OLD = {f"{key}?": object for key in ("awaits", "handlers", "traps", "builtin", "
 # The calls of those that are in none, and so have no arguments: one that computes, and one that is held meanwhile.
 RUNNING, NO_CALL = "running", "-1"
 STATE = re.compile("[A-Za-z]")
-FILE = re.compile(r"(?!pipe:|socket:).+|(pipe|socket):\[\d{1,20}\]", re.S)
-# What more is known of a descriptor: of some kinds a number.
-MORE = re.compile(r"(?!Pid:|sigmask:).*|Pid:\s*-?\d{1,10}|sigmask:\s*[0-9a-f]{1,16}", re.S)
+FILE = re.compile(r"(?!pipe:|socket:|anon_inode:).+|(pipe|socket):\[\d{1,20}\]"
+                  r"|anon_inode:(\[[\w.: -]+\]|[\w.: ()-]+)", re.S)
+# What more is known of a descriptor: its file by numbers, and what the kernel says of some kinds.
+MORE = re.compile(r"(?:fifo|file|queue) [0-9a-f]{1,16}:\d{1,20}|memory [0-9a-f]{1,8}:[0-9a-f]{1,8} \d{1,20}"
+                  r"|open \d{1,10}:\d{1,10}|lock: .*|it_value: \(\d{1,20}, \d{1,9}\)"
+                  r"|(?:eventfd-id|UserFiles|scm_fds):\s*\d{1,10}|Pid:\s*-?\d{1,10}|sigmask:\s*[0-9a-f]{1,16}")
 PID = range(1 << 22)  # what the kernel numbers processes and threads with
 THREAD = {"tid": PID, "state": STATE, "inner?": PID, "comm?": str, "call?": str, "args?": [HEX] * 6,
           "counts?": [int, int], "set?": ([[int, int]], [[int, int, int]]), "words?": re.compile("([0-9a-f]{2})*"),
@@ -353,7 +360,7 @@ def are_at_condition(first: Thread, thread: Thread) -> bool:
 
 def may_carry(words: List[str]) -> bool:
     """Whether a descriptor may have files that none shows. An older kernel doesn't say how many an io_uring keeps."""
-    if "io_uring" in words[0]:
+    if not KEEPS_NONE.fullmatch(words[0]):
         return f"{RING} 0" not in words[2:]
     return any(more.startswith(CARRIES) for more in words[2:])
 
@@ -380,6 +387,8 @@ def rows_of(text: str, path: str) -> List[Row]:
         odd = next(misfits(row, SHAPES[kind]), None)
         if kind == "pid":
             odd = odd or (".threads" if "threads" not in row and row["state"] not in ENDED else None)
+            odd = odd or next((f".fds.{fd}.1" for fd, words in row["fds"].items() if not words[1]
+                               and words[0].startswith(NEVER_BY_PATH)), None)
             odd = odd or next((".threads.args" for thread in row.get("threads", ()) if "args" not in thread
                                and thread.get("call", RUNNING) not in (RUNNING, NO_CALL)), None)
         if odd is not None:
