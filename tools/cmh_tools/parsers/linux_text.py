@@ -208,7 +208,8 @@ class Thread:
 
     def lacks(self) -> str:
         """Returns what its row or that of its process doesn't say and should, or nothing."""
-        return self.owner.lacks() or next((key for key in NEEDED_IN_CALL if key not in self.row and self.arguments), "")
+        needed = NEEDED_IN_CALL if self.arguments else ()
+        return self.owner.lacks() or next((key for key in needed if self.row.get(key, "") == ""), "")
 
     def word(self, offset: int) -> int:
         """The number that stands in memory behind the word of its futex, or 0."""
