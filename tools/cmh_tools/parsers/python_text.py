@@ -26,6 +26,10 @@ HEAD = {"version": int, "process": str, "pid": int, "seconds": (int, float), "un
         "python?": str, "reader?": NUMBER, "space?": TEXT, "time?": str}
 OBJECT = {"type": str, "id": re.compile("0x[0-9a-f]{1,16}"), "all?": [object], "done?": bool, "name?": str, ...: object}
 VALUE = (OBJECT, type(None), str, int, float, bool, [object], ERROR)
+# The call of no frame that a thread is in, as far as it is known.
+CALL = (type(None), {"words": type(None)}, {"step": str}, ERROR,
+        {"words": str, "how": re.compile("call|with"), "on": (OBJECT, type(None), [object], ERROR),
+         "arguments": (type(None), [object], ERROR), "module?": TEXT, "function?": str, "named?": [str]})
 FRAME = ({"in": str, "file": str, "line": NUMBER, "has?": {str: VALUE}}, ERROR)
 # What the rows of threads and tasks have alike: `holds`, `ends`, `cancels` and `releases` may be missing in older ones.
 PLACE = {"of": int, "name": str, "moved": bool, "frames": [FRAME], "holds?": (type(None), [str], ERROR),
@@ -36,8 +40,7 @@ ROWS: Dict[str, Dict[str, Any]] = {
     "runs": {"of": int, "runs": str, "thread": NUMBER, "current": TEXT, "callers?": ({str: bool}, ERROR),
              "waking?": ([str], ERROR), "arriving?": ([str], ERROR), "callbacks?": [str], "signals?": [str]},
     "thread": {**PLACE, "thread": int, "native": NUMBER, "daemon": bool, "main": bool, "stops": NUMBER, "spent": NUMBER,
-               "new_stops?": NUMBER, "asleep?": FLAG, "loop": TEXT, "call": (type(None), {str: object}),
-               "connections?": object},
+               "new_stops?": NUMBER, "asleep?": FLAG, "loop": TEXT, "call": CALL, "connections?": object},
     "task": {**PLACE, "task": str, "number": int, "loop": str, "wait": int, "waits": (OBJECT, type(None), ERROR),
              "limit": bool, "sets": [str], "parent?": str, "completes?": object, "connections?": object,
              "asks?": object},
