@@ -93,7 +93,7 @@ class Routes:
     def ends(self, queue: str) -> Tuple[Dict[str, str], str]:
         """Returns the keys by which messages come to a queue, each with the expression for those that are used, and
         what keeps them from being known. The name of the queue itself is one only if it has no other. A key that
-        another exchange takes to another queue needs its exchange: EXCHANGE/KEY."""
+        another exchange takes to another queue needs its exchange, EXCHANGE/KEY, and so does an empty one."""
         keys: Dict[str, str] = {}
         bindings = self.bound.get(queue, [])
         for source, key in bindings:
@@ -104,7 +104,7 @@ class Routes:
                 keys[source] = re.escape(source)  # (its messages come whatever their keys)
             elif source or len(bindings) == 1:
                 exact = f"{re.escape(source)}/(?:{self.expression(source, key)})"
-                is_shared = self.is_shared(source, key, queue)
+                is_shared = not key or self.is_shared(source, key, queue)
                 keys[f"{source}/{key}" if is_shared else key] = \
                     exact if is_shared else f"{exact}|{self.expression(source, key)}"
         return keys or {queue: re.escape(queue)}, ""

@@ -2,6 +2,7 @@
 isn't as rabbitmqctl prints it: the state is refused."""
 from __future__ import annotations
 
+import contextlib
 import json
 import re
 from typing import Any, Dict, Iterator, List, Tuple
@@ -111,6 +112,9 @@ def faults_of(raw: Raw) -> Iterator[str]:
     for row in raw["list_queues"]:
         if row.get("policy", None if raw["list_policies"] else "") not in policies:
             yield f"list_policies: it lacks {quote(str(row.get('policy')))}, which queue {shown(row['name'])} has"
+        missed = next((it for it in raw["list_policies"] if row.get("policy") == "" and is_for(it, row["name"])), None)
+        if missed is not None:
+            yield f"list_queues: queue {shown(row['name'])} lacks policy {shown(missed['name'])}, which is for its name"
     for row in raw["list_bindings"]:
         name = str(row["destination_name"])
         if row["source_name"] == "" and (row["routing_key"] != name or row.get("destination_kind", "queue") != "queue"):
@@ -119,6 +123,13 @@ def faults_of(raw: Raw) -> Iterator[str]:
         arguments = table_of(row["arguments"])
         if KEY in arguments and EXCHANGE not in arguments:
             yield f"list_queues: queue {quote(str(row['name']))} has a key for dead messages, and no exchange for them"
+
+
+def is_for(policy: Dict[str, Any], queue: str) -> bool:
+    """Whether a policy is for queues of any kind with such a name, as far as its pattern is understood."""
+    with contextlib.suppress(re.error):
+        return policy.get("apply-to") in ("all", "queues") and re.search(str(policy.get("pattern")), queue) is not None
+    return False
 
 
 def rows_in(raw: Raw, part: str) -> List[Dict[str, Any]]:
