@@ -250,9 +250,9 @@ class Machine:
         self.awaited: Dict[Owner, List[Tuple[str, str]]] = {}  # at which file each thread of a process waits, if asked
 
     def with_file(self, key: str, mode: str = "") -> List[Owner]:
-        """Returns the processes that have a file, open in a way."""
+        """Returns the processes that have a file, open in a way, or in one that isn't known."""
         return list(dict.fromkeys(owner for owner, fd in self.holders.get(key, [])
-                                  if not mode or mode in owner.files[fd][1]))
+                                  if mode in owner.files[fd][1] or not owner.files[fd][1]))
 
     def names_of(self, owners: Iterable[Owner], waiter: Thread) -> List[str]:
         """Returns the names of the living threads of some processes, in one list for all waits that have the same. A
