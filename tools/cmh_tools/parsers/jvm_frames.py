@@ -22,7 +22,7 @@ LIBRARY = re.compile(
 # What stands between a wait and whoever called it.
 MACHINERY = re.compile(
     r"(?:jdk\.internal|sun)\.misc\.Unsafe\.park|java\.util\.concurrent\.locks\.(?:LockSupport|Abstract).*"
-    r"|java\.util\.concurrent\.ForkJoinPool\.(?:un)?managedBlock|java\.lang\.Object\.wait0?"
+    r"|java\.util\.concurrent\.ForkJoinPool\.(?:(?:un)?managed|compensated)Block|java\.lang\.Object\.wait0?"
     r"|java\.lang\.VirtualThread\..*|java\.lang\.System\$\d+\..*|java\.lang\.Thread\.(?:sleep\w*|runWith)"
     r"|.*\$\w*Node\.(?:block|await)"
 )
