@@ -62,7 +62,8 @@ OWNER: Row = {"pid": PID, "ppid": PID, "comm": str, "group?": PID, "session?": P
               "kin?": [PID], "timers?": bool, "aio?": bool, "runtime?": str, "frames?": [[str, int, int]],
               "modules?": [[str, str]], "start?": int, "NSpid?": NUMBERS, "NSpgid?": NUMBERS, "collects?": bool,
               "state": STATE, **OLD}
-UNREADABLE = {**{f"{key.rstrip('?')}?": shape for key, shape in OWNER.items()}, "pid": PID, "unreadable": str,
+UNREADABLE = {**{f"{key.rstrip('?')}?": shape for key, shape in OWNER.items()}, "pid": PID,
+              "unreadable": re.compile(".+"),
               "apart?": bool}  # (the last one: beside those that were asked for)
 SOCKET = {"socket": int, "kind": re.compile("tcp|u_(str|dgr|seq)"), "state": str, "at": str, "to": str,
           "peers": [int], "away?": bool, "unread?": int, "timer?": object}

@@ -24,7 +24,9 @@ HEAD = {"version": int, "process": str, "pid": int, "seconds": (int, float), "un
         "alarm?": (int, float), "on_alarm?": TEXT, "on_child?": TEXT, "handlers?": {str: str}, "foreign_timer?": FLAG,
         "others?": NUMBER, "queues?": NUMBER, "parent?": int, "host?": str, "began?": object, "ended?": object,
         "python?": str, "reader?": NUMBER, "space?": TEXT, "time?": str}
-OBJECT = {"type": str, "id": re.compile("0x[0-9a-f]{1,16}"), "all?": [object], "done?": bool, "name?": str, ...: object}
+FILE = (type(None), re.compile(r"[0-9a-f]{1,8}:[0-9a-f]{1,8} \d{1,20}"))  # its device and its number
+ID = re.compile("0x[0-9a-f]{1,16}")
+OBJECT = {"type": str, "id": ID, "all?": [object], "done?": bool, "name?": str, ...: object}
 VALUE = (OBJECT, type(None), str, int, float, bool, [object], ERROR)
 # The call of no frame that a thread is in, as far as it is known.
 CALL = (type(None), {"words": type(None)}, {"step": str}, ERROR,
@@ -32,22 +34,22 @@ CALL = (type(None), {"words": type(None)}, {"step": str}, ERROR,
          "arguments": (type(None), [object], ERROR), "module?": TEXT, "function?": str, "named?": [str]})
 FRAME = ({"in": str, "file": str, "line": NUMBER, "has?": {str: VALUE}}, ERROR)
 # What the rows of threads and tasks have alike: `holds`, `ends`, `cancels` and `releases` may be missing in older ones.
-PLACE = {"of": int, "name": str, "moved": bool, "frames": [FRAME], "holds?": (type(None), [str], ERROR),
-         "ends?": ([str], ERROR), "cancels?": (bool, ERROR), "releases?": bool, "taken?": [str], "around?": [str],
+PLACE = {"of": int, "name": str, "moved": bool, "frames": [FRAME], "holds?": (type(None), [ID], ERROR),
+         "ends?": ([str], ERROR), "cancels?": (bool, ERROR), "releases?": bool, "taken?": [ID], "around?": [ID],
          "again?": bool, "error?": str, "at?": object, "inside?": object}  # (the last two: of old states)
 # The form of each row of a state, by the first of these keys that it has.
 ROWS: Dict[str, Dict[str, Any]] = {
-    "runs": {"of": int, "runs": str, "thread": NUMBER, "current": TEXT, "callers?": ({str: bool}, ERROR),
-             "waking?": ([str], ERROR), "arriving?": ([str], ERROR), "callbacks?": [str], "signals?": [str]},
+    "runs": {"of": int, "runs": ID, "thread": NUMBER, "current": (ID, type(None)), "callers?": ({str: bool}, ERROR),
+             "waking?": ([str], ERROR), "arriving?": ([ID], ERROR), "callbacks?": [str], "signals?": [str]},
     "thread": {**PLACE, "thread": int, "native": NUMBER, "daemon": bool, "main": bool, "stops": NUMBER, "spent": NUMBER,
-               "new_stops?": NUMBER, "asleep?": FLAG, "loop": TEXT, "call": CALL, "connections?": object},
-    "task": {**PLACE, "task": str, "number": int, "loop": str, "wait": int, "waits": (OBJECT, type(None), ERROR),
-             "limit": bool, "sets": [str], "parent?": str, "completes?": object, "connections?": object,
+               "new_stops?": NUMBER, "asleep?": FLAG, "loop": (ID, type(None)), "call": CALL, "connections?": object},
+    "task": {**PLACE, "task": ID, "number": int, "loop": ID, "wait": int, "waits": (OBJECT, type(None), ERROR),
+             "limit": bool, "sets": [ID], "parent?": str, "completes?": object, "connections?": object,
              "asks?": object},
-    "asked": {"of": int, "asked": str, "loop": str, "name": str},
+    "asked": {"of": int, "asked": ID, "loop": ID, "name": str},
     "child": {"of": int, "child": NUMBER, "name": str, "ended": FLAG},
-    "semaphore": {"of": int, "semaphore": TEXT, "count": int},
-    "queue": {"of": int, "queue": TEXT, "by?": object, "in?": object},
+    "semaphore": {"of": int, "semaphore": FILE, "count": int},
+    "queue": {"of": int, "queue": FILE, "by?": object, "in?": object},
     "wait": {"of": int, "wait": object, "by": object, "nameless?": object, "signals?": object},
     "quiet": {"of": int, "quiet": object, "loops": object, "apart?": object, "steady?": object},
     "sleeper": {"of": int, "sleeper": object, "ends": object}}
@@ -310,13 +312,14 @@ def head_of(row: Dict[str, Any], path: str, at: int) -> Look:
 
 def close(look: Optional[Look], path: str, ended: bool = False) -> None:
     """Says what a state lacks that has no last line, or other rows than that counts. A task whose loop, or whose loop's
-    thread, isn't there may wait for anything."""
+    thread or current task, isn't there may wait for anything."""
     if look is None:
         return
     look.is_whole = look.is_whole and ended and are_alike(look) and have_loops(look) and are_tasks(look)
+    whole = {key for key, loop in look.loops.items() if (loop["thread"] is None or loop["thread"] in look.threads)
+             and (loop["current"] is None or loop["current"] in look.tasks)}
     for row in look.tasks.values():
-        loop = look.loops.get(row.more["loop"])
-        if loop is None or loop["thread"] is not None and loop["thread"] not in look.threads:
+        if row.more["loop"] not in whole:
             row.fault = row.fault or "its event loop isn't whole in the state"
     if not look.is_whole:
         look.warnings.append(f"{shown(path)}: the state of process {look.pid} is not whole: what is missing is unknown")
