@@ -61,7 +61,8 @@ FORMS = {key: re.compile(form) for key, form in {
     "links": list_of(rf"{A_PID}|#Port<[\d.]+>"), "registered_name": rf"\[\]|{AN_ATOM}", "dictionary": TERMS,
     "initial_call": rf"{{{AN_ATOM},{AN_ATOM},\d+}}", "message_queue_len": r"\d+",
     "strategies": r"cut|\[(?:(?:one_for_one|one_for_all|rest_for_one|simple_one_for_one),?)*\]", "reductions": r"\d+",
-    "status": "exiting|garbage_collecting|runnable|running|suspended|waiting", "current_stacktrace": r"\[.*\]"}.items()}
+    "status": "exiting|garbage_collecting|runnable|running|suspended|waiting",
+    "current_stacktrace": rf"\[(?:{{{AN_ATOM},{AN_ATOM},\d+,\[[^][]*\]}},?)*\]"}.items()}
 OF_ELIXIR = re.compile(r"'Elixir\.([\w.]+)'")
 FUN = re.compile(r"'-(.*)/\d+-(fun-\d+)-'")
 WORD = r"(\w+|'[^']*')"
