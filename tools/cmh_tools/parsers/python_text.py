@@ -332,11 +332,14 @@ def have_loops(look: Look) -> bool:
 
 
 def are_tasks(look: Look) -> bool:
-    """Whether each object with the address of a task is described as one: who doesn't see that may miss a cancel."""
+    """Whether each object with the address of a task is described as one, and each task that isn't done has a row: who
+    doesn't see that may miss a cancel."""
     values: List[Any] = [frame.has for row in look.rows() for frame in row.frames] if look.tasks else []
     values += [row.more["waits"] for row in look.tasks.values()]
     for value in values:
-        if isinstance(value, dict) and value.get("id") in look.tasks and value.get("type") != "Task":
+        is_there = isinstance(value, dict) and value.get("id") in look.tasks
+        is_task = isinstance(value, dict) and value.get("type") == "Task"
+        if is_there and not is_task or is_task and not is_there and value.get("done") is False:
             return False
         values += value if isinstance(value, list) else value.values() if isinstance(value, dict) else ()
     return True
