@@ -126,6 +126,7 @@ class PythonParser(Parser):
         hosts = {(look.machine(), look.place()[0]) for look in looks if look.machine()}
         if len({machine for machine, _ in hosts}) < len(hosts):
             raise Refusal(f"{readings[0].path}: its states have two names of one machine")
+        begun = {look.place(child) for look in looks for child in look.children}
         self.is_alone = len(places) == 1
         for look in looks:
             self.looks.setdefault(look.place(), []).append(look)
@@ -138,6 +139,8 @@ class PythonParser(Parser):
                 reading.missing = "its state isn't whole, so processes may be missing"
             elif lost:
                 reading.missing = f"it has begun process {lost[0]}, which isn't in the states"
+            elif look.has_parent() and look.place() not in begun and look.place(look.head.get("parent")) not in places:
+                reading.missing = f"process {look.head['parent']}, which has begun it, isn't in the states"
         if are_timed(looks):
             readings.sort(key=lambda reading: float(reading.rows[0].head["began"]))
             for reading in readings:

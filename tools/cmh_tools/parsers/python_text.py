@@ -84,6 +84,7 @@ BEGINS = re.compile(r"threading\.(Thread\.)?(_bootstrap|_bootstrap_inner|run)$|a
                     r"|multiprocessing\.queues\.(Queue\.)?_feed$"
                     r"|multiprocessing\.(pool\.(worker|mapstar)|process\.BaseProcess\.(run|_bootstrap))$")
 LIMITED = re.compile(r"threading\.(Condition\.wait|Thread\.(join|_wait_for_tstate_lock))$|selectors\.\w+\.select$")
+ORPHAN = 1  # the parent of one whose own parent has ended
 FORKED = "multiprocessing.process.BaseProcess._bootstrap"  # what stands outside of it is what the parent did
 FAULT_HEAD = re.compile(r"(?:Current thread|Thread) (0x[0-9a-f]+)(?: \[(.*)\])? \(most recent call first\):$")
 FAULT_FRAME = re.compile(r'  File "(.*)", line (\d+|\?\?\?)(?: in (.*))?$')
@@ -188,6 +189,11 @@ class Look:
         left: Any = self.head.get("alarm")
         return bool(self.shown_by) or self.by_faulthandler or is_number(left) and (
             left <= 0 or "on_alarm" in self.head)
+
+    def has_parent(self) -> bool:
+        """Whether multiprocessing has begun it, and who has done so lives."""
+        steps = (step for row in self.threads.values() for step in row.more.get("frames", ()))
+        return self.head.get("parent") != ORPHAN and any(step.get("in") == FORKED for step in steps)
 
     def place(self, pid: Any = None) -> Tuple[Any, Any]:
         """What tells its OS process, or another one of its machine, from those of all machines."""
