@@ -46,25 +46,25 @@ STATE = re.compile("[A-Za-z]")
 FILE = re.compile(r"(?!pipe:|socket:|anon_inode:).+|(pipe|socket):\[\d{1,20}\]"
                   r"|anon_inode:(\[[\w.: -]+\]|[\w.: ()-]+)", re.S)
 # What more is known of a descriptor: its file by numbers, and what the kernel says of some kinds.
-MORE = re.compile(r"(?:fifo|file|queue) [0-9a-f]{1,16}:\d{1,20}|memory [0-9a-f]{1,8}:[0-9a-f]{1,8} \d{1,20}"
+MEMORY = "memory [0-9a-f]{1,8}:[0-9a-f]{1,8} [0-9]{1,20}"
+MORE = re.compile(rf"(?:fifo|file|queue) [0-9a-f]{{1,16}}:\d{{1,20}}|{MEMORY}"
                   r"|open \d{1,10}:\d{1,10}|lock: .*|it_value: \(\d{1,20}, \d{1,9}\)"
                   r"|(?:eventfd-id|UserFiles|scm_fds):\s*\d{1,10}|Pid:\s*-?\d{1,10}|sigmask:\s*[0-9a-f]{1,16}")
 PID = range(1 << 22)  # what the kernel numbers processes and threads with
 THREAD = {"tid": PID, "state": STATE, "inner?": PID, "comm?": str, "call?": str, "args?": [HEX] * 6,
           "counts?": [int, int], "set?": ([[int, int]], [[int, int, int]]), "words?": re.compile("([0-9a-f]{2})*"),
-          "range?": [int] * 4, "path?": str, "wchan?": str, "memory?": str, "mask?": HEX, "key?": int, "users?": [int],
-          "changed?": int, "within?": str, "frames?": [str], "stack?": [int], "cut?": bool, "again?": bool,
-          "object?": [str, int], "limit?": [(float, int, type(None))] * 2, "waited?": (float, int), "pending?": bool,
-          "addressed?": bool, "family?": range(1 << 16), **OLD}
+          "range?": [int] * 4, "path?": str, "wchan?": str, "memory?": re.compile(f"({MEMORY})?"), "mask?": HEX,
+          "key?": int, "users?": [int], "changed?": int, "within?": str, "frames?": [str], "stack?": [int],
+          "cut?": bool, "again?": bool, "object?": [str, int], "limit?": [(float, int, type(None))] * 2,
+          "waited?": (float, int), "pending?": bool, "addressed?": bool, "family?": range(1 << 16), **OLD}
 OWNER: Row = {"pid": PID, "ppid": PID, "comm": str, "group?": PID, "session?": PID, "exe?": str, "command?": str,
               "net?": str, "living?": int, "TracerPid?": re.compile(r"\d{1,9}"), "SigCgt?": HEX, "SigIgn?": HEX,
-              "fds": {re.compile(r"\d{1,9}|memory .*"): [FILE, re.compile("r?w?"), MORE, ...]}, "threads?": [THREAD],
+              "fds": {re.compile(rf"\d{{1,9}}|{MEMORY}"): [FILE, re.compile("r?w?"), MORE, ...]}, "threads?": [THREAD],
               "kin?": [PID], "timers?": bool, "aio?": bool, "runtime?": str, "frames?": [[str, int, int]],
               "modules?": [[str, str]], "start?": int, "NSpid?": NUMBERS, "NSpgid?": NUMBERS, "collects?": bool,
               "state": STATE, **OLD}
-UNREADABLE = {**{f"{key.rstrip('?')}?": shape for key, shape in OWNER.items()}, "pid": PID,
-              "unreadable": re.compile(".+"),
-              "apart?": bool}  # (the last one: beside those that were asked for)
+UNREADABLE = {**{f"{key.rstrip('?')}?": shape for key, shape in OWNER.items()}, "pid": PID, "ppid": PID,
+              "comm": str, "unreadable": re.compile(".+"), "apart?": bool}  # (the last one: beside those asked for)
 SOCKET = {"socket": int, "kind": re.compile("tcp|u_(str|dgr|seq)"), "state": str, "at": str, "to": str,
           "peers": [int], "away?": bool, "unread?": int, "timer?": object}
 # The form of each row, by the first of these keys that it has.
