@@ -175,7 +175,8 @@ class Screen:
         busy = [index for index in self.this.well if self.waits.processes[index].sign is Sign.GOES_ON]
         are_told = self.is_head_long and len(busy) <= BUSY
         names = " and ".join(cut_name(self.name(index), SHORT) for index in busy) if are_told else ""
-        return f"{names or f'{len(busy):,}'} {'is' if len(busy) == 1 else 'are'} busy." if busy else "Nobody is busy."
+        who = names or (number_of(len(busy), "other", "others") if self.is_head_long else f"{len(busy):,}")
+        return f"{who} {'is' if len(busy) == 1 else 'are'} busy." if busy else "Nobody is busy."
 
     def free_words(self) -> str:
         blocked = self.those_blocked()
@@ -341,10 +342,11 @@ class Screen:
         return AsItIs("\n".join(cut(line, self.width) for line in lines if line.strip()))
 
     def line_of(self, name: str, what: str, arrow: str, frames: str) -> str:
-        """Returns one line, with as much of what one waits at and of its frames as fits."""
+        """Returns one line, with as much of what one waits at and of its frames as fits beside for whom it waits."""
         room = self.width - len(name)
-        most = max(LEAST, room - len(arrow) - 1) if arrow else room
-        first, innermost = f"{cut_words(what, most)} {arrow}".strip(), frames.split(" < ")[0]
+        most = room - len(arrow) - 1 if arrow else room
+        what, innermost = cut_words(what, most) if most >= LEAST else "", frames.split(" < ")[0]
+        first = f"{what} {arrow}".strip()
         shorter = (frames, innermost, innermost.rpartition(" (")[2].rstrip(")"))
         fitting = next((text for text in shorter if len(first) + len(text) + 2 <= room), "")
         return AsItIs(cut(f"{name}{first}  {fitting}".rstrip(), self.width))
