@@ -18,6 +18,7 @@ INOTIFY = "anon_inode:inotify"
 TERMINALS = ("/dev/tty", TERMINAL, MASTER, "/dev/console")
 UNARMED, AT_LISTENER = "it_value: (0, 0)", "LISTEN"
 LOOPS = re.compile(r".*/lib(event|ev|uv|glib-2)\b[^/]*")  # libraries with a loop for events
+POLLS = re.compile("uv__io_poll|uv_run|ev_run|event_base_loop")  # the same where it is a part of the program
 ONESHOT, EVENTS = 1 << 30, 0xFFFF  # of epoll: a file that is seen once, and what it is seen for
 
 
@@ -255,7 +256,7 @@ def may_come(wait: Wait) -> bool:
 def is_in_loop(thread: Thread) -> bool:
     """Whether a thread waits in the loop of a library of events, and not in something that this has called."""
     inner = next((step for step in thread.frames if not is_of_system(step)), None)
-    return inner is not None and LOOPS.fullmatch(inner.module) is not None
+    return inner is not None and (LOOPS.fullmatch(inner.module) or POLLS.fullmatch(inner.function)) is not None
 
 
 def is_plain(words: List[str]) -> bool:
