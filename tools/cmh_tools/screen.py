@@ -609,7 +609,7 @@ class Screen:
         doubts = self.this.doubts_of(first)
         number = len(doubts)
         doubters = sum(max(1, len(doubt.who)) for doubt in doubts)
-        several = f"none of {'these' if number <= DOUBTS else f'the {number}'} ever"
+        several = f"none of {'these' if number <= DOUBTS else f'the {number} (see --all)'} ever"
         who = {1: "it never", 2: "neither ever"}.get(doubters, several)
         what, numbers = f"{who} frees {self.whose_wait(first)}", ",".join(str(doubt.number) for doubt in doubts)
         if not self.more.has_true:
