@@ -12,7 +12,7 @@ from .idle import leave_out
 from .model import Sign, Strength
 from .nearness import owners_of
 from .parsers import MODULES, State, parser_of
-from .sketch import Process, Sketch
+from .sketch import Process, Sketch, has_how
 from .sketch_json import read_sketch
 from .snapshots import both
 
@@ -44,16 +44,18 @@ def with_facts(sketch: Sketch, facts: Facts, what: str = "processes") -> Sketch:
 
 def let_holders_work(sketch: Sketch) -> None:
     """Says of each one at rest that it is blocked, if it is wanted: whoever has something that another one wants is in
-    the middle of work, wherever it waits."""
+    the middle of work, wherever it waits. Who may have moved between the looks isn't in one wait."""
     wanted = wanted_ones({process.name: process for process in sketch.processes if process.sign is Sign.BLOCKED})
     for process in sketch.processes:
-        able = {wakers.strength for part in process.parts for wakers in part} & {Strength.NAMED, Strength.ABLE}
-        if process.sign is Sign.RESTS and process.name in wanted and able:
+        counted = {wakers.strength for part in process.parts for wakers in part} & {Strength.NAMED, Strength.ABLE}
+        is_one_wait = counted and not has_how(process, "uncounted")
+        if process.sign is Sign.RESTS and process.name in wanted and is_one_wait:
             process.sign = Sign.BLOCKED
 
 
 def wanted_ones(blocked: Dict[str, Process]) -> Set[str]:
-    """Returns the names of those who have a lock that a blocked one waits for, and of those for whom these wait."""
+    """Returns the names of those who have a lock that a blocked one waits for, and of whomever these wait for by
+    name."""
     wanted = {name for process in blocked.values() for name in owners_of(process.parts)}
     todo = [blocked[name] for name in wanted if name in blocked]
     for process in todo:

@@ -149,7 +149,7 @@ class Screen:
         more += f"{',' if more else ';'} {len(behind) - len(sure):,} more likely" if len(behind) > len(sure) else ""
         others = len(self.this.roots.roots) - len(roots)
         likely = f" {number_of(others, 'more group is', 'more groups are')} likely to." if others else ""
-        rest = f"{more}. {self.life()}{likely}"
+        rest = f"{more}. {self.life(is_beside=True)}{likely}"
         return self.group_words(roots, members) + rest
 
     def told_roots(self) -> List[int]:
@@ -170,12 +170,13 @@ class Screen:
             return f"{self.name(members[0])}{where} {verb} never be unblocked"
         return f"{self.noun_of(members)}{where} wait for each other"
 
-    def life(self) -> str:
-        """Returns whether anybody is at work, and who, if they are few."""
+    def life(self, is_beside: bool = False) -> str:
+        """Returns whether anybody is at work, maybe beside a group, and who, if they are few."""
         busy = [index for index in self.this.well if self.waits.processes[index].sign is Sign.GOES_ON]
         are_told = self.is_head_long and len(busy) <= BUSY
         names = " and ".join(cut_name(self.name(index), SHORT) for index in busy) if are_told else ""
-        who = names or (number_of(len(busy), "other", "others") if self.is_head_long else f"{len(busy):,}")
+        number = number_of(len(busy), "other", "others") if is_beside and self.is_head_long else f"{len(busy):,}"
+        who = names or number
         return f"{who} {'is' if len(busy) == 1 else 'are'} busy." if busy else "Nobody is busy."
 
     def free_words(self) -> str:

@@ -210,8 +210,8 @@ def leaver_of(process: Process, why: str, last: Sign) -> Process:
 
 
 def mover_of(process: Process, why: str) -> Process:
-    """One that isn't at the same wait in both states: a deadlock never ends. Nor does a fact on the place that it has
-    left decide it."""
+    """One that isn't at the same wait in both states, nor at rest in each: a deadlock never ends. Nor does a fact on
+    the place that it has left decide it."""
     is_by_hand = BY_HAND in process.because
     return replace(process, sign=Sign.GOES_ON, parts=[], reason=process.reason if process.sign in GOING else why,
                    because=[BY_HAND if is_by_hand else SYSTEM], operation="", is_garbled=process.sign in GOING)

@@ -60,10 +60,12 @@ LIBRARYS = (CONNECTION, WATCHER)  # how those are idle that run code of a librar
 
 class Goroutines(Snapshot):
     """The goroutines at one time: where each one stands, by its number; who has the address of a channel or lock in a
-    frame, and doesn't wait at it; all of them; and whether all were stopped when they were read."""
+    frame, and doesn't wait at it; who was begun by a method of each type; all of them; and whether all were stopped
+    when they were read."""
 
     places: Dict[str, Place]
     reach: Reach
+    begun: Reach
     everybody: Wakers
     is_stopped: bool
     has_signals: bool
@@ -158,7 +160,7 @@ class GoParser(Parser):
         snapshot.has_signals = any(frame.function == SIGNALS for goroutine in rows for frame in goroutine.frames)
         own = [goroutine for goroutine in rows if snapshot.places[goroutine.number].idle not in LIBRARYS]
         snapshot.everybody = wakers("same-process", [self.names[goroutine.number] for goroutine in own])
-        snapshot.reach = Reach()
+        snapshot.reach, snapshot.begun = Reach(), Reach()
         for goroutine in own:
             here = snapshot.places[goroutine.number].objects
             for address in dict.fromkeys(ADDRESS.findall(" ".join(frame.arguments for frame in goroutine.frames))):
@@ -167,7 +169,7 @@ class GoParser(Parser):
             for receiver in receivers_past_lock(goroutine, snapshot.places[goroutine.number]):
                 snapshot.reach.add(receiver, [self.names[goroutine.number]], "inside")
             for maker in types_of(goroutine.created_by):
-                snapshot.reach.add(maker, [self.names[goroutine.number]], "inside")
+                snapshot.begun.add(maker, [self.names[goroutine.number]], "guess")
 
     def process_of(self, subject: Goroutine, snapshot: Goroutines) -> Process:
         goroutine, name = subject, self.names[subject.number]
@@ -237,11 +239,13 @@ class GoParser(Parser):
         return f"state {self.looks[id(goroutine)] + 1}"
 
     def waiter(self, goroutine: Goroutine, place: Place, name: str, snapshot: Goroutines) -> Process:
-        """One that waits for another goroutine, and the text doesn't show for which."""
+        """One that waits for another goroutine, and the text doesn't show for which: first for one in whose frames it
+        stands, or for those whom the type of a library has begun in whose method it waits, as a group has its tasks."""
         inside = self.inside(goroutine, place, name, snapshot)
         names = list(dict.fromkeys(other for some in inside for other in some.names()))
         why = f"{goroutine.state}: {ENDERS.get(place.operation, DOESNT_SHOW)}{also_at(names)}"
-        parts: List[Part] = any_of(*inside, snapshot.everybody, unseen("unshown"))
+        begun = [] if inside else [some for maker in types_of(place.called) for some in snapshot.begun.of(maker)]
+        parts: List[Part] = any_of(*inside, *begun, snapshot.everybody, unseen("unshown"))
         children = self.children(goroutine, place, snapshot)
         if children:
             parts = all_of(children, COMES, beside=(snapshot.everybody, unseen("unshown")))
@@ -255,9 +259,8 @@ class GoParser(Parser):
         return blocked(name, parts, [SYSTEM], reason=why)
 
     def inside(self, goroutine: Goroutine, place: Place, name: str, snapshot: Goroutines) -> Tuple[Wakers, ...]:
-        """Returns those in whose frames stands what one waits at, or who run a method of that whose lock it wants, or
-        who were started by the type of a library in whose method it waits, as by a group."""
-        things = [*place.objects, *receiver_locked(goroutine, place), *types_of(place.called)]
+        """Returns those in whose frames stands what one waits at, or who run a method of that whose lock it wants."""
+        things = [*place.objects, *receiver_locked(goroutine, place)]
         found = [some for thing in things for some in snapshot.reach.of(thing)]
         if sum(len(some.names()) for some in found) > MOST:
             return ()

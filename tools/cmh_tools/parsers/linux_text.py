@@ -30,7 +30,8 @@ OF_JAVA = "/libjvm.so"
 OPEN = "open "  # how the name of an open file begins, which several descriptors may share
 # How many arguments tell those calls from others that often come back to one place, without a limit that is a number;
 # the other registers have what was left in them.
-ARGUMENTS = {"nanosleep": 2, "poll": 2, "clock_nanosleep": 4, "epoll_wait": 3, "select": 5, "ppoll": 5}
+ARGUMENTS = {"nanosleep": 2, "poll": 2, "clock_nanosleep": 4, "epoll_wait": 3, "epoll_pwait": 3, "select": 5,
+             "ppoll": 5}
 MOST_ARGUMENTS = 6
 WORD = 4  # how far the two words are apart at which threads wait for a condition of glibc
 CONDITION = re.compile(r"pthread_cond_\w*wait|_ZNSt18condition_variable\d+wait\w+|std::condition_variable::wait")
@@ -333,13 +334,14 @@ def call_threads(machines: List[Machine]) -> None:
 
 def keep_calls(machines: List[Machine]) -> None:
     """Lets what the unwound stack of a thread says count in later readings too, where it is in the same call, and in
-    which call of a library it is where it is still at the same wait."""
+    which call of a library it is where it is still at the same wait. Who is at the other word of a condition has the
+    first one's."""
     known = {(owner.pid, owner.row.get("start"), thread.tid): thread for machine in machines[:1]
              for owner in machine.owners for thread in owner.threads}
     for owner in (owner for machine in machines[1:] for owner in machine.owners):
         for thread in owner.threads:
             first = known.get((owner.pid, owner.row.get("start"), thread.tid), thread)
-            if are_at_condition(first, thread):
+            if is_at_same_condition(first, thread):
                 thread.row["args"], thread.arguments = first.row["args"], first.arguments
             if first is not thread and thread.counts and call_of(first) == call_of(thread):
                 thread.frames, thread.is_whole = first.frames, first.is_whole
@@ -353,7 +355,7 @@ def call_of(thread: Thread) -> Tuple[object, List[str]]:
     return call, (thread.row.get("args") or [])[:ARGUMENTS.get(str(call), MOST_ARGUMENTS)]
 
 
-def are_at_condition(first: Thread, thread: Thread) -> bool:
+def is_at_same_condition(first: Thread, thread: Thread) -> bool:
     """Whether a thread is at the same condition in two readings. Who comes next waits at the other one of its words."""
     (call, args), (later_call, later_args) = call_of(first), call_of(thread)
     is_one = call == later_call == "futex" and args[1:] == later_args[1:] and CONDITION.fullmatch(first.within)
