@@ -244,7 +244,7 @@ class GoParser(Parser):
         inside = self.inside(goroutine, place, name, snapshot)
         names = list(dict.fromkeys(other for some in inside for other in some.names()))
         why = f"{goroutine.state}: {ENDERS.get(place.operation, DOESNT_SHOW)}{also_at(names)}"
-        begun = [] if inside else [some for maker in types_of(place.called) for some in snapshot.begun.of(maker)]
+        begun = [] if inside else [group for maker in types_of(place.called) for group in snapshot.begun.of(maker)]
         parts: List[Part] = any_of(*inside, *begun, snapshot.everybody, unseen("unshown"))
         children = self.children(goroutine, place, snapshot)
         if children:

@@ -276,7 +276,7 @@ def wait_for_some(thread: Thread, place: Place, name: str, snapshot: Threads) ->
     if place.has(OUTSIDE):
         return wait_for_outside(thread, name, f"{place.call}: the state doesn't show what is outside of the JVM")
     reached = snapshot.heap.reach_of(thread)
-    near = tuple(some for some in snapshot.runners(place) if some.names() != [name]) if reached is None else ()
+    near = tuple(group for group in snapshot.runners(place) if group.names() != [name]) if reached is None else ()
     part = (*near, *snapshot.able(thread), *snapshot.owners(thread), *snapshot.breaking(place))
     because = [premise(INNER if reached is None else REACHES)]
     is_receiver = is_receive(place) and is_own_loop(stack_of(thread))
