@@ -61,21 +61,23 @@ VARY, BOTH = {"at", "again", "completes", "parent"}, {key.rstrip("?") for key in
 STANDARD = re.compile(r"/lib(?:64)?/python3(?:\.\d+)?/(?!(?:site|dist)-packages/)(.*)$|^<frozen (.*)>$")
 # The modules of the library that are written in Python, of 3.8 to 3.14.
 MODULES = frozenset(
-    "__future__ _collections_abc _colorize _compression _dummy_thread _markupbase _py_abc _py_warnings _pydatetime "
-    "_pydecimal _pyio _pylong _pyrepl _sitebuiltins _strptime _threading_local _weakrefset abc aifc annotationlib "
-    "argparse ast asynchat asyncio asyncore base64 bdb bisect bz2 cProfile calendar cgi cgitb chunk cmd code codecs "
-    "codeop collections colorsys compileall compression concurrent configparser contextlib contextvars copy copyreg "
-    "crypt csv ctypes curses dataclasses datetime dbm decimal difflib dis distutils doctest dummy_threading email "
-    "encodings ensurepip enum filecmp fileinput fnmatch formatter fractions ftplib functools genericpath getopt "
-    "getpass gettext glob graphlib gzip hashlib heapq hmac html http imaplib imghdr imp importlib inspect io ipaddress "
-    "json keyword linecache locale logging lzma mailbox mailcap mimetypes modulefinder multiprocessing netrc nntplib "
-    "ntpath nturl2path numbers opcode operator optparse os pathlib pdb pickle pickletools pipes pkgutil platform "
-    "plistlib poplib posixpath pprint profile pstats pty py_compile pyclbr pydoc queue quopri random re reprlib "
-    "rlcompleter runpy sched secrets selectors shelve shlex shutil signal site sitecustomize smtpd smtplib sndhdr "
-    "socket socketserver sqlite3 sre_compile sre_constants sre_parse ssl stat statistics string stringprep struct "
-    "subprocess sunau symbol symtable sysconfig tabnanny tarfile telnetlib tempfile textwrap threading timeit tkinter "
-    "token tokenize tomllib trace traceback tracemalloc tty turtle types typing unittest urllib usercustomize uu uuid "
-    "venv warnings wave weakref webbrowser wsgiref xdrlib xml xmlrpc zipapp zipfile zipimport zoneinfo".split()
+    "__future__ _aix_support _android_support _apple_support _bootlocale _bootsubprocess _collections_abc _colorize "
+    "_compat_pickle _compression _dummy_thread _ios_support _markupbase _opcode_metadata _osx_support _py_abc "
+    "_py_warnings _pydatetime _pydecimal _pyio _pylong _pyrepl _sitebuiltins _strptime _threading_local _weakrefset "
+    "abc aifc annotationlib antigravity argparse ast asynchat asyncio asyncore base64 bdb binhex bisect bz2 cProfile "
+    "calendar cgi cgitb chunk cmd code codecs codeop collections colorsys compileall compression concurrent "
+    "configparser contextlib contextvars copy copyreg crypt csv ctypes curses dataclasses datetime dbm decimal "
+    "difflib dis distutils doctest dummy_threading email encodings ensurepip enum filecmp fileinput fnmatch formatter "
+    "fractions ftplib functools genericpath getopt getpass gettext glob graphlib gzip hashlib heapq hmac html http "
+    "idlelib imaplib imghdr imp importlib inspect io ipaddress json keyword lib2to3 linecache locale logging lzma "
+    "mailbox mailcap mimetypes modulefinder msilib multiprocessing netrc nntplib ntpath nturl2path numbers opcode "
+    "operator optparse os pathlib pdb pickle pickletools pipes pkgutil platform plistlib poplib posixpath pprint "
+    "profile pstats pty py_compile pyclbr pydoc pydoc_data queue quopri random re reprlib rlcompleter runpy sched "
+    "secrets selectors shelve shlex shutil signal site sitecustomize smtpd smtplib sndhdr socket socketserver sqlite3 "
+    "sre_compile sre_constants sre_parse ssl stat statistics string stringprep struct subprocess sunau symbol "
+    "symtable sysconfig tabnanny tarfile telnetlib tempfile test textwrap this threading timeit tkinter token "
+    "tokenize tomllib trace traceback tracemalloc tty turtle turtledemo types typing unittest urllib usercustomize uu "
+    "uuid venv warnings wave weakref webbrowser wsgiref xdrlib xml xmlrpc zipapp zipfile zipimport zoneinfo".split()
 )
 PACKAGE = re.compile(r"/(?:site|dist)-packages/(.*)$")
 # Frames of the library that begin the work of a thread, a task or a worker.
