@@ -82,7 +82,7 @@ def summary(dump: Dump, path: str, asked: List[Proposal]) -> Iterator[str]:
     total = len(dump.sketch.processes)
     yield f"{shown(path)}: {len(dump.parts[0]):,} processes of {total:,} ({', '.join(words) or 'none'})"
     for line in dump.cut_lines():
-        yield f"cut to the program's limits: {line}"
+        yield f"made smaller: {line}"
     if dump.parts[1:]:
         yield f"this is the first of {len(dump.parts)} dumps, which cmh-explain makes of the notes: it says all"
     unknown = [process for process, kind in zip(dump.sketch.processes, kind_of) if kind == UNKNOWN]

@@ -373,7 +373,7 @@ class Explanation(Findings):
 
     def cut_lines(self) -> List[str]:
         words = ", and ".join(self.dump.cut_lines())
-        return [f"The dump is cut to the program's limits: {words}. All are counted here, and what is said of those "
+        return [f"The dump is made smaller: {words}. All are counted here, and what is said of those "
                 "that it hasn't follows from the others."] if words else []
 
     def warnings(self) -> List[str]:

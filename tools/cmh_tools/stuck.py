@@ -20,9 +20,10 @@ from .files import Refusal
 from .model import COMES, Part, Sign, Strength, Wakers, once
 from .nearness import NEAR, Nearness
 from .rule import Decision, Subject
-from .sketch import ALL, ANY, DONE, ENDED, GOING, MANY, RUNS, UNKNOWN, Process, Sketch, lists_of_wakers, shared_lists, \
+from .sketch import ALL, ANY, DONE, ENDED, GOING, RUNS, UNKNOWN, Process, Sketch, lists_of_wakers, shared_lists, \
     shared_waits
 
+LONG = 65_536  # names in all lists; with more, equal lists are one
 MOST = 5_000_000  # names in all lists; more would take more memory than a machine may have
 NAMED, ABLE = Strength.NAMED, Strength.ABLE
 Key = Tuple[int, int]  # of a list: its length, and the sum of its hashes
@@ -35,7 +36,7 @@ def share_lists(sketch: Sketch) -> int:
     the same lists again. Returns how many names all lists have."""
     while True:
         number = sum(map(len, lists_of_wakers(sketch.processes)))
-        if number <= MANY or not share_more(sketch):
+        if number <= LONG or not share_more(sketch):
             return number
 
 
