@@ -171,7 +171,7 @@ class Likely:
 
     def line_on(self, process: Process) -> str:
         """Returns the line that those who are left of its wakers are all who may end the wait of a process."""
-        left = (name for part in process.parts for wakers in part for name in self.decision.left_of(wakers, part))
+        left = (name for part in process.parts for names in self.decision.left_of(part) for name in names)
         names: Dict[str, None] = {}
         while len(names) <= MOST and (name := next(left, None)) is not None:  # (many may share a long list)
             names[name] = None
@@ -183,8 +183,8 @@ class Likely:
 
 
 def part_left(part: Part, decision: Decision) -> Part:
-    left = [wakers._replace(who=decision.left_of(wakers, part)) for wakers in part]
-    return tuple(wakers for wakers in left if wakers.names())
+    """Returns a part with those of its wakers alone who aren't set aside."""
+    return tuple(wakers.of(names) for wakers, names in zip(part, decision.left_of(part)) if names)
 
 
 def freeing_lines(names: Sequence[str]) -> Iterator[str]:

@@ -56,7 +56,7 @@ def stand_in(sketch: Sketch, inside: List[str], threads: Set[str]) -> None:
         if isinstance(group.who, Anybody) or names is group.who:
             return (group,)
         is_named = group.strength is Strength.NAMED
-        return (wakers("same-process", names, *group.because) if is_named else group._replace(who=names), *part[1:])
+        return (wakers("same-process", names, *group.because) if is_named else group.of(names), *part[1:])
 
     sketch.processes = [process for process in sketch.processes if process.name not in threads]
     for process in sketch.processes:

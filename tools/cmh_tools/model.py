@@ -114,7 +114,11 @@ class Wakers(NamedTuple):
         left_out = set(gone)
         if isinstance(self.who, Anybody) or left_out.isdisjoint(self.who):
             return self
-        return self._replace(who=[name for name in self.who if name not in left_out])
+        return self.of([name for name in self.who if name not in left_out])
+
+    def of(self, names: Sequence[str]) -> Wakers:
+        """Returns those with these names, who end the part in the same way."""
+        return self if names is self.who else Wakers(names, *self[1:])
 
 
 Part = Tuple[Wakers, ...]

@@ -62,8 +62,8 @@ class Nearness:
         behind: Dict[int, List[int]] = {}
         for index, subject in enumerate(self.waits.subjects):
             for part in subject.parts if self.waits.kinds[index] == ANY else ():
-                names = {name for wakers in part if wakers.how in HAVE
-                         for name in self.waits.decision.left_of(wakers, part) if name != subject.name}
+                names = {name for wakers, left in zip(part, self.waits.decision.left_of(part)) if wakers.how in HAVE
+                         for name in left if name != subject.name}
                 if len(names) == 1:
                     behind.setdefault(self.waits.index[names.pop()], []).append(index)
         return behind

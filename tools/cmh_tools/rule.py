@@ -81,21 +81,18 @@ class Decision:
         self.subjects = [wake(subject) for subject in subjects]
         self.index = {subject.name: number for number, subject in enumerate(subjects)}
         self.signs = {subject.name: subject.sign for subject in self.subjects}
-        self.blocked, self.resting, self.moving = map(self.numbers_of, (
-            (Sign.BLOCKED,), (Sign.RESTS,), (Sign.GOES_ON, Sign.SLEEPS)))
+        numbers = numbers_by_sign(self.subjects)
+        self.blocked, self.resting = numbers[Sign.BLOCKED], numbers[Sign.RESTS]
+        self.moving = numbers[Sign.GOES_ON] | numbers[Sign.SLEEPS]
         self.kept: Dict[Tuple[int, FrozenSet[Sign]], Sequence[str]] = {}
+        self.left: Dict[int, Tuple[Part, List[Sequence[str]]]] = {}  # of parts, by their ids
         self.waits = waits_of(self.subjects)
-        self.named = {signs: self.names_of(signs) for signs in (PRESENT, NOT_ASIDE, BESIDE_NAMED, IDLE, MOVING)}
+        self.named = {signs: {subjects[number].name for sign in signs for number in numbers[sign]}
+                      for signs in (PRESENT, NOT_ASIDE, BESIDE_NAMED, IDLE, MOVING)}
         self.over: Set[int] = set()  # parts of which not all who are left are likely to be stuck, once that is known
         self.behind_idle = self.those_behind_idle()
         for signs in (NOT_ASIDE, BESIDE_NAMED):
             self.named[signs] -= self.behind_idle
-
-    def numbers_of(self, signs: Collection[Sign]) -> Set[int]:
-        return {number for number, subject in enumerate(self.subjects) if subject.sign in signs}
-
-    def names_of(self, signs: Collection[Sign]) -> Set[str]:
-        return {name for name, sign in self.signs.items() if sign in signs}
 
     def those_behind_idle(self) -> Set[str]:
         """Returns the names of those that wait, in each part, for a named one who is idle, as for the end of a thread
@@ -167,19 +164,25 @@ class Decision:
     def is_left(self, owner: str, part: Part) -> bool:
         """Whether somebody of a part isn't set aside, beside the waiter: it may stand in the list that all of its
         process share, and it wakes nobody while it waits."""
-        if self.has_named(part):
-            return True
-        lists = [self.left_of(wakers, part) for wakers in part]
-        return any(names and (len(names) > 1 or names[0] != owner) for names in lists)
+        for wakers, names in zip(part, self.left_of(part)):
+            if names and (len(names) > 1 or names[0] != owner or wakers.strength is Strength.NAMED):
+                return True
+        return False
 
-    def left_of(self, wakers: Wakers, part: Part) -> Sequence[str]:
-        """Returns those of some wakers of a part who aren't set aside."""
-        way = self.way_of(wakers, part)
-        return self.those(wakers, LEFT[way]) if way in LEFT else ()
+    def left_of(self, part: Part) -> List[Sequence[str]]:
+        """Returns those of each wakers of a part who aren't set aside: lists that are made once."""
+        if id(part) not in self.left:
+            ways = self.ways_of(part)
+            self.left[id(part)] = part, [self.those(wakers, LEFT[way]) if way in LEFT else ()
+                                         for wakers, way in zip(part, ways)]
+        return self.left[id(part)][1]
 
-    def way_of(self, wakers: Wakers, part: Part) -> Way:
-        """Returns in which way the wakers of a part count."""
-        return BESIDE if wakers.strength is Strength.ABLE and self.has_named(part) else wakers.strength
+    def ways_of(self, part: Part) -> List[Way]:
+        """Returns in which way each wakers of a part count."""
+        if len(part) == 1:
+            return [part[0].strength]
+        able: Way = BESIDE if self.has_named(part) else Strength.ABLE
+        return [able if wakers.strength is Strength.ABLE else wakers.strength for wakers in part]
 
     def has_named(self, part: Part) -> bool:
         """Whether a named one of a part is there."""
@@ -190,7 +193,9 @@ class Decision:
 
     def those(self, wakers: Wakers, signs: FrozenSet[Sign]) -> Sequence[str]:
         """Returns those of some wakers who have one of these signs: one list for all waits that share theirs."""
-        names, named = wakers.names(), self.named[signs]
+        names, named = wakers.who, self.named[signs]
+        if isinstance(names, Anybody):
+            return ()
         if len(names) == 1:
             return names if names[0] in named else ()
         key = id(wakers.who), signs
@@ -212,14 +217,14 @@ class Decision:
         """Returns the wakers of those parts by which members of a root are likely to be stuck, each list with those of
         it who are left and the names of the members that share it."""
         groups: Dict[Tuple[int, int, str, Strength], Tuple[Wakers, Sequence[str], Names]] = {}
-        for names, wakers, part in self.wakers_on(root):
-            left = self.left_of(wakers, part)
+        for names, wakers, left in self.wakers_on(root):
             key = id(wakers.who), id(left), wakers.how, wakers.strength
             groups.setdefault(key, (wakers, left, {}))[2][id(names)] = names
         return [(wakers, left, names_in(lists)) for wakers, left, lists in groups.values()]
 
-    def wakers_on(self, root: Iterable[int]) -> Iterator[Tuple[Sequence[str], Wakers, Part]]:
-        """Yields the wakers of these parts, with the names of the members whose wait they end."""
+    def wakers_on(self, root: Iterable[int]) -> Iterator[Tuple[Sequence[str], Wakers, Sequence[str]]]:
+        """Yields the wakers of these parts, with the names of the members whose wait they end, and those of them who
+        are left."""
         names: Dict[int, List[str]] = {}
         parts: Dict[int, List[Part]] = {}
         for number in root if self.likely else ():
@@ -227,7 +232,8 @@ class Decision:
                 holding = self.holding_parts(number)
                 parts[id(holding)] = holding
                 names.setdefault(id(holding), []).append(self.subjects[number].name)
-        return ((names[key], wakers, part) for key, holding in parts.items() for part in holding for wakers in part)
+        return ((names[key], wakers, left) for key, holding in parts.items() for part in holding
+                for wakers, left in zip(part, self.left_of(part)))
 
     def holding_parts(self, number: int) -> List[Part]:
         """Returns the parts by which one is likely to be stuck, and not for certain: one list for all that share them.
@@ -246,6 +252,14 @@ class Decision:
         and no member does so as the first."""
         number = self.index.get(name)
         return number is None or not (number in members or number in self.certain or self.signs[name] is Sign.ENDED)
+
+
+def numbers_by_sign(subjects: Iterable[Subject]) -> DefaultDict[Sign, Set[int]]:
+    """Returns the numbers of those who have each sign."""
+    numbers: DefaultDict[Sign, Set[int]] = defaultdict(set)
+    for number, subject in enumerate(subjects):
+        numbers[subject.sign].add(number)
+    return numbers
 
 
 def wake(subject: Subject) -> Subject:
@@ -301,8 +315,8 @@ class Graph:
     def add_part(self, part: Part, is_at_rest: bool) -> None:
         place = len(self.parts)
         self.parts.append((len(self.own), part))
-        for wakers in part:
-            way = AT_REST if is_at_rest else self.decision.way_of(wakers, part)
+        ways: List[Way] = [AT_REST] * len(part) if is_at_rest else self.decision.ways_of(part)
+        for wakers, way in zip(part, ways):
             for node in self.nodes_of(wakers.who, way):
                 self.ends[node].append((way, place))
 

@@ -84,7 +84,7 @@ def use_one_list(users: List[Process], as_it_is: bool, known: Dict[Key, Tuple[Se
     if first is group.who or names is not first and wanted != set(names):
         return False
     for process in users:
-        process.parts = [(process.parts[0][0]._replace(who=first),)]
+        process.parts = [(process.parts[0][0].of(first),)]
     return True
 
 
@@ -232,9 +232,9 @@ class Waits:
         part = self.subjects[index].parts[0]
         if all(wakers.strength is Strength.NAMED for wakers in part):
             return self.left[index]
-        nodes, rows = self.left[index], [(wakers, self.decision.left_of(wakers, part)) for wakers in part]
+        nodes, rows = self.left[index], [*zip(part, self.decision.left_of(part))]
         if any(len(names) < len(wakers.names()) for wakers, names in rows):
-            left = tuple(wakers if id(wakers.who) in self.shared else wakers._replace(who=names)
+            left = tuple(wakers if id(wakers.who) in self.shared else wakers.of(names)
                          for wakers, names in rows if names)
             nodes = self.nodes_of_part(left) or nodes
         near = [self.index[name] for wakers, names in rows if wakers.how in NEAR for name in names]
