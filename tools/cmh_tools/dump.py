@@ -7,12 +7,13 @@ from __future__ import annotations
 
 import json
 import re
+from functools import cached_property
 from typing import Any, Dict, List, NamedTuple, Optional, Sequence, Set, Tuple
 
 from .doubts import Doubt, Likely
 from .limits import ENTRIES, LONGEST
 from .reduction import Reduction
-from .roots import Roots
+from .roots import Knots
 from .sketch import Sketch
 from .sketch_json import text_of_rows, text_of_sketch
 from .stuck import Answer, Waits
@@ -89,7 +90,7 @@ class Dump:
             if likely.numbers:
                 sketch = likely.sketch(self.sketch)
                 dump = Dump(sketch, (), self, self.waits.without_doubts(sketch, likely.numbers.values()))
-                members = Roots(dump.waits, dump.low.members()).root_of
+                members = dump.knots.in_roots()
                 doubts = likely.doubts({self.waits.processes[index].name for index in members})
                 self.kept_likely = LikelyAnswer(dump, doubts, likely)
         return self.kept_likely
@@ -101,6 +102,11 @@ class Dump:
     @property
     def doubts(self) -> List[Doubt]:
         return self.likely_answer().doubts
+
+    @cached_property
+    def knots(self) -> Knots:
+        """Those who wait for each other, of all who are stuck."""
+        return Knots(self.waits, self.low.members())
 
     # The dump
 

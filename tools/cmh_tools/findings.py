@@ -11,7 +11,7 @@ from .proposals import Line, Proposal, Words, lines_of, propose
 from .reasons import Reason, Rests, counts_of
 from .doubts import Doubt
 from .rule import STATUSES, Decision, Headline
-from .roots import Roots, count_waiters, edges_among, ends, way, without_hubs
+from .roots import Knots, Roots, count_waiters, edges_among, ends, way, without_hubs
 from .sketch import ALL, ANY, BARE, ENDED, LIMIT, RUNS, UNKNOWN, Process, premise
 from .stuck import Answer, Waits
 
@@ -71,8 +71,8 @@ class Findings(Verdicts):
         self.open = set(self.undecided)
         self.ended = [at for at in range(self.waits.number) if self.waits.kinds[at] == ENDED]
         self.doubted = [set(doubt.waits) for doubt in dump.doubts]
-        self.roots = Roots(self.waits, self.stuck, {*self.certain.stuck},
-                           lambda members: len(self.doubts_of(members)))
+        knots = Knots(self.waits, self.stuck, {*self.certain.stuck}) if self.certain.stuck else self.dump.knots
+        self.roots = Roots(knots, lambda members: len(self.doubts_of(members)))
         self.rests = Rests(self.dump.sketch)
         self.left_over = self.waits.stuck_without(self.roots.root_of) if self.stuck else []
 

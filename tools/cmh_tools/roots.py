@@ -16,53 +16,63 @@ STEPS = 3_000_000  # as many steps, all together, count those behind unknown one
 Edges = Dict[int, List[int]]  # from each one to others of its list
 
 
+class Knots:
+    """The edges among those who are stuck, and the strongly connected components of these, the knots, each after those
+    that its edges lead to. `of[p]` is the number of p's knot, and `above[k]` those of the roots that knot k is behind,
+    or of itself: at most MOST_ROOTS, where that of one that is `sure` is a root of such alone."""
+
+    def __init__(self, waits: Waits, among: List[int], sure: AbstractSet[int] = frozenset()) -> None:
+        self.waits = waits
+        self.edges = edges_among(waits, among)
+        for index in sure if len(sure) < len(among) else ():
+            self.edges[index] = self.sure_edges(index, sure)
+        self.knots = components(self.edges)
+        self.of = {index: number for number, members in enumerate(self.knots) for index in members}
+        self.above: Dict[int, Tuple[int, ...]] = {}
+        for number, members in enumerate(self.knots):
+            out = {self.of[other] for index in members for other in self.edges[index]} - {number}
+            over = sorted({root for knot in out for root in self.above[knot]}) if out else [number]
+            self.above[number] = tuple(over[:MOST_ROOTS])
+
+    def sure_edges(self, index: int, sure: AbstractSet[int]) -> List[int]:
+        """Returns the edges of a sure one to sure ones. Through a hub it may reach others too, if it waits for all."""
+        edges = self.edges[index]
+        if all(node in sure or node >= self.waits.number and sure >= set(self.edges[node]) for node in edges):
+            return edges
+        return [node for node in self.waits.without_hubs(edges) if node in sure]
+
+    def is_root(self, number: int) -> bool:
+        return self.above[number] == (number,)
+
+    def in_roots(self) -> List[int]:
+        """Returns the members of all roots."""
+        return without_hubs(self.waits, (index for index, number in self.of.items() if self.is_root(number)))
+
+
 class Roots:
     """`roots` are lists of members, along their waits: those first that `doubts` gives the least number, and of these
     with most others behind them alone. `behind[r]` are those stuck behind root r alone, `shared` those behind
-    more than one. `above[p]` are the roots of p, at most MOST_ROOTS, where that of one that is `sure` is a root of such
-    alone, and `root_of[p]` is the one that it is a member of."""
+    more than one. `above[p]` are the roots of p, and `root_of[p]` is the one that it is a member of."""
 
-    def __init__(self, waits: Waits, among: List[int], sure: AbstractSet[int] = frozenset(),
-                 doubts: Callable[[List[int]], int] = lambda members: 0) -> None:
-        self.waits, self.doubts = waits, doubts
-        self.edges = edges_among(waits, among)
-        for at in sure if len(sure) < len(among) else ():
-            self.edges[at] = self.sure_edges(at, sure)
-        found = components(self.edges)
-        of = {at: number for number, members in enumerate(found) for at in members}
-        above: Dict[int, Tuple[int, ...]] = {}
-        for number, members in enumerate(found):
-            out = {of[it] for at in members for it in self.edges[at]} - {number}
-            over = sorted({root for it in out for root in above[it]}) if out else [number]
-            above[number] = tuple(over[:MOST_ROOTS])
-        self.arrange(found, of, above)
-
-    def sure_edges(self, at: int, sure: AbstractSet[int]) -> List[int]:
-        """Returns the edges of a sure one to sure ones. Through a hub it may reach others too, if it waits for all."""
-        edges = self.edges[at]
-        if all(it in sure or it >= self.waits.number and sure >= set(self.edges[it]) for it in edges):
-            return edges
-        return [it for it in self.waits.without_hubs(edges) if it in sure]
-
-    def arrange(self, found: List[List[int]], of: Dict[int, int], above: Dict[int, Tuple[int, ...]]) -> None:
-        """Numbers the roots, and sorts the others behind them."""
-        tops = [number for number, over in above.items() if over == (number,)]
+    def __init__(self, knots: Knots, doubts: Callable[[List[int]], int]) -> None:
+        self.waits, self.edges = knots.waits, knots.edges
+        tops = [number for number in knots.above if knots.is_root(number)]
         behind: Dict[int, List[int]] = {number: [] for number in tops}
         self.shared: List[int] = []
         members = without_hubs(self.waits, self.edges)
-        for at in members:
-            over = above[of[at]]
+        for index in members:
+            over = knots.above[knots.of[index]]
             if len(over) > 1:
-                self.shared.append(at)
-            elif over != (of[at],):
-                behind[over[0]].append(at)
-        tops.sort(key=lambda number: (self.doubts(without_hubs(self.waits, found[number])), -len(behind[number]),
-                                      min(found[number])))
-        place = {number: at for at, number in enumerate(tops)}
-        self.roots = [without_hubs(self.waits, along(self.edges, found[number])) for number in tops]
+                self.shared.append(index)
+            elif over != (knots.of[index],):
+                behind[over[0]].append(index)
+        tops.sort(key=lambda number: (doubts(without_hubs(self.waits, knots.knots[number])), -len(behind[number]),
+                                      min(knots.knots[number])))
+        place = {number: position for position, number in enumerate(tops)}
+        self.roots = [without_hubs(self.waits, along(self.edges, knots.knots[number])) for number in tops]
         self.behind = [behind[number] for number in tops]
-        self.above = {at: sorted(place[root] for root in above[of[at]]) for at in members}
-        self.root_of = {at: place[of[at]] for at in members if of[at] in place}
+        self.above = {index: sorted(place[root] for root in knots.above[knots.of[index]]) for index in members}
+        self.root_of = {index: place[knots.of[index]] for index in members if knots.of[index] in place}
 
     def maybe_behind(self, number: int) -> List[int]:
         """Returns the members of a root of more than two for each of whom nobody waits alone. Where the state shows who
