@@ -61,8 +61,9 @@ class Cures:
         self.members: Dict[str, List[int]] = {}
         self.words: Dict[str, str] = {}  # what is done with each unit
         self.by_pid: Dict[str, str] = {}  # of those that are restarted by themselves, the first name of each process
-        for index in range(answer.waits.number):
-            self.members.setdefault(self.unit_of(index), []).append(index)
+        self.units = [self.unit_of(index) for index in range(answer.waits.number)]
+        for index, unit in enumerate(self.units):
+            self.members.setdefault(unit, []).append(index)
         self.remedies = {self.own_unit(index): process.remedy for index, process in enumerate(answer.waits.processes)
                          if process.remedy}
         self.of = [self.cure_of(number, members) for number, members in enumerate(answer.roots.roots)]
@@ -122,7 +123,7 @@ class Cures:
         return process.name if self.system == "erlang" else process.site or ""
 
     def units_of(self, members: Iterable[int]) -> List[str]:
-        return [unit for unit in dict.fromkeys(map(self.unit_of, members)) if unit]
+        return [unit for unit in dict.fromkeys(map(self.units.__getitem__, members)) if unit]
 
     def pids_below(self, unit: str) -> List[int]:
         """Returns the numbers of the processes that end with one, but for its own: of a job the ranks of one machine.
@@ -215,7 +216,7 @@ class Cures:
             return []
         others = [other for other in waits.without_hubs(waits.left_of(index)) if waits.kinds[other] != ENDED]
         units = list(dict.fromkeys(map(self.unit_of, others)))
-        return [] if "" in units or self.unit_of(index) in units else units
+        return [] if "" in units or self.units[index] in units else units
 
     # One thing that is enough
 
