@@ -83,7 +83,7 @@ class Decision:
         self.signs = {subject.name: subject.sign for subject in self.subjects}
         numbers = numbers_by_sign(self.subjects)
         self.blocked, self.resting = numbers[Sign.BLOCKED], numbers[Sign.RESTS]
-        self.moving = numbers[Sign.GOES_ON] | numbers[Sign.SLEEPS]
+        self.moving = sorted([*numbers[Sign.GOES_ON], *numbers[Sign.SLEEPS]])  # (the first of them is named)
         self.kept: Dict[Tuple[int, FrozenSet[Sign]], Sequence[str]] = {}
         self.left: Dict[int, Tuple[Part, List[Sequence[str]]]] = {}  # of parts, by their ids
         self.waits = waits_of(self.subjects)
