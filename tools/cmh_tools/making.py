@@ -47,10 +47,14 @@ def let_holders_work(sketch: Sketch) -> None:
     the middle of work, wherever it waits. Who may have moved between the looks isn't in one wait."""
     wanted = wanted_ones({process.name: process for process in sketch.processes if process.sign is Sign.BLOCKED})
     for process in sketch.processes:
-        counted = {wakers.strength for part in process.parts for wakers in part} & {Strength.NAMED, Strength.ABLE}
-        is_one_wait = counted and not has_how(process, "uncounted")
-        if process.sign is Sign.RESTS and process.name in wanted and is_one_wait:
+        if process.sign is Sign.RESTS and process.name in wanted and is_one_wait(process):
             process.sign = Sign.BLOCKED
+
+
+def is_one_wait(process: Process) -> bool:
+    """Whether somebody is known who may end the wait of one, and nothing says that the looks may show two waits."""
+    strengths = {wakers.strength for part in process.parts for wakers in part}
+    return not strengths.isdisjoint((Strength.NAMED, Strength.ABLE)) and not has_how(process, "uncounted")
 
 
 def wanted_ones(blocked: Dict[str, Process]) -> Set[str]:

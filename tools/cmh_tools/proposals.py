@@ -223,11 +223,11 @@ def partners_of(processes: List[Process], names: Set[str]) -> List[str]:
     """Returns the words for the other sides of some waits that are arguments there: 'rank-{to}'."""
     if is_for_all(processes[0]):
         return []
-    family = NUMBER.sub("", processes[0].name)
+    family, rows = NUMBER.sub("", processes[0].name), [(process.name, values_of(process)) for process in processes]
     patterns = []
-    for key in values_of(processes[0]):
-        others = [(process.name, family + values_of(process).get(key, "")) for process in processes]
-        if PARTNER.fullmatch(key) and all(other in names and other != name for name, other in others):
+    for key in filter(PARTNER.fullmatch, rows[0][1]):
+        others = ((name, family + values.get(key, "")) for name, values in rows)
+        if all(other in names and other != name for name, other in others):
             patterns.append(f"{family}{{{key}}}")
     return patterns + [COMPLETE] * (TWO in processes[0].operation and len(patterns) == 1)
 

@@ -274,7 +274,8 @@ class Sketch:
 def lists_of_wakers(processes: Iterable[Process]) -> Iterable[Sequence[str]]:
     """Returns each list of wakers once."""
     waits = {id(process.parts): process.parts for process in processes}
-    return {id(group.who): group.names() for parts in waits.values() for part in parts for group in part}.values()
+    return {id(group.who): group.who for parts in waits.values() for part in parts for group in part
+            if not isinstance(group.who, Anybody)}.values()
 
 
 def shared_waits(waits: Sequence[Sequence[Part]]) -> Dict[int, Sequence[Part]]:
@@ -289,14 +290,16 @@ def shared_lists(processes: Sequence[Process]) -> Dict[int, Sequence[str]]:
     """Returns, by their ids, the lists of wakers that several waits share, if all lists together are long."""
     users = Counter(id(process.parts) for process in processes)
     waits = {id(process.parts): process.parts for process in processes}
-    groups = [(users[wait], group) for wait, parts in waits.items() for part in parts for group in part]
-    if sum(number * len(group.names()) for number, group in groups) <= MANY:
+    lists = [(users[key], group.who) for key, parts in waits.items() for part in parts for group in part
+             if not isinstance(group.who, Anybody)]
+    if sum(number * len(names) for number, names in lists) <= MANY:
         return {}
-    counts: Counter[int] = Counter()
-    for number, group in groups:
-        counts[id(group.who)] += number
-    lists = {id(group.who): group.names() for _, group in groups}
-    return {key: names for key, names in lists.items() if counts[key] > 1 and len(names) > 1}
+    several = {id(names): names for _, names in lists if len(names) > 1}
+    counts = Counter(dict.fromkeys(several, 0))
+    for number, names in lists:
+        if len(names) > 1:
+            counts[id(names)] += number
+    return {key: names for key, names in several.items() if counts[key] > 1}
 
 
 def quote(text: str) -> str:

@@ -17,6 +17,7 @@ from __future__ import annotations
 
 import json
 import math
+from enum import Enum
 from typing import Any, Callable, Dict, List, Optional, Sequence, Set, Tuple
 
 from .files import Refusal, shown
@@ -29,6 +30,7 @@ LISTS = dict.fromkeys(("frames", "objects", "because"))
 TOLD = ("reason", *TEXTS, *LISTS, "count")
 SIGNS = {sign.value: sign for sign in Sign}
 STRENGTHS = {strength.value: strength for strength in Strength}
+WORDS: Dict[Enum, str] = {one: word for word, one in (*SIGNS.items(), *STRENGTHS.items())}  # (faster than their values)
 WAKER_KEYS = {"who", "how", "strength", "because", "what"}
 TEXT = {str}  # (made once, as each list is looked at by it)
 FLAGS = {"spoilt": "is_garbled", "collective": "is_collective"}
@@ -206,17 +208,18 @@ def process_called(name: object, row: Any, lists: Dict[str, List[str]], waits: D
 
 def set_texts(process: Process, row: Dict[str, Any]) -> None:
     """Sets what is told of a process beside its wait."""
-    for key in row:
+    about = vars(process)
+    for key, value in row.items():
         if key in TEXTS:
-            setattr(process, key, text_of(row, key) or "")
+            about[key] = value if type(value) is str else text_of(row, key) or ""
         elif key in LISTS:
-            setattr(process, key, texts_of(row, key))
+            about[key] = texts_of(row, key)
         elif key == "count":
-            process.count = count_of(row[key])
+            process.count = count_of(value)
         elif key in FLAGS:
-            if row[key] is not True:
+            if value is not True:
                 raise Refusal(f": '{key}' isn't true")
-            setattr(process, FLAGS[key], True)
+            about[FLAGS[key]] = True
     process.site = process.site or None
 
 
@@ -334,11 +337,11 @@ def text_of_rows(rows: List[Dict[str, Any]]) -> str:
 
 def row_of(process: Process, lists: Dict[int, str], waits: Dict[int, str]) -> Dict[str, object]:
     """Returns the row of a process. `lists` and `waits` have, by their ids, the names of those that stand by theirs."""
-    row: Dict[str, object] = {"name": process.name, "sign": process.sign.value}
+    row: Dict[str, object] = {"name": process.name, "sign": WORDS[process.sign]}
     if process.parts:
         row["wait"] = waits.get(id(process.parts)) or rows_of(process.parts, lists)
     about = vars(process)
-    row.update((key, about[key]) for key in filter(about.__getitem__, TOLD))
+    row.update({key: value for key in TOLD if (value := about[key])})
     row.update({key: True for key, name in FLAGS.items() if about[name]})
     return row
 
@@ -351,7 +354,7 @@ def row_of_wakers(group: Wakers, lists: Dict[int, str]) -> Dict[str, object]:
     row: Dict[str, object] = {}
     if not isinstance(group.who, Anybody):
         row["who"] = lists[id(group.who)] if id(group.who) in lists else list(group.who)
-    row["how"], row["strength"] = group.how, group.strength.value
+    row["how"], row["strength"] = group.how, WORDS[group.strength]
     if group.because:
         row["because"] = list(group.because)
     if group.what:
