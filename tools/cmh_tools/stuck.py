@@ -91,13 +91,13 @@ def use_one_list(users: List[Process], as_it_is: bool, known: Dict[Key, Tuple[Se
 class Waits:
     """The processes by their indices, and behind these the hubs. `left[p]` are those that p still waits for, by one
     list where any of them is enough, `senders[p]` those whose message is in transit to it, and `waiters[p]` those that
-    wait for it. `decision` is what the rule says."""
+    wait for it. `decision` is what the rule says, and `total` how many names all lists have."""
 
     def __init__(self, sketch: Sketch) -> None:
-        total = share_lists(sketch)
+        self.total = share_lists(sketch)
         self.processes = sketch.processes
-        if total > MOST:
-            raise Refusal(f"too many dependents: the lists have {total:,} names in all, and {MOST:,} is the most")
+        if self.total > MOST:
+            raise Refusal(f"too many dependents: the lists have {self.total:,} names in all, and {MOST:,} is the most")
         self.index = {process.name: index for index, process in enumerate(self.processes)}
         self.number = len(self.processes)
         self.senders: List[Set[int]] = [set() for _ in self.processes]
@@ -113,8 +113,8 @@ class Waits:
 
     def without_doubts(self, sketch: Sketch, changed: Iterable[int]) -> Waits:
         """Returns the waits of the same sketch where some have only those wakers left by whom they are likely to be
-        stuck. All else is as it was, but for lists that are shared."""
-        if self.shared or self.alike:
+        stuck. All else is as it was, but for long lists, of which equal ones become one."""
+        if self.total > LONG:
             made = Waits(sketch)
         else:
             made = copy(self)
