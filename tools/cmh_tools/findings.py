@@ -2,7 +2,7 @@
 from __future__ import annotations
 
 import re
-from typing import Dict, Iterable, Iterator, List, NamedTuple, Optional, Tuple
+from typing import Dict, FrozenSet, Iterable, Iterator, List, NamedTuple, Optional, Tuple
 
 from .dump import Dump
 from .files import shown
@@ -71,6 +71,7 @@ class Findings(Verdicts):
         self.open = set(self.undecided)
         self.ended = [at for at in range(self.waits.number) if self.waits.kinds[at] == ENDED]
         self.doubted = [set(doubt.waits) for doubt in dump.doubts]
+        self.known_doubts: Dict[FrozenSet[int], List[Doubt]] = {}  # by the members of roots
         knots = Knots(self.waits, self.stuck, {*self.certain.stuck}) if self.certain.stuck else self.dump.knots
         self.roots = Roots(knots, lambda members: len(self.doubts_of(members)))
         self.rests = Rests(self.dump.sketch)
@@ -106,12 +107,14 @@ class Findings(Verdicts):
         return self.likely.isdisjoint(self.roots.roots[number])
 
     def doubts_of(self, members: Iterable[int]) -> List[Doubt]:
-        """Returns the doubts on which it hangs that some are stuck."""
-        if not self.original.doubts:
-            return []
-        likely = self.original.likely_answer().likely
-        names = likely.with_hinges(self.waits.processes[at].name for at in members)
-        return [doubt for doubt, waits in zip(self.original.doubts, self.doubted) if not waits.isdisjoint(names)]
+        """Returns the doubts on which it hangs that some are stuck, sought once for each root."""
+        key = frozenset(members if self.original.doubts else ())
+        if key not in self.known_doubts:
+            likely = self.original.likely_answer().likely
+            names = likely.with_hinges(self.waits.processes[index].name for index in key)
+            self.known_doubts[key] = [doubt for doubt, waits in zip(self.original.doubts, self.doubted)
+                                      if not waits.isdisjoint(names)]
+        return self.known_doubts[key]
 
     # One process
 
