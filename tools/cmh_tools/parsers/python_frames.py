@@ -40,7 +40,12 @@ SHORT = re.compile(r"(threading|queue|selectors|socket|socketserver|ssl|subproce
 
 
 def is_of_frames(text: str) -> bool:
-    return text.startswith(MARK) or f"\n{MARK}" in text or SPY.search(text) is not None
+    return has_line(text, MARK) or has_line(text, "Process ") and SPY.search(text) is not None
+
+
+def has_line(text: str, start: str) -> bool:
+    """Whether a line of a text starts so: an expression takes long to find none in a large one."""
+    return text.startswith(start) or f"\n{start}" in text
 
 
 def looks_of_frames(path: str, text: str) -> List[Look]:
