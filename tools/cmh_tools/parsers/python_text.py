@@ -28,13 +28,13 @@ FILE = (type(None), re.compile(r"[0-9a-f]{1,8}:[0-9a-f]{1,8} \d{1,20}"))  # its 
 ID = re.compile("0x[0-9a-f]{1,16}")
 OBJECT = {"type": str, "id": ID, "all?": [object], "done?": bool, "name?": str, ...: object}
 VALUE = (OBJECT, type(None), str, int, float, bool, [object], ERROR)
-# The call of no frame that a thread is in, as far as it is known.
-CALL = (type(None), {"words": type(None)}, {"step": str}, ERROR,
-        {"words": str, "how": re.compile("call|with"), "on": (OBJECT, type(None), [object], ERROR),
-         "arguments": (type(None), [object], ERROR), "module?": TEXT, "function?": str, "named?": [str]})
+# The call of no frame that a thread is in, as far as it is known: the most frequent shape is tried first.
+CALL = ({"words": str, "how": re.compile("call|with"), "on": (OBJECT, type(None), [object], ERROR),
+         "arguments": ([object], type(None), ERROR), "module?": TEXT, "function?": str, "named?": [str]},
+        type(None), {"words": type(None)}, {"step": str}, ERROR)
 FRAME = ({"in": str, "file": str, "line": NUMBER, "has?": {str: VALUE}}, ERROR)
 # What the rows of threads and tasks have alike: `holds`, `ends`, `cancels` and `releases` may be missing in older ones.
-PLACE = {"of": int, "name": str, "moved": bool, "frames": [FRAME], "holds?": (type(None), [ID], ERROR),
+PLACE = {"of": int, "name": str, "moved": bool, "frames": [FRAME], "holds?": ([ID], type(None), ERROR),
          "ends?": ([str], ERROR), "cancels?": (bool, ERROR), "releases?": bool, "taken?": [ID], "around?": [ID],
          "again?": bool, "error?": str, "at?": object, "inside?": object}  # (the last two: of old states)
 # The form of each row of a state, by the first of these keys that it has.
@@ -296,9 +296,11 @@ def row_of(text: str) -> Optional[Dict[str, Any]]:
 def object_of(pairs: List[Tuple[str, Any]]) -> Dict[str, Any]:
     """Returns an object of a line. What it describes has its form: a name is a text, and a gather has what is gathered.
     """
-    made = once_each(pairs)
-    if not isinstance(made.get("id", ""), str) or (
-            made.get("type") == "gather" and not isinstance(made.get("all"), list)):
+    made = dict(pairs)
+    if len(made) < len(pairs):
+        return once_each(pairs)  # (which says what is wrong)
+    if "id" in made and type(made["id"]) is not str or \
+            "type" in made and made["type"] == "gather" and type(made.get("all")) is not list:
         raise ValueError("a value isn't as it is described")
     return made
 
