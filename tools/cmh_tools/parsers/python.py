@@ -25,10 +25,11 @@ from .base import Parser, Snapshot, is_loop, without_sleep
 from .python_connections import connections_of
 from .python_frames import is_of_frames, looks_of_frames
 from .python_job import Job, machine_of
-from .python_names import NEED_ALL, Names, Standing, lasting_objects, main_task, operation_of, own_frames, public_name
+from .python_names import NEED_ALL, Names, Standing, lasting_objects, main_task, public_name
+from .python_stack import Frame, Stack, stack_of
 from .python_tasks import Waits
-from .python_text import Frame, Look, Row, is_number, looks_of
-from .python_waits import Wait, is_job, unsure
+from .python_text import Look, Row, is_number, looks_of
+from .python_waits import Wait, unsure
 
 PLACES, HANDED = ("thread", "task"), ("asked", "caller")  # kinds of subjects: that stand somewhere, or are to begin
 NOT_UNDERSTOOD = (AttributeError, KeyError, TypeError, ValueError, IndexError, RecursionError)
@@ -75,7 +76,8 @@ class Subject:
         return row
 
     def frames(self) -> List[Frame]:
-        return self.waits.frames_of_task(self.row) if self.what == "task" else list(self.row.frames)
+        frames: List[Frame] = self.waits.frames_of_task(self.row) if self.what == "task" else self.row.frames
+        return frames
 
     def is_main(self) -> bool:
         """Whether its program ends once it does."""
@@ -163,7 +165,7 @@ class PythonParser(Parser):
         try:
             process = place_of(subject) if subject.what in PLACES else coming_of(subject)
         except NOT_UNDERSTOOD:
-            process = process_at(subject, [], unsure("its row in the state isn't understood"))
+            process = process_at(subject, unsure("its row in the state isn't understood"))
         if subject.what in PLACES and subject.row.fault:
             process.become_unknown(subject.row.fault)
             process.is_garbled = True
@@ -261,22 +263,23 @@ def add_enders(process: Process, subject: Subject) -> None:
 
 def place_of(subject: Subject) -> Process:
     """Returns the process of a thread or a task."""
-    frames = subject.frames()
-    wait = subject.waits.of_task(subject.row) if subject.what == "task" else subject.waits.of_thread(subject.row)
-    return process_at(subject, frames, wait, Standing(subject.job, subject.row, frames))
+    standing = Standing(subject.job, subject.row, subject.frames())
+    return process_at(subject, subject.waits.of_task(standing) if subject.what == "task" else
+                      subject.waits.of_thread(standing), standing)
 
 
-def process_at(subject: Subject, frames: List[Frame], wait: Wait, standing: Optional[Standing] = None) -> Process:
+def process_at(subject: Subject, wait: Wait, standing: Optional[Standing] = None) -> Process:
     """Returns the process of a wait, with what tells it from the next."""
-    operation, objects = operation_of(standing) if standing else ("", [])
-    own = own_frames(frames)
-    sign = sign_of(subject, wait, operation, own, is_job(frames))
-    if sign is Sign.BLOCKED and all(frame.kind != "own" for frame in frames) and (
+    operation, objects = standing.operation if standing else ("", [])
+    stack = standing.stack if standing else stack_of([])
+    own = list(stack.own)
+    sign = sign_of(subject, wait, operation, own, stack.is_job)
+    if sign is Sign.BLOCKED and not stack.has_own and (
             operation in OF_LIBRARIES or standing is not None and awaited_by(standing) == "Future"):
         sign = Sign.RESTS  # (a thread or task of a package that runs nothing of the program's)
     if wait.sign is Sign.SLEEPS:
         operation, objects = f"timed {operation or 'wait'}", lasting_objects(standing) if standing else []
-    called = package_call(frames) or (f"{operation} {awaited_by(standing)}".rstrip() if standing else operation)
+    called = package_call(stack, standing.frames) or f"{operation} {awaited_by(standing)}".rstrip() if standing else ""
     note = f"{called} in {own[0]}" if called and own else own[0] if own else called
     return Process(subject.name, sign, wait.parts, wait.reason, list(wait.because), subject.job.site, note, own,
                    operation, objects, wait.count, subject.kernel_thread(), is_collective=operation in NEED_ALL)
@@ -289,10 +292,9 @@ def awaited_by(standing: Standing) -> str:
     return str(awaited.get("type", "")).rpartition(".")[2] if isinstance(awaited, dict) and is_bare else ""
 
 
-def package_call(frames: List[Frame]) -> str:
+def package_call(stack: Stack, frames: List[Frame]) -> str:
     """Returns the function of a package that the job's own code has called, such as that of a pool, or nothing."""
-    outer = next((outer for outer, own in zip(frames, frames[1:]) if own.kind == "own"), None)
-    return public_name(outer) if outer is not None and outer.kind == "package" and frames[0].kind != "own" else ""
+    return public_name(frames[stack.package]) if stack.package is not None else ""
 
 
 def sign_of(subject: Subject, wait: Wait, operation: str, own: List[str], has_job: bool) -> Sign:
@@ -311,7 +313,7 @@ def sign_of(subject: Subject, wait: Wait, operation: str, own: List[str], has_jo
 def takes_next(subject: Subject, operation: str) -> bool:
     """Whether one waits for its next message. What a package takes from a queue for it may be a connection of a pool.
     """
-    package = package_call(subject.row.frames)
+    package = package_call(subject.row.stack, subject.row.frames)
     is_pool = operation.endswith(QUEUE) and package and not RECEIVES.fullmatch(package)
     return RECEIVES.fullmatch(operation) is not None and not is_pool
 

@@ -13,7 +13,8 @@ from collections import defaultdict
 from typing import Any, Callable, Dict, Iterable, List, Tuple
 
 from ..model import Part, wakers
-from .python_text import Frame, Look, Row
+from .python_stack import Frame
+from .python_text import Look, Row
 
 
 class Cancellers:

@@ -9,7 +9,8 @@ from typing import Any, Dict, Iterator, List, Optional, Tuple
 
 from ..files import Refusal, shown
 from .base import fits, once_each, row_in
-from .python_text import Frame, Look, Row, frame_in_file
+from .python_stack import Frame, frame_in_file
+from .python_text import Look, Row
 
 MARK = "cmh-python "
 VERSION = 1

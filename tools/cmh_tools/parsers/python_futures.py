@@ -8,7 +8,7 @@ from ..model import Part, Wakers, any_of, unseen, wakers
 from ..sketch import premise
 from .python_job import FUTURE
 from .python_names import Standing, pools_of
-from .python_text import Frame
+from .python_stack import Frame
 from .python_waits import Wait, blocked, goes
 
 FINISHED = ("FINISHED", "CANCELLED", "CANCELLED_AND_NOTIFIED")

@@ -12,14 +12,15 @@ from typing import Any, Dict, Iterable, List, NamedTuple, Optional, Sequence
 
 from ..model import Part, Wakers, unseen, wakers
 from ..sketch import premise
-from .python_names import Names, actor_of, holders_in, is_idle_loop
-from .python_text import Frame, Look, Row, callers_of
+from .python_names import Names, actor_of, holders_in
+from .python_text import Look, Row, callers_of
 
 CHILD, FUTURE, BLOCK, DEAD, CANCEL = "child-process", "future", "block", "dead", "cancel"  # assumptions
 INSIDE = "runtime"  # the assumption that only its own process ends a wait at an object of the runtime
 FEW = 250  # names in a list that each of its members has without itself
 CODE = {"holds", "ends", "cancels", "releases", "taken"}  # keys of rows that say something of one's code
 NO_ALARM = "its state doesn't say whether an alarm ends its process"
+TIMER = "threading.Timer.run"
 KILLS = {"kill", "killpg"}  # calls that end any process, by its number
 ENDS = re.compile(r"(_thread\.interrupt_main|_signal\.(raise_signal|pthread_kill)"
                   r"|posix\.(kill|killpg|_exit|abort|exec\w+))$")
@@ -33,7 +34,7 @@ class Machine(NamedTuple):
     and `enders` those whose code may end it, and by None those that may end any."""
 
     mains: Dict[Any, str]
-    stands: Dict[Any, List[Frame]]
+    stands: Dict[Any, Row]
     children: Dict[Any, List[str]]
     takers: Dict[Any, List[str]]
     sharers: Dict[Any, List[str]]
@@ -131,7 +132,7 @@ class Job:
         if thread is None or thread.more.get("moved") is True:
             return None
         row = self.look.tasks.get(loop["current"]) or thread
-        return None if row is thread and is_idle_loop(thread.frames) else row
+        return None if row is thread and thread.stack.is_idle_loop else row
 
     def owners(self, key: Any) -> List[str]:
         """Who may give back what a thread has: if it runs a loop, the task that has it, or else any of its tasks."""
@@ -149,7 +150,7 @@ def acting_in(look: Look, names: Names) -> List[str]:
 
 def is_idle(row: Row) -> bool:
     """Whether a thread waits for the events of a loop, which calls what the state shows."""
-    return row.more.get("loop") is not None and "thread" in row.more and is_idle_loop(row.frames)
+    return row.more.get("loop") is not None and "thread" in row.more and row.stack.is_idle_loop
 
 
 def takers_in(look: Look, word: str) -> Dict[Any, List[Any]]:
@@ -182,7 +183,9 @@ def why_unshown(look: Look) -> str:
 
 def timer_call(row: Row) -> str:
     """Returns what a timer's thread will call that interrupts the main thread or ends the process, or nothing."""
-    own = [line.has.get("self") for line in row.frames if line.at == "threading.Timer.run"]
+    if TIMER not in row.stack.names:
+        return ""
+    own = [line.has.get("self") for line in row.frames if line.at == TIMER]
     calls = [str(thread.get("calls")) for thread in own if isinstance(thread, dict)]
     return next(filter(ENDS.match, calls), "")
 
@@ -204,7 +207,7 @@ def enders_of(looks: List[Look], names: Names) -> Dict[Any, List[str]]:
 def machine_of(looks: List[Look], names: Names) -> Machine:
     """Returns what the looks of one time share."""
     mains: Dict[Any, str] = {}
-    stands: Dict[Any, List[Frame]] = {}
+    stands: Dict[Any, Row] = {}
     children: Dict[Any, List[str]] = defaultdict(list)
     takers: Dict[Any, List[str]] = defaultdict(list)
     sharers: Dict[Any, List[str]] = defaultdict(list)
@@ -219,7 +222,7 @@ def machine_of(looks: List[Look], names: Names) -> Machine:
         rows = [row for row in look.threads.values() if row.more.get("main") is True]
         main = [str(names.of(look, row.key)) for row in rows]
         mains.update({look.place(): name for name in main})
-        stands.update({look.place(): row.frames for row in rows})
+        stands.update({look.place(): row for row in rows})
         children[parent] += main
         if look.head.get("queues") != len(look.queues):
             missing[host] = f"the state of process {look.pid} doesn't say which queues it has"

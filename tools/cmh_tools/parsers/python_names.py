@@ -1,13 +1,15 @@
 """Names of Python's threads, tasks and waits, and of the place where each stands."""
 from __future__ import annotations
 
+import functools
 import re
 from collections import Counter
-from dataclasses import dataclass
+from dataclasses import dataclass, field
 from typing import TYPE_CHECKING, Any, Dict, List, Optional, Tuple
 
-from ..sketch import REST, frame
-from .python_text import BEGINS, Frame, Look, Row, is_number, last_word
+from ..sketch import REST
+from .python_stack import Frame, Stack, stack_of
+from .python_text import Look, Row, is_number, last_word
 
 if TYPE_CHECKING:
     from .python_job import Job
@@ -15,6 +17,7 @@ if TYPE_CHECKING:
 NEED_ALL = ("Barrier.wait",)  # operations that need all of several
 PACKAGE_AWAITS = "await of a package"  # of a task that no code of the program's own began, as a server's for a client
 UNNAMED = re.compile(r"Task-\d+$")
+RUNS = re.compile(r"\.(Thread|_WorkItem)\.run$")  # frames that call what a thread was made for
 
 
 class Names:
@@ -67,11 +70,24 @@ def label(row: "Row") -> str:
 
 @dataclass
 class Standing:
-    """Where a thread or a task stands: what the rules for waits look at. `job` has what surrounds it."""
+    """Where a thread or a task stands: what the rules for waits look at. `job` has what surrounds it, `stack` what its
+    frames say by where they are, and `standard` those of the standard library from the innermost on, up to the first of
+    other code. `call` is the call in which the innermost one stands, and `word` the last word of that."""
 
     job: Job
     row: Row
     frames: List[Frame]
+    stack: Stack = field(init=False)
+    standard: List[Frame] = field(init=False)
+    call: Dict[str, Any] = field(init=False)
+    word: str = field(init=False)
+
+    def __post_init__(self) -> None:
+        self.stack = self.row.stack if self.frames is self.row.frames else stack_of(self.frames)
+        self.standard = self.frames[:len(self.stack.standard)]
+        call = self.frames[0].call if self.frames else None
+        self.call = call if isinstance(call, dict) else {}
+        self.word = last_word(self.call)
 
     @property
     def look(self) -> Look:
@@ -81,38 +97,21 @@ class Standing:
     def name(self) -> Optional[str]:
         return self.job.name_of(self.row.key)
 
-    @property
-    def call(self) -> Dict[str, Any]:
-        """The call in which the innermost frame stands."""
-        call = self.frames[0].call if self.frames else None
-        return call if isinstance(call, dict) else {}
-
-    @property
-    def standard(self) -> List[Frame]:
-        """The frames of the standard library from the innermost on, up to the first of other code."""
-        found: List[Frame] = []
-        for each in self.frames:
-            if each.kind != "standard" or found and BEGINS.match(each.at):
-                break
-            found.append(each)
-        return found
+    @functools.cached_property
+    def operation(self) -> Tuple[str, List[str]]:
+        return operation_of(self)
 
 
 def main_task(row: Row) -> Any:
     """The key of the task for which a thread runs an event loop, or None."""
-    found = next((each.has.get("future") for each in row.frames if each.at.endswith(".run_until_complete")), None)
-    return found.get("id") if isinstance(found, dict) else None
-
-
-def is_idle_loop(frames: List[Frame]) -> bool:
-    """Whether the thread of an event loop waits for events: nothing else of asyncio calls a selector."""
-    return len(frames) > 1 and frames[0].at.startswith("selectors.") and frames[1].at.startswith("asyncio.")
+    future = row.frames[row.stack.runs].has.get("future") if row.stack.runs is not None else None
+    return future.get("id") if isinstance(future, dict) else None
 
 
 def actor_of(look: Look, key: Any) -> Any:
     """The key of who acts where a thread would: of one that waits for events the task for which it runs its loop."""
     row = look.threads.get(key)
-    if row is None or not is_idle_loop(row.frames):
+    if row is None or not row.stack.is_idle_loop:
         return key
     return main_task(row) if main_task(row) in look.tasks else key
 
@@ -161,7 +160,7 @@ def add_kept(kept: Dict[Any, List[Any]], rows: List[Any]) -> None:
 def operation_of(standing: Standing) -> Tuple[str, List[str]]:
     """The name of the call of the library that one waits in, such as Queue.get, and what it waits at."""
     call, run = standing.call, standing.standard
-    run = [] if run and re.search(r"\.(Thread|_WorkItem)\.run$", run[0].at) else run
+    run = [] if run and RUNS.search(run[0].at) else run
     on: Any = call.get("on") if isinstance(call.get("on"), dict) else {}
     objects = [on["id"]] if on.get("type") not in (None, "module") and on.get("id") else []
     objects += [words_of(standing, call)] if objects and not run else []
@@ -173,12 +172,11 @@ def operation_of(standing: Standing) -> Tuple[str, List[str]]:
         objects = [str(own[key]) for key in ("id", "pid") if isinstance(own, dict) and own.get(key)] + objects
         return public_name(run[-1]), [each for each in dict.fromkeys(objects) if each]
     if not call.get("words"):
-        is_own = any(line.kind == "own" for line in standing.frames)
-        return ("await" if is_own else PACKAGE_AWAITS) if awaited else "", objects
+        return ("await" if standing.stack.has_own else PACKAGE_AWAITS) if awaited else "", objects
     if not on or on.get("type") == "module":
         return call["words"].replace("?.", ""), objects
     kind = {"lock": "Lock"}.get(on["type"], on["type"])
-    return f"{kind}.{'acquire' if call.get('how') == 'with' else last_word(call)}", [each for each in objects if each]
+    return f"{kind}.{'acquire' if call.get('how') == 'with' else standing.word}", [each for each in objects if each]
 
 
 def words_of(standing: Standing, call: Dict[str, Any]) -> str:
@@ -209,19 +207,3 @@ def public_name(each: Frame) -> str:
         return f"{kind}.{name}"
     modules = [part for part in parts[:-1] if not part.startswith("_")]
     return f"{'asyncio' if modules[:1] == ['asyncio'] else (modules or ['?'])[-1]}.{name.lstrip('_')}"
-
-
-# Frames
-
-
-def own_frames(frames: List[Frame]) -> List[str]:
-    """The texts of the job's own frames from the topmost on. Where it has none, those of packages, else of the library
-    that began the thread."""
-    own = [each for each in frames if each.kind == "own"]
-    if all(each.at.endswith(".<module>") for each in own):
-        own = [each for each in frames if each.kind != "standard"]
-    if not own:
-        ends = [at for at, each in enumerate(frames) if at and BEGINS.match(each.at)]
-        last = ends[0] if ends else len(frames)
-        own = frames[last:last + 1] if frames[last:] and frames[last].at.endswith("_feed") else frames[last - 1:last]
-    return [frame(each.at, each.file.split("/")[-1], each.line) for each in own]

@@ -7,7 +7,7 @@ from __future__ import annotations
 import functools
 import re
 from dataclasses import replace
-from typing import Any, Callable, Dict, List, Optional, Sequence
+from typing import Any, Callable, Dict, List, Optional, Sequence, Tuple
 
 from ..model import Part, Sign, any_of, unseen, wakers
 from ..sketch import premise
@@ -15,8 +15,9 @@ from .python_cancel import Cancellers
 from .python_frames import is_limited
 from .python_futures import all_waits, any_waits, by_future, by_futures, wait_of_frame
 from .python_job import CANCEL, Job
-from .python_names import Standing, is_idle_loop, main_task
-from .python_text import Caller, Frame, Row, callers_of
+from .python_names import Standing, main_task
+from .python_stack import KEPT, Frame
+from .python_text import Caller, Row, callers_of
 from .python_waits import (Wait, blocked, by_block, by_child, by_end, by_join, by_limit, by_lock, by_object,
                            by_semaphore, by_sleep, by_step, by_takers, by_work, goes, idle_wait, is_outside, limited,
                            outside_wait, resting, unsure)
@@ -30,8 +31,13 @@ OF_PROCESS = 128  # in what is done at a futex: it is one of this process alone
 RUN = re.compile(r"asyncio\.(base_events\.(\w+\.)?(run_forever|run_until_complete|_run_once)|runners\.(\w+\.)?run"
                  r"|events\.(\w+\.)?_run)$")
 STEP = re.compile(r"asyncio\.(events\.Handle\._run$|runners\.)")
-RULES: Sequence[Callable[[Standing], Optional[Wait]]] = (
-    by_work, by_sleep, by_limit, by_step, by_lock, by_semaphore, by_join, by_end, by_child, by_future, by_futures)
+Rule = Callable[[Standing], Optional[Wait]]
+# In their order, each with how the name of a frame begins where it may apply, if it doesn't look at each place.
+RULES: Sequence[Tuple[Rule, Tuple[str, ...]]] = (
+    (by_work, ()), (by_sleep, ()), (by_limit, ()), (by_step, ()), (by_lock, ()),
+    (by_semaphore, ("threading.Semaphore.",)), (by_join, ("threading.Thread.",)), (by_end, ("threading._shutdown",)),
+    (by_child, ("multiprocessing.process.", "subprocess.Popen.")), (by_future, ("concurrent.futures._base.",)),
+    (by_futures, ("concurrent.futures._base.",)))
 
 
 class Waits:
@@ -44,8 +50,8 @@ class Waits:
 
     # Threads
 
-    def of_thread(self, row: Row) -> Wait:
-        standing, loop = Standing(self.job, row, row.frames), self.job.loop_of(row)
+    def of_thread(self, standing: Standing) -> Wait:
+        row, loop = standing.row, self.job.loop_of(standing.row)
         if self.look.by_faulthandler or self.look.shown_by:
             return self.by_place(standing)
         if loop is None:
@@ -54,7 +60,7 @@ class Waits:
         if loop["current"] in self.look.tasks and not has_moved:
             return blocked(any_of(wakers("ends", self.job.names_of([loop["current"]]))))
         found = self.of_loop(standing)
-        if found is None and is_idle_loop(row.frames) and not has_moved:
+        if found is None and row.stack.is_idle_loop and not has_moved:
             return resting(EVENTS, any_of(unseen("outside")))
         return found or thread_wait(standing)
 
@@ -65,7 +71,7 @@ class Waits:
         if task is None:
             return None
         parts = any_of(wakers("ends", self.job.names_of([task.key])))
-        wait = resting(EVENTS, parts) if is_idle_loop(standing.frames) else blocked(parts)
+        wait = resting(EVENTS, parts) if standing.stack.is_idle_loop else blocked(parts)
         return replace(wait, count=str(task.more["number"]))
 
     def by_place(self, standing: Standing) -> Wait:
@@ -109,9 +115,8 @@ class Waits:
         ends = [number for number, line in enumerate(thread.frames) if STEP.match(line.at)]
         return thread.frames[:ends[0]] if ends else thread.frames
 
-    def of_task(self, row: Row) -> Wait:
-        standing = Standing(self.job, row, self.frames_of_task(row))
-        loop = self.job.loop_of(row)
+    def of_task(self, standing: Standing) -> Wait:
+        row, loop = standing.row, self.job.loop_of(standing.row)
         thread = self.job.thread_of(loop)
         if loop is None or thread is None:
             return unsure("no thread runs its event loop")
@@ -169,11 +174,17 @@ class Waits:
 
 def thread_wait(standing: Standing) -> Wait:
     """Returns the wait of a thread, or of the task that has it: by the first rule that applies."""
-    for rule in RULES:
+    for rule in rules_at(standing.stack.names):
         wait = rule(standing)
         if wait is not None:
             return wait
     return by_object(standing)
+
+
+@functools.lru_cache(maxsize=KEPT)
+def rules_at(names: Tuple[str, ...]) -> List[Rule]:
+    """Returns the rules that may apply where the frames have these names, in their order."""
+    return [rule for rule, starts in RULES if not starts or any(name.startswith(starts) for name in names)]
 
 
 def task_wait(row: Row, standing: Standing) -> Wait:

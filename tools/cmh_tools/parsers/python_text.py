@@ -6,15 +6,14 @@ of a state, such as a log's, are left out.
 from __future__ import annotations
 
 import json
-import os
 import re
 from dataclasses import dataclass, field
-from functools import lru_cache
 from typing import Any, Dict, List, NamedTuple, Optional, Sequence, Set, Tuple
 
 from ..files import Refusal, shown
 from . import State
 from .base import fits, misfits, once_each
+from .python_stack import FORKED, Frame, Stack, frame_in_file, kind_of, stack_of
 
 MARK = "cmh-state "
 VERSION = 1
@@ -58,62 +57,29 @@ LOCKS = ("lock", "RLock")
 METHODS = ("acquire", "acquire_lock", "release", "locked", "__enter__", "__exit__", "_acquire_restore")  # of a lock
 # Keys that not all rows have, and those that both kinds have.
 VARY, BOTH = {"at", "again", "completes", "parent"}, {key.rstrip("?") for key in PLACE}
-STANDARD = re.compile(r"/lib(?:64)?/python3(?:\.\d+)?/(?!(?:site|dist)-packages/)(.*)$|^<frozen (.*)>$")
-# The modules of the library that are written in Python, of 3.8 to 3.14.
-MODULES = frozenset(
-    "__future__ _aix_support _android_support _apple_support _bootlocale _bootsubprocess _collections_abc _colorize "
-    "_compat_pickle _compression _dummy_thread _ios_support _markupbase _opcode_metadata _osx_support _py_abc "
-    "_py_warnings _pydatetime _pydecimal _pyio _pylong _pyrepl _sitebuiltins _strptime _threading_local _weakrefset "
-    "abc aifc annotationlib antigravity argparse ast asynchat asyncio asyncore base64 bdb binhex bisect bz2 cProfile "
-    "calendar cgi cgitb chunk cmd code codecs codeop collections colorsys compileall compression concurrent "
-    "configparser contextlib contextvars copy copyreg crypt csv ctypes curses dataclasses datetime dbm decimal "
-    "difflib dis distutils doctest dummy_threading email encodings ensurepip enum filecmp fileinput fnmatch formatter "
-    "fractions ftplib functools genericpath getopt getpass gettext glob graphlib gzip hashlib heapq hmac html http "
-    "idlelib imaplib imghdr imp importlib inspect io ipaddress json keyword lib2to3 linecache locale logging lzma "
-    "mailbox mailcap mimetypes modulefinder msilib multiprocessing netrc nntplib ntpath nturl2path numbers opcode "
-    "operator optparse os pathlib pdb pickle pickletools pipes pkgutil platform plistlib poplib posixpath pprint "
-    "profile pstats pty py_compile pyclbr pydoc pydoc_data queue quopri random re reprlib rlcompleter runpy sched "
-    "secrets selectors shelve shlex shutil signal site sitecustomize smtpd smtplib sndhdr socket socketserver sqlite3 "
-    "sre_compile sre_constants sre_parse ssl stat statistics string stringprep struct subprocess sunau symbol "
-    "symtable sysconfig tabnanny tarfile telnetlib tempfile test textwrap this threading timeit tkinter token "
-    "tokenize tomllib trace traceback tracemalloc tty turtle turtledemo types typing unittest urllib usercustomize uu "
-    "uuid venv warnings wave weakref webbrowser wsgiref xdrlib xml xmlrpc zipapp zipfile zipimport zoneinfo".split()
-)
-PACKAGE = re.compile(r"/(?:site|dist)-packages/(.*)$")
-# Frames of the library that begin the work of a thread, a task or a worker.
-BEGINS = re.compile(r"threading\.(Thread\.)?(_bootstrap|_bootstrap_inner|run)$|asyncio\.events\.Handle\._run$"
-                    r"|concurrent\.futures\.(thread\.(_WorkItem\.run|_worker)|process\._process_\w+)$"
-                    r"|multiprocessing\.queues\.(Queue\.)?_feed$"
-                    r"|multiprocessing\.(pool\.(worker|mapstar)|process\.BaseProcess\.(run|_bootstrap))$")
 LIMITED = re.compile(r"threading\.(Condition\.wait|Thread\.(join|_wait_for_tstate_lock))$|selectors\.\w+\.select$")
 ORPHAN = 1  # the parent of one whose own parent has ended
-FORKED = "multiprocessing.process.BaseProcess._bootstrap"  # what stands outside of it is what the parent did
 FAULT_HEAD = re.compile(r"(?:Current thread|Thread) (0x[0-9a-f]+)(?: \[(.*)\])? \(most recent call first\):$")
 FAULT_FRAME = re.compile(r'  File "(.*)", line (\d+|\?\?\?)(?: in (.*))?$')
 
 
 @dataclass
-class Frame:
-    """A frame: `at` is MODULE.FUNCTION, `has` what the state knows of its variables, `kind` whose code it is."""
-
-    at: str
-    file: str
-    line: int
-    has: Dict[str, Any]
-    kind: str  # "own", "package" or "standard"
-    call: Optional[Dict[str, Any]] = None
-
-
-@dataclass
 class Row:
     """A thread or a task. `key` tells it from the others of its process, `more` is the row of the state, and `fault`
-    says what of its text shows that it isn't one thread's."""
+    says what of its text shows that it isn't one thread's. `stack` is what its frames say by where they are."""
 
     key: Any
     name: str
     frames: List[Frame]
     more: Dict[str, Any]
     fault: str = ""
+    stack: Stack = field(init=False)
+
+    def __post_init__(self) -> None:
+        self.stand_in(self.frames)
+
+    def stand_in(self, frames: List[Frame]) -> None:
+        self.frames, self.stack = frames, stack_of(frames)
 
 
 @dataclass
@@ -418,16 +384,18 @@ def callers_of(loop: Dict[str, Any]) -> Optional[Dict[str, bool]]:
 def row_of_place(key: Any, row: Dict[str, Any]) -> Row:
     """Returns the row of a thread or a task. One with a frame that couldn't be read may stand anywhere."""
     frames = [frame_of(line) for line in row["frames"] if "in" in line]
-    outermost = next((number for number, line in enumerate(frames) if number and line.at == FORKED), len(frames))
-    fault = "" if len(frames) == len(row["frames"]) else "a frame of its stack couldn't be read"
-    odd = next((line for line in frames if not is_of_file(line.at, line.file)), None)
-    fault = fault or (f"a frame of its stack is {shown(odd.at)}, which isn't of its file" if odd else "")
+    made = Row(key, row["name"], frames, row, "" if len(frames) == len(row["frames"]) else
+               "a frame of its stack couldn't be read")
+    if made.stack.odd is not None:
+        made.fault = made.fault or f"a frame of its stack is {shown(made.stack.odd)}, which isn't of its file"
     if frames and LIMITED.match(frames[0].at) and not is_limit(frames[0].has.get("timeout", "")):
-        fault = fault or "the limit of its wait isn't shown"
+        made.fault = made.fault or "the limit of its wait isn't shown"
     if frames and isinstance(row.get("call"), dict):
         frames[0].call = row["call"]
-        fault = fault or ("" if is_of_lock(row["call"]) else "its call is none of a lock")
-    return Row(key, row["name"], frames[:outermost], row, fault)
+        made.fault = made.fault or ("" if is_of_lock(row["call"]) else "its call is none of a lock")
+    if made.stack.forked < len(frames):
+        made.stand_in(frames[:made.stack.forked])
+    return made
 
 
 def is_of_lock(call: Dict[str, Any]) -> bool:
@@ -437,24 +405,8 @@ def is_of_lock(call: Dict[str, Any]) -> bool:
     return not is_method or isinstance(words, str) and last_word(call) in METHODS
 
 
-@lru_cache(maxsize=65536)
-def is_of_file(name: str, path: str) -> bool:
-    """Whether a function has the name of the module of the library in whose file it is, or is of one that `python3 -m`
-    runs. A file in the place of the library's is one of its modules."""
-    found = STANDARD.search(path)
-    module = re.sub(r"(/__init__)?\.py$", "", found[1] or found[2]).replace("/", ".") if found else ""
-    return not found or module.split(".")[0] in MODULES and name.startswith((f"{module}.", "__main__."))
-
-
 def frame_of(row: Dict[str, Any]) -> Frame:
     return Frame(row["in"], row["file"], row["line"] or 0, row.get("has", {}), kind_of(row["file"]))
-
-
-@lru_cache(maxsize=65536)
-def kind_of(path: str) -> str:
-    if STANDARD.search(path):
-        return "standard"
-    return "package" if PACKAGE.search(path) else "own"
 
 
 # What faulthandler prints
@@ -480,17 +432,8 @@ def looks_of_faulthandler(path: str, lines: List[str]) -> List[Look]:
     for look in looks:
         for row in look.threads.values():
             row.name = row.name or thread_name(row)
+            row.stand_in(row.frames)
     return looks
-
-
-def frame_in_file(file: str, line: str, function: Optional[str], is_short: bool = False) -> Frame:
-    """Returns a frame as tools print it that name no module, with that of its file. A short file is one of the library,
-    by its path below it."""
-    match = STANDARD.search(file) or PACKAGE.search(file)
-    inner = file if is_short else (match[1] or "") if match else os.path.basename(file)
-    module = re.sub(r"\.py$|/__init__\.py$", "", inner).replace("/", ".")
-    return Frame(f"{module}.{function or '?'}", file, int(line) if line.isdecimal() else 0, {},
-                 "standard" if is_short else kind_of(file))
 
 
 def thread_name(row: Row) -> str:

@@ -2,15 +2,16 @@
 from __future__ import annotations
 
 import re
-from dataclasses import dataclass, field, replace
-from itertools import takewhile
-from typing import Any, Dict, List, Optional
+from dataclasses import dataclass, field
+from functools import lru_cache
+from typing import Any, Dict, List, Optional, Pattern, Tuple
 
 from ..model import Part, Sign, Wakers, all_of, any_of, unseen, wakers
 from ..sketch import GOING, LIMIT, SYSTEM, WORK, premise
 from .python_job import BLOCK, CHILD, DEAD, Job
-from .python_names import Standing, operation_of, own_frames
-from .python_text import Frame, is_number, last_word
+from .python_names import Standing
+from .python_stack import KEPT, Frame, Stack
+from .python_text import is_number, last_word
 
 SHARED = re.compile(r"multiprocessing\.queues\.(?:Joinable)?Queue\.(put|get|join)$")
 FEED = "multiprocessing.queues.Queue._feed"
@@ -28,17 +29,6 @@ OUTSIDE = re.compile(r"(socket|ssl|selectors|select|subprocess|asyncio\.(streams
 OUTSIDE_MODULES = ("posix", "select", "_io", "_socket", "_ssl", "_multiprocessing")
 POLLS = ("epoll", "poll")  # classes of the module `select`
 OUTSIDE_TYPES = ("socket", "SSLSocket", "Connection", "TextIOWrapper", "BufferedReader", "FileIO", *POLLS)
-WORKERS = re.compile(r"concurrent\.futures\.(thread\._worker|process\.(_process_worker|_ExecutorManagerThread\.run"
-                     r"|_queue_management_worker))$"
-                     r"|multiprocessing\.pool\.(worker|(\w+\.)?_handle_(tasks|results|workers))$"
-                     r"|multiprocessing\.queues\.Queue\._feed$|logging\.handlers\.QueueListener\._monitor$")
-GETS = re.compile(r"(multiprocessing\.)?queues?\.\w+\.get$|threading\.Condition\.wait$|selectors\."
-                  r"|multiprocessing\.connection\.(wait$|.*\.(recv|recv_bytes|_recv|_recv_bytes|poll|_poll)$)"
-                  r"|multiprocessing\.synchronize\.\w+\.__enter__$|multiprocessing\.pool\.\w+\._wait_for_updates$"
-                  r"|concurrent\.futures\.process\._ExecutorManagerThread\.wait_result_broken_or_wakeup$"
-                  r"|logging\.handlers\.QueueListener\.dequeue$|multiprocessing\.process\.")
-# A process of a pool, and the threads that wait for what these give, or for their ends.
-WORKER = re.compile(r"concurrent\.futures\.process\._process_worker$|multiprocessing\.pool\.worker$")
 KEEPERS = re.compile(r"concurrent\.futures\.process\.(_ExecutorManagerThread\.run|_queue_management_worker)$"
                      r"|multiprocessing\.pool\.(\w+\.)?_handle_(results|workers)$")
 BUSY = 0.2  # the part of the time between two looks that one who computes has used at least
@@ -60,7 +50,8 @@ class Wait:
 
     def beside(self, *more: Wakers) -> Wait:
         """The same, where others may end each part too."""
-        return replace(self, parts=[(*part, *more) for part in self.parts]) if more else self
+        parts = [(*part, *more) for part in self.parts]
+        return Wait(self.sign, parts, self.reason, self.because, self.count) if more else self
 
 
 def goes(reason: str) -> Wait:
@@ -123,11 +114,11 @@ def by_limit(standing: Standing) -> Optional[Wait]:
     top = standing.frames[0] if standing.frames else None
     if top is None:
         return None
-    limit = limit_of(standing.call) if last_word(standing.call) == "acquire" else None
+    limit = limit_of(standing.call) if standing.word == "acquire" else None
     if is_number(limit) and limit >= 0:
         return limited("it waits with a limit")
     timeout: Any = top.has.get("timeout")
-    if top.at == "threading.Condition.wait" and last_word(standing.call) not in ("acquire", ""):
+    if top.at == "threading.Condition.wait" and standing.word not in ("acquire", ""):
         return None
     is_wait = top.at in ("threading.Condition.wait", "threading.Thread.join") or top.at.startswith("selectors.")
     if top.at == "threading.Thread._wait_for_tstate_lock":
@@ -144,15 +135,14 @@ def by_limit(standing: Standing) -> Optional[Wait]:
 
 def lock_of(standing: Standing) -> Any:
     """The lock that the innermost frame waits for without a limit, or None."""
-    call, top = standing.call, standing.frames[0]
+    call, top, word = standing.call, standing.frames[0], standing.word
     if top.at in ("importlib._bootstrap._ModuleLock.acquire", "threading._RLock.acquire"):
         return top.has.get("self")
-    if last_word(call) == "_acquire_restore":
+    if word == "_acquire_restore":
         return top.has["self"]["lock"]
     if call.get("how") == "with":
         return call.get("on")
-    is_acquire = last_word(call) in ("acquire", "__enter__") and call.get("arguments") in ([], [True]) \
-        and not call.get("named")
+    is_acquire = word in ("acquire", "__enter__") and call.get("arguments") in ([], [True]) and not call.get("named")
     return call.get("on") if is_acquire else None
 
 
@@ -174,7 +164,7 @@ def by_dead_owner(standing: Standing, lock: Dict[str, Any]) -> Wait:
     is_dead = lock.get("type") == "RLock" and lock.get("gone") is True and lock["owner"] != standing.row.key
     if not is_dead or look.head.get("others") != 0 or not look.is_whole:
         return unsure("its lock had no owner that is in the state")
-    keys = [row.key for row in look.rows() if idle_wait(replace(standing, row=row, frames=row.frames)) is None]
+    keys = [row.key for row in look.rows() if idle_wait(Standing(standing.job, row, row.frames)) is None]
     others = [name for name in standing.job.names_of(keys) if name != standing.name]
     return blocked(any_of(wakers("starts", others)) if others else [()], premise(DEAD))
 
@@ -258,19 +248,19 @@ def by_child(standing: Standing) -> Optional[Wait]:
 
 def by_object(standing: Standing) -> Wait:
     """The wait of one of which the state doesn't show who ends it."""
-    (operation, _), job = operation_of(standing), standing.job
-    places = [line.at for line in standing.standard]
-    queue = next((line for line in standing.standard if SHARED.match(line.at)), None)
-    if queue is not None:
+    (operation, _), job = standing.operation, standing.job
+    kind = kind_of_object(standing.stack.standard)
+    if kind is SHARED:
+        queue = next(line for line in standing.standard if SHARED.match(line.at))
         return shared_wait(job, queue.has.get("self"))
-    if any(map(MEETS.match, places)):
+    if kind is MEETS:
         return reached_wait(job.machine.kin_of(standing.look.place()), "which processes have it isn't shown")
     if is_feeding(standing):
         return feeding_wait(job)
     if semaphore_in(standing):
         takers = job.machine.takers.get((standing.look.place()[0], semaphore_in(standing)), [])
         return reached_wait([name for name in takers if name != standing.name], "who else has it isn't shown")
-    if any(map(CHILDREN.match, places)) or WAITS.match(operation):
+    if kind is CHILDREN or WAITS.match(operation):
         return child_wait(standing)
     if PAUSES.match(operation):
         return resting("waits for a signal", any_of(unseen("outside")))
@@ -282,10 +272,16 @@ def by_object(standing: Standing) -> Wait:
                   "its call isn't known: it may wait or compute")
 
 
+@lru_cache(maxsize=KEPT)
+def kind_of_object(names: Tuple[str, ...]) -> Optional[Pattern[str]]:
+    """Returns which frames of the library show at what one waits, by their names: the first kind of which one is."""
+    return next((kind for kind in (SHARED, MEETS, CHILDREN) if any(map(kind.match, names))), None)
+
+
 def called(standing: Standing, operation: str) -> str:
     """What a wait is called in a reason. Of a `with` at something that isn't known, the words are no operation."""
     is_known = standing.call.get("how") != "with" or isinstance(standing.call.get("on"), dict) or standing.standard
-    own = own_frames(standing.frames)
+    own = standing.stack.own
     return operation if is_known or not own else f"wait in {own[0]}"
 
 
@@ -313,9 +309,9 @@ def feeding_wait(job: Job) -> Wait:
 
 
 def is_feeding(standing: Standing) -> bool:
-    number = next((number for number, line in enumerate(standing.frames) if line.at == FEED), None)
-    is_library = number is not None and all(line.kind == "standard" for line in standing.frames[:number])
-    return is_library and standing.frames[0].at != "threading.Condition.wait"
+    names = standing.stack.names
+    is_library = FEED in names and all(line.kind == "standard" for line in standing.frames[:names.index(FEED)])
+    return is_library and names[0] != "threading.Condition.wait"
 
 
 def semaphore_in(standing: Standing) -> str:
@@ -324,7 +320,7 @@ def semaphore_in(standing: Standing) -> str:
     is_block = top is not None and SEMAPHORES.match(top.at) is not None
     lock: Any = top.has.get("self") if top is not None and is_block else standing.call.get("on")
     is_lock = isinstance(lock, dict) and lock.get("type") in ("Lock", "RLock") and lock.get("left") == 0
-    is_taking = is_block or last_word(standing.call) == "acquire"
+    is_taking = is_block or standing.word == "acquire"
     return str(lock["semaphore"]) if is_lock and is_taking and lock.get("semaphore") else ""
 
 
@@ -373,23 +369,20 @@ def outside_wait(standing: Standing) -> Wait:
 def idle_wait(standing: Standing) -> Optional[Wait]:
     """The wait of a worker of a pool, or of a feeder of a queue, that has nothing to do, or of a thread that keeps the
     processes of a pool; else None."""
-    if not has_no_work(standing.frames):
+    if not has_no_work(standing.stack, standing.frames):
         return None
-    if is_job(standing.frames):  # (whose work comes from another process)
+    if standing.stack.is_job:  # (whose work comes from another process)
         return resting(WORK, any_of(unseen("outside")))
     idle = resting(WORK, any_of(*standing.job.same_process(standing.name)))
     return keeper_wait(standing, idle) if any(KEEPERS.match(line.at) for line in standing.frames) else idle
 
 
-def has_no_work(frames: List[Frame]) -> bool:
+def has_no_work(stack: Stack, frames: List[Frame]) -> bool:
     """Whether these are the frames of one that takes what comes next for a pool or a queue."""
-    if any(line.at.endswith("._handle_workers") for line in frames):
-        return True
-    inner = list(takewhile(lambda line: GETS.match(line.at), frames))
-    outer = frames[len(inner):]
-    call = frames[0].call or {} if frames else {}
-    is_taking = bool(inner) or call.get("words") is None or last_word(call) == "get"
-    return is_taking and outer != [] and WORKERS.match(outer[0].at) is not None
+    if stack.is_taking or not stack.is_worker:
+        return stack.is_worker
+    call = frames[0].call or {}
+    return call.get("words") is None or last_word(call) == "get"
 
 
 def keeper_wait(standing: Standing, idle: Wait) -> Wait:
@@ -397,14 +390,10 @@ def keeper_wait(standing: Standing, idle: Wait) -> Wait:
     in the states, which may have one. Its own process can at most close the pool. Without any it has nothing to do."""
     machine, place = standing.job.machine, standing.look.place
     children = [place(pid) for pid in standing.look.children]
-    at_work = [machine.mains[child] for child in children if is_job(machine.stands.get(child, []))
-               and not has_no_work(machine.stands[child])]
+    jobs = [child for child in children if child in machine.stands and machine.stands[child].stack.is_job]
+    at_work = [machine.mains[child] for child in jobs
+               if not has_no_work(machine.stands[child].stack, machine.stands[child].frames)]
     able = [wakers("reaches", at_work)] if at_work else []
     lost = [] if machine.mains.keys() >= set(children) else [unseen("unread", "a child of it isn't in the states")]
     others = [wakers("closes", group.who) if group.how == "same-process" else group for group in idle.parts[0]]
     return blocked(any_of(*able, *lost, *others)) if able or lost else idle
-
-
-def is_job(frames: List[Frame]) -> bool:
-    """Whether these are the frames of a process of a pool."""
-    return any(WORKER.match(line.at) for line in frames)
