@@ -13,7 +13,7 @@ Several OS processes are read one after the other, and need two states each.
 from __future__ import annotations
 
 import re
-from dataclasses import dataclass
+from dataclasses import dataclass, field
 from typing import Any, Dict, Iterator, List, Optional
 
 from ..files import Refusal
@@ -53,10 +53,10 @@ class Subject:
     what: str  # "thread", "task", "asked", "caller" or "signal"
     key: Any
     row: Any
+    job: Job = field(init=False)
 
-    @property
-    def job(self) -> Job:
-        return self.waits.job
+    def __post_init__(self) -> None:
+        self.job = self.waits.job
 
     @property
     def name(self) -> Any:
@@ -137,11 +137,12 @@ class PythonParser(Parser):
         for reading, look in zip(readings, looks):
             reading.site = self.names.processes[look.place()]
             lost = [child for child in look.children if look.place(child) not in places]
+            above = look.place(look.head.get("parent"))
             if not look.is_whole:
                 reading.missing = "its state isn't whole, so processes may be missing"
             elif lost:
                 reading.missing = f"it has begun process {lost[0]}, which isn't in the states"
-            elif look.has_parent() and look.place() not in begun and look.place(look.head.get("parent")) not in places:
+            elif look.place() not in begun and above not in places and look.has_parent():
                 reading.missing = f"process {look.head['parent']}, which has begun it, isn't in the states"
         if are_timed(looks):
             readings.sort(key=lambda reading: float(reading.rows[0].head["began"]))
@@ -270,7 +271,7 @@ def place_of(subject: Subject) -> Process:
 
 def process_at(subject: Subject, wait: Wait, standing: Optional[Standing] = None) -> Process:
     """Returns the process of a wait, with what tells it from the next."""
-    operation, objects = standing.operation if standing else ("", [])
+    operation, objects = standing.operation() if standing else ("", [])
     stack = standing.stack if standing else stack_of([])
     own = list(stack.own)
     sign = sign_of(subject, wait, operation, own, stack.is_job)

@@ -40,5 +40,8 @@ def add_sockets(rows: Dict[str, Dict[str, List[str]]], row: Row, name: str) -> N
 
 def is_shown(more: Dict[str, object]) -> bool:
     """Whether the row of a thread or task says which connections it has."""
-    keys = ("connections", "asks") if "task" in more else ("connections",)
-    return all(isinstance(held, list) and set(map(type, held)) <= {str} for held in map(more.get, keys))
+    return are_texts(more.get("connections")) and ("task" not in more or are_texts(more.get("asks")))
+
+
+def are_texts(held: object) -> bool:
+    return isinstance(held, list) and set(map(type, held)) <= {str}

@@ -31,7 +31,8 @@ class Machine(NamedTuple):
     these stand, and `children` those of the processes that one has begun. `takers` has by machine and lock of
     multiprocessing, and `sharers` by machine and queue, who is in a process that has it, and `missing` by machine why
     that isn't known of all. `acting` has by the place of a process all who act in it, and `above` which has begun it,
-    and `enders` those whose code may end it, and by None those that may end any."""
+    and `enders` those whose code may end it, and by None those that may end any. `within` has by the id of a look all
+    who act in it."""
 
     mains: Dict[Any, str]
     stands: Dict[Any, Row]
@@ -42,6 +43,7 @@ class Machine(NamedTuple):
     missing: Dict[Any, str]
     acting: Dict[Any, List[str]]
     above: Dict[Any, Any]
+    within: Dict[int, List[str]]
 
     def kin_of(self, place: Any) -> List[str]:
         """Returns those who act in a process, in the one that has begun it, and in those that either of them has begun.
@@ -55,8 +57,9 @@ class Job:
     """One look at an OS process."""
 
     def __init__(self, look: Look, names: Names, machine: Machine) -> None:
-        self.look, self.names, self.machine = look, names, machine
-        self.site = names.sites[look.place()]
+        self.look, self.machine, self.acting = look, machine, machine.within[id(look)]
+        self.site, self.rest = names.sites[look.place()], names.rest(look.place())
+        self.named = names.within(look)
         self.coming = look.signals()
         tasks: Dict[str, List[Any]] = defaultdict(list)
         for row in look.tasks.values():
@@ -65,29 +68,34 @@ class Job:
         self.cancelling = self.names_of([*(row.key for row in look.rows() if row.more.get("cancels") is not False),
                                          *(key for key, caller in look.callers.items() if caller.cancelling)])
         self.releasing = self.names_of(row.key for row in look.rows() if row.more.get("releases") is not False)
-        self.acting = acting_in(look, names)
         self.taken, self.around = (takers_in(look, word) for word in ("taken", "around"))
         self.idle_timers = self.names_of(key for key, caller in look.callers.items() if not caller.is_waking)
         self.handlers = self.names_of(key for key, coming in self.coming.items() if not coming.is_end)
         self.unshown = why_unshown(look)
+        calls = {key: timer_call(row) for key, row in look.threads.items() if TIMER in row.stack.names}
+        self.timers = {key: call for key, call in calls.items() if call}
         self.process_enders = tuple(self.enders())
 
     def name_of(self, key: Any) -> Optional[str]:
         """The name of a thread, a task or a coroutine, or None if it isn't in the state."""
-        return self.names.of(self.look, key)
+        return self.named.get(key)
 
     def names_of(self, keys: Iterable[Any]) -> List[str]:
         """The names of some that are in the state, each once: of who acts for a thread that waits for events."""
-        names = (self.name_of(actor_of(self.look, key)) for key in keys)
-        return list(dict.fromkeys(name for name in names if name is not None))
+        names: Dict[str, None] = {}
+        for key in keys:
+            name = self.named.get(actor_of(self.look, key))
+            if name is not None:
+                names[name] = None
+        return list(names)
 
     def enders(self) -> List[Wakers]:
         """Those who may end the whole process, and with it each wait there."""
         place = self.look.place()
         killers = self.machine.enders.get(None, []) + self.machine.enders.get(place, [])
-        timers = [row.key for row in self.look.threads.values() if timer_call(row).startswith("posix.")]
+        timers = [key for key, call in self.timers.items() if call.startswith("posix.")]
         ends = self.names_of(key for key, coming in self.coming.items() if coming.is_end)
-        lost = [] if self.look.is_whole else [wakers("left-out", [self.names.rest(place)])]
+        lost = [] if self.look.is_whole else [wakers("left-out", [self.rest])]
         lost += [] if self.look.shows_alarm() else [unseen("unshown", NO_ALARM)]
         killers = list(dict.fromkeys([*killers, *self.names_of(timers)]))
         return [*([wakers("kills", killers)] if killers else []), *([wakers("limit", ends)] if ends else []), *lost]
@@ -95,8 +103,7 @@ class Job:
     def interrupting(self) -> Part:
         """Those who may end a wait of the main thread by a signal, as by an exception of its handler: whatever it waits
         for."""
-        timers = [row.key for row in self.look.threads.values() if timer_call(row)]
-        names = [*self.handlers, *self.names_of(timers)]
+        names = [*self.handlers, *self.names_of(self.timers)]
         return (wakers("kills", names),) if names else ()
 
     def same_process(self, name: Optional[str]) -> Part:
@@ -144,8 +151,9 @@ class Job:
 def acting_in(look: Look, names: Names) -> List[str]:
     """The names of all of a process who may do something there."""
     callers = [key for key, caller in look.callers.items() if caller.is_waking]
-    keys = [*(row.key for row in look.rows() if not is_idle(row)), *look.asked, *callers]
-    return [name for name in (names.of(look, key) for key in keys) if name is not None]
+    keys = [*[row.key for row in look.rows() if not is_idle(row)], *look.asked, *callers]
+    named = names.within(look)
+    return [named[key] for key in keys if key in named]
 
 
 def is_idle(row: Row) -> bool:
@@ -183,8 +191,6 @@ def why_unshown(look: Look) -> str:
 
 def timer_call(row: Row) -> str:
     """Returns what a timer's thread will call that interrupts the main thread or ends the process, or nothing."""
-    if TIMER not in row.stack.names:
-        return ""
     own = [line.has.get("self") for line in row.frames if line.at == TIMER]
     calls = [str(thread.get("calls")) for thread in own if isinstance(thread, dict)]
     return next(filter(ENDS.match, calls), "")
@@ -194,13 +200,12 @@ def enders_of(looks: List[Look], names: Names) -> Dict[Any, List[str]]:
     """Returns those whose code may end an OS process: their own one, or any if it kills by number. One of whom a state
     doesn't say it may, but for one of 1.0, which says nothing of anybody's code."""
     enders: Dict[Any, List[str]] = defaultdict(list)
-    for look in looks:
-        for row in look.rows():
-            is_older = CODE.isdisjoint(row.more) and "reader" not in look.head  # (which later heads have)
-            ends = row.more.get("ends", [] if is_older else {})
-            place = None if KILLS.intersection(map(str, ends)) else look.place()
-            name = names.of(look, row.key)
-            enders[place] += [name] if (ends or isinstance(ends, dict)) and name is not None else []
+    for look, row in [(look, row) for look in looks for row in look.rows() if row.more.get("ends") != []]:
+        is_older = "reader" not in look.head and CODE.isdisjoint(row.more)  # (later heads have it)
+        ends = row.more.get("ends", [] if is_older else {})
+        place = None if KILLS.intersection(map(str, ends)) else look.place()
+        name = names.of(look, row.key)
+        enders[place] += [name] if (ends or isinstance(ends, dict)) and name is not None else []
     return enders
 
 
@@ -214,15 +219,16 @@ def machine_of(looks: List[Look], names: Names) -> Machine:
     missing: Dict[Any, str] = {}
     acting: Dict[Any, List[str]] = defaultdict(list)
     above: Dict[Any, Any] = {}
+    within = {id(look): acting_in(look, names) for look in looks}
     for look in looks:
-        here = acting_in(look, names)
-        host, parent = look.place()[0], look.place(look.head.get("parent"))
-        acting[look.place()] += here
-        above[look.place()] = parent
+        here, place, parent = within[id(look)], look.place(), look.place(look.head.get("parent"))
+        host = place[0]
+        acting[place] += here
+        above[place] = parent
         rows = [row for row in look.threads.values() if row.more.get("main") is True]
         main = [str(names.of(look, row.key)) for row in rows]
-        mains.update({look.place(): name for name in main})
-        stands.update({look.place(): row for row in rows})
+        mains.update({place: name for name in main})
+        stands.update({place: row for row in rows})
         children[parent] += main
         if look.head.get("queues") != len(look.queues):
             missing[host] = f"the state of process {look.pid} doesn't say which queues it has"
@@ -230,4 +236,4 @@ def machine_of(looks: List[Look], names: Names) -> Machine:
             takers[host, what] += here
         for what in look.queues:
             sharers[host, what] += here
-    return Machine(mains, stands, children, takers, sharers, enders_of(looks, names), missing, acting, above)
+    return Machine(mains, stands, children, takers, sharers, enders_of(looks, names), missing, acting, above, within)

@@ -1,7 +1,6 @@
 """Names of Python's threads, tasks and waits, and of the place where each stands."""
 from __future__ import annotations
 
-import functools
 import re
 from collections import Counter
 from dataclasses import dataclass, field
@@ -26,7 +25,7 @@ class Names:
 
     def __init__(self, looks: List[Look]) -> None:
         self.names: Dict[Any, str] = {}
-        self.of_look: Dict[Tuple[int, Any], str] = {}
+        self.of_look: Dict[int, Dict[Any, str]] = {id(look): {} for look in looks}
         self.used: Counter[str] = Counter()
         plain = {look.place(): look.process for look in looks}
         full = {look.place(): f"{look.process}-{look.pid}" for look in looks}
@@ -47,7 +46,7 @@ class Names:
         if identity not in self.names:
             self.used[full] += 1
             self.names[identity] = full if self.used[full] == 1 else f"{full} ({self.used[full]})"
-        self.of_look[id(look), key] = self.names[identity]
+        self.of_look[id(look)][key] = self.names[identity]
 
     def rest(self, place: Any) -> str:
         """The name of those who may be missing from a process."""
@@ -56,14 +55,18 @@ class Names:
     def of(self, look: Look, key: Any) -> Optional[str]:
         """The name of a thread, a task, a coroutine that is handed over, what a loop will call or what comes by a
         signal, or None if it isn't in the state."""
-        return self.of_look.get((id(look), key))
+        return self.of_look[id(look)].get(key)
+
+    def within(self, look: Look) -> Dict[Any, str]:
+        """The names of all in a look, by their keys."""
+        return self.of_look[id(look)]
 
 
 def label(row: "Row") -> str:
     """The name that a thread or task has, and of a task without one its function too."""
     if row.more.get("main") is True:
         return "MainThread"
-    if UNNAMED.match(row.name) and row.frames:
+    if row.name.startswith("Task-") and UNNAMED.match(row.name) and row.frames:
         return f"{row.name} ({row.frames[-1].at.split('.')[-1]})"
     return row.name
 
@@ -81,6 +84,7 @@ class Standing:
     standard: List[Frame] = field(init=False)
     call: Dict[str, Any] = field(init=False)
     word: str = field(init=False)
+    waits_in: Optional[Tuple[str, List[str]]] = field(init=False, default=None)
 
     def __post_init__(self) -> None:
         self.stack = self.row.stack if self.frames is self.row.frames else stack_of(self.frames)
@@ -97,9 +101,11 @@ class Standing:
     def name(self) -> Optional[str]:
         return self.job.name_of(self.row.key)
 
-    @functools.cached_property
     def operation(self) -> Tuple[str, List[str]]:
-        return operation_of(self)
+        """The name of the call of the library that one waits in, such as Queue.get, and what it waits at."""
+        if self.waits_in is None:
+            self.waits_in = operation_of(self)
+        return self.waits_in
 
 
 def main_task(row: Row) -> Any:

@@ -5,6 +5,7 @@ of a state, such as a log's, are left out.
 """
 from __future__ import annotations
 
+import functools
 import json
 import re
 from dataclasses import dataclass, field
@@ -165,7 +166,11 @@ class Look:
 
     def place(self, pid: Any = None) -> Tuple[Any, Any]:
         """What tells its OS process, or another one of its machine, from those of all machines."""
-        return str(self.head.get("host")), self.pid if pid is None else pid
+        return self.host, self.pid if pid is None else pid
+
+    @functools.cached_property
+    def host(self) -> str:
+        return str(self.head.get("host"))
 
     def machine(self) -> str:
         """The machine and the container in which its numbers stand, or nothing."""
@@ -185,7 +190,7 @@ class Look:
 
 
 def is_number(value: Any) -> bool:
-    return isinstance(value, (int, float)) and not isinstance(value, bool) and abs(value) < 1e18
+    return type(value) in (int, float) and abs(value) < 1e18
 
 
 def is_limit(value: Any) -> bool:
@@ -313,29 +318,40 @@ def are_tasks(look: Look) -> bool:
     values: List[Any] = [frame.has for row in look.rows() for frame in row.frames] if look.tasks else []
     values += [row.more["waits"] for row in look.tasks.values()]
     for value in values:
-        is_there = isinstance(value, dict) and value.get("id") in look.tasks
-        is_task = isinstance(value, dict) and value.get("type") == "Task"
-        if is_there and not is_task or is_task and not is_there and value.get("done") is False:
-            return False
-        values += value if isinstance(value, list) else value.values() if isinstance(value, dict) else ()
+        if type(value) is dict:
+            is_there, is_task = value.get("id") in look.tasks, value.get("type") == "Task"
+            if is_there and not is_task or is_task and not is_there and value.get("done") is False:
+                return False
+            values += value.values()
+        elif type(value) is list:
+            values += value
     return True
 
 
 def are_alike(look: Look) -> bool:
     """Whether all rows of a kind have the same keys, but for those that some have alone, and threads have those of
     tasks too that both have."""
-    kinds = [{frozenset(row.more.keys() - VARY) for row in rows.values()} for rows in (look.threads, look.tasks)]
+    orders = [{tuple(row.more) for row in rows.values()} for rows in (look.threads, look.tasks)]
+    kinds = [{frozenset(keys) - VARY for keys in rows} for rows in orders]
     both = {keys & BOTH for rows in kinds for keys in rows}
     return all(len(rows) <= 1 for rows in (*kinds, both))
 
 
 def add_row(look: Look, row: Dict[str, Any], path: str, at: int) -> None:
     """Adds a row to its look. One that is of no known form, or stands twice, counts as missing."""
-    kind = next((key for key in ROWS if key in row), "")
+    kind = kind_of_row(row)
     is_known = kind != "" and fits(row, ROWS[kind])
     if not is_known or kind not in OLDER and not keep_row(look, kind, row):
         look.is_whole = False
         look.warnings.append(f"{shown(path)}:{at}: this line of a state isn't understood, so what it shows is missing")
+
+
+def kind_of_row(row: Dict[str, Any]) -> str:
+    """Returns which kind of row this is, or nothing."""
+    for kind in ROWS:
+        if kind in row:
+            return kind
+    return ""
 
 
 def keep_row(look: Look, kind: str, row: Dict[str, Any]) -> bool:

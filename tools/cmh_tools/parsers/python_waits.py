@@ -248,7 +248,7 @@ def by_child(standing: Standing) -> Optional[Wait]:
 
 def by_object(standing: Standing) -> Wait:
     """The wait of one of which the state doesn't show who ends it."""
-    (operation, _), job = standing.operation, standing.job
+    (operation, _), job = standing.operation(), standing.job
     kind = kind_of_object(standing.stack.standard)
     if kind is SHARED:
         queue = next(line for line in standing.standard if SHARED.match(line.at))
