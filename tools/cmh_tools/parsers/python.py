@@ -14,7 +14,8 @@ from __future__ import annotations
 
 import re
 from dataclasses import dataclass, field
-from typing import Any, Dict, Iterator, List, Optional
+from functools import lru_cache
+from typing import Any, Dict, Iterator, List, Optional, Tuple
 
 from ..files import Refusal
 from ..model import Part, Sign, unseen
@@ -26,7 +27,7 @@ from .python_connections import connections_of
 from .python_frames import is_of_frames, looks_of_frames
 from .python_job import Job, machine_of
 from .python_names import NEED_ALL, Names, Standing, lasting_objects, main_task, public_name
-from .python_stack import Frame, Stack, stack_of
+from .python_stack import KEPT, Frame, Stack, stack_of
 from .python_tasks import Waits
 from .python_text import Look, Row, is_number, looks_of
 from .python_waits import Wait, unsure
@@ -54,26 +55,25 @@ class Subject:
     key: Any
     row: Any
     job: Job = field(init=False)
+    loop: Optional[Dict[str, Any]] = field(init=False)  # the event loop whose thread it needs
+    thread: Optional[Row] = field(init=False)  # the row of the thread that it needs
 
     def __post_init__(self) -> None:
         self.job = self.waits.job
+        self.loop = self.needed_loop()
+        self.thread = self.row if self.what == "thread" else self.job.thread_of(self.loop)
 
     @property
     def name(self) -> Any:
         return self.job.name_of(self.key)
 
-    def loop(self) -> Optional[Dict[str, Any]]:
-        """The event loop whose thread it needs, or None."""
+    def needed_loop(self) -> Optional[Dict[str, Any]]:
+        """Returns the event loop whose thread it needs, or None."""
         if self.what == "asked":
             return self.job.look.loops.get(self.row["loop"])
         if self.what == "caller":
             return self.job.look.loops.get(self.row.loops[0])
         return self.job.loop_of(self.row) if self.what == "task" else None
-
-    def thread(self) -> Optional[Row]:
-        """The row of the thread that it needs, or None."""
-        row: Optional[Row] = self.row if self.what == "thread" else self.job.thread_of(self.loop())
-        return row
 
     def frames(self) -> List[Frame]:
         frames: List[Frame] = self.waits.frames_of_task(self.row) if self.what == "task" else self.row.frames
@@ -159,7 +159,7 @@ class PythonParser(Parser):
             look = waits.look
             kinds: Dict[str, Dict[Any, Any]] = {"thread": look.threads, "task": look.tasks, "asked": look.asked,
                                                 "caller": look.callers, "signal": waits.job.coming}
-            yield from (Subject(waits, what, key, row) for what, rows in kinds.items() for key, row in rows.items())
+            yield from [Subject(waits, what, key, row) for what, rows in kinds.items() for key, row in rows.items()]
 
     def process_of(self, subject: Subject, snapshot: Jobs) -> Process:
         """Returns the process of a row. A row that is odd makes it unknown, whatever is odd in it."""
@@ -181,9 +181,9 @@ class PythonParser(Parser):
 
     def count(self, process: Process, subject: Subject, snapshot: Jobs) -> None:
         """Gives a process the count of its waits, and says of it how it was read."""
-        thread = subject.thread()
+        thread = subject.thread
         is_held = subject.what in HANDED or subject.what == "task" and \
-            subject.job.holder(subject.loop() or {}) is not None
+            subject.job.holder(subject.loop or {}) is not None
         counts = [subject.row.more["wait"]] if subject.what == "task" else []
         has_grown = False
         if subject.what == "thread" or is_held:
@@ -255,7 +255,7 @@ def is_vouched(thread: Optional[Row], is_held: bool, subject: Subject) -> bool:
 def add_enders(process: Process, subject: Subject) -> None:
     """Says of one that waits who may end its process, or the wait of the main thread by a signal."""
     more: Part = subject.job.process_enders
-    signals = subject.job.interrupting() if subject.job.is_main(subject.thread()) else ()
+    signals = subject.job.interrupting() if subject.job.is_main(subject.thread) else ()
     if more or signals:
         parts = process.parts or ([(unseen("unshown"),)] if process.sign is Sign.UNKNOWN else [])
         process.parts = [(*(group for group in part if group.how != "handles" or not signals), *more, *signals)
@@ -274,7 +274,7 @@ def process_at(subject: Subject, wait: Wait, standing: Optional[Standing] = None
     operation, objects = standing.operation() if standing else ("", [])
     stack = standing.stack if standing else stack_of([])
     own = list(stack.own)
-    sign = sign_of(subject, wait, operation, own, stack.is_job)
+    sign = sign_of(subject, wait, operation, stack)
     if sign is Sign.BLOCKED and not stack.has_own and (
             operation in OF_LIBRARIES or standing is not None and awaited_by(standing) == "Future"):
         sign = Sign.RESTS  # (a thread or task of a package that runs nothing of the program's)
@@ -298,25 +298,37 @@ def package_call(stack: Stack, frames: List[Frame]) -> str:
     return public_name(frames[stack.package]) if stack.package is not None else ""
 
 
-def sign_of(subject: Subject, wait: Wait, operation: str, own: List[str], has_job: bool) -> Sign:
+def sign_of(subject: Subject, wait: Wait, operation: str, stack: Stack) -> Sign:
     """Returns the sign of one at its place: one that waits for what comes next in its own loop has nothing to do."""
-    accepts = ACCEPTS.fullmatch(operation)
     if wait.sign is Sign.SLEEPS:
-        is_idle = accepts or is_in_own_loop(subject, without_sleep(own)) and not has_job
+        own = tuple(without_sleep(list(stack.own)))
+        is_idle = accepts(operation) or is_in_own_loop(subject, own) and not stack.is_job
         return Sign.TICKS if is_idle else Sign.SLEEPS
     if wait.sign is not Sign.BLOCKED:
         return wait.sign
-    awaits_next = (takes_next(subject, operation) or awaits_data(subject)) and is_in_own_loop(subject, own)
-    awaits_end = operation == FOR_THE_END and is_in_start(own)
-    return Sign.RESTS if accepts or awaits_next or awaits_end else Sign.BLOCKED
+    awaits_next = (takes_next(subject, operation) or awaits_data(subject)) and is_in_own_loop(subject, stack.own)
+    awaits_end = operation == FOR_THE_END and is_in_start(stack.own)
+    return Sign.RESTS if awaits_next or awaits_end or accepts(operation) else Sign.BLOCKED
+
+
+@lru_cache(maxsize=KEPT)
+def accepts(operation: str) -> bool:
+    """Whether one in an operation waits for a connection."""
+    return ACCEPTS.fullmatch(operation) is not None
+
+
+@lru_cache(maxsize=KEPT)
+def receives(operation: str) -> bool:
+    """Whether one in an operation waits for what comes next."""
+    return RECEIVES.fullmatch(operation) is not None
 
 
 def takes_next(subject: Subject, operation: str) -> bool:
     """Whether one waits for its next message. What a package takes from a queue for it may be a connection of a pool.
     """
     package = package_call(subject.row.stack, subject.row.frames)
-    is_pool = operation.endswith(QUEUE) and package and not RECEIVES.fullmatch(package)
-    return RECEIVES.fullmatch(operation) is not None and not is_pool
+    is_pool = operation.endswith(QUEUE) and package and not receives(package)
+    return receives(operation) and not is_pool
 
 
 def awaits_data(subject: Subject) -> bool:
@@ -325,12 +337,13 @@ def awaits_data(subject: Subject) -> bool:
     return isinstance(awaited, dict) and awaited.get("id") in subject.job.look.arriving
 
 
-def is_in_own_loop(subject: Subject, own: List[str]) -> bool:
+def is_in_own_loop(subject: Subject, own: Tuple[str, ...]) -> bool:
     """Whether one waits in the function that it was started with, and comes back to that wait."""
     return subject.what in PLACES and subject.row.more.get("again") is not False and is_in_start(own)
 
 
-def is_in_start(own: List[str]) -> bool:
+@lru_cache(maxsize=KEPT)
+def is_in_start(own: Tuple[str, ...]) -> bool:
     """Whether one waits in the function that it was started with. Of a main thread that is the function that its
     program is run for. A function without a name only calls another one, as one may that calls the loop of a session.
     """

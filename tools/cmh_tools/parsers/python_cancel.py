@@ -10,11 +10,13 @@ and may cancel the others. All of a group share its list.
 from __future__ import annotations
 
 from collections import defaultdict
+from itertools import chain
 from typing import Any, Callable, Dict, Iterable, List, Tuple
 
 from ..model import Part, wakers
-from .python_stack import Frame
 from .python_text import Look, Row
+
+AT_END = "asyncio.taskgroups.TaskGroup.__aexit__"  # where a task waits for its group
 
 
 class Cancellers:
@@ -24,8 +26,9 @@ class Cancellers:
 
     def __init__(self, look: Look, names_of: Callable[[Iterable[Any]], List[str]]) -> None:
         self.look, self.names_of = look, names_of
-        self.targets: Dict[str, List[str]] = {row.key: targets_of(row) for row in look.tasks.values()}
-        for key, sharing in sharing_futures(look).items():
+        awaited = {key: awaited_by(row) for key, row in look.tasks.items()}
+        self.targets: Dict[str, List[str]] = {key: targets_in(values) for key, values in awaited.items()}
+        for key, sharing in sharing_futures(look, awaited).items():
             self.targets[key] += sharing
         self.groups: Dict[Any, List[List[str]]] = defaultdict(list)
         self.outer: Dict[str, Dict[str, None]] = defaultdict(dict)
@@ -57,7 +60,7 @@ class Cancellers:
     def of(self, key: Any) -> Part:
         """Returns those who may cancel a task."""
         lists = [*self.groups.get(key, ()), self.names_of(self.outer.get(key, ()))]
-        return tuple(wakers("cancels", names) for names in lists if names)
+        return tuple([wakers("cancels", names) for names in lists if names])
 
 
 def groups_of(look: Look, what: str) -> Dict[Any, List[Any]]:
@@ -71,8 +74,8 @@ def groups_of(look: Look, what: str) -> Dict[Any, List[Any]]:
         parent = row.more.get("parent")
         if isinstance(parent, str):
             groups[parent][row.key] = None
-        for each in row.frames:
-            own = each.has.get("self") if stands_at(each) else None
+        for each in row.frames if AT_END in row.stack.names else ():
+            own = each.has.get("self") if each.at == AT_END else None
             if isinstance(own, dict):
                 groups[row.key].update(dict.fromkeys(tasks_in({"all": own.get("all")})))
     return {parent: list(members) for parent, members in groups.items()}
@@ -86,34 +89,36 @@ def gathers_in(value: Any) -> List[List[str]]:
     return own + [members for each in value["all"] for members in gathers_in(each)]
 
 
-def stands_at(each: Frame) -> bool:
-    return each.at == "asyncio.taskgroups.TaskGroup.__aexit__"
-
-
 def stands_at_end(row: Row) -> bool:
     """Whether a task is at the end of its group, where it waits for all of it whatever comes."""
-    return any(map(stands_at, row.frames))
+    return AT_END in row.stack.names
 
 
-def targets_of(row: Row) -> List[str]:
+def targets_in(awaited: List[Any]) -> List[str]:
     """Returns the keys of the tasks that are cancelled with a task, since it awaits them."""
-    return [key for value in awaited_by(row) for key in tasks_in(value)]
+    return [key for value in awaited for key in tasks_in(value)]
 
 
 def awaited_by(row: Row) -> List[Any]:
     """Returns what a state describes that is cancelled with a task."""
-    return [row.more.get("waits"), *(each.has.get("fut") for each in row.frames if each.at == "asyncio.tasks.wait_for")]
+    return [row.more.get("waits"), *kept_in(row, "asyncio.tasks.wait_for", "fut")]
 
 
-def sharing_futures(look: Look) -> Dict[str, List[str]]:
-    """Returns by each task the others that go on if a future is cancelled that it awaits."""
+def kept_in(row: Row, name: str, variable: str) -> List[Any]:
+    """Returns what a variable has in each frame of a name."""
+    return [each.has.get(variable) for each in row.frames if each.at == name] if name in row.stack.names else []
+
+
+def sharing_futures(look: Look, awaited: Dict[str, List[Any]]) -> Dict[str, List[str]]:
+    """Returns by each task the others that go on if a future is cancelled that it awaits, if there are any."""
     awaiting: Dict[str, Dict[str, None]] = defaultdict(dict)
-    for row in look.tasks.values():
-        kept = [each.has.get("fs") for each in row.frames if each.at == "asyncio.tasks._wait"]
-        for future in found_in([*awaited_by(row), *kept], "asyncio.Future", ("all", "inner")):
-            awaiting[future][row.key] = None
-    return {row.key: [key for future in found_in(awaited_by(row), "asyncio.Future")
-                      for key in awaiting[future] if key != row.key] for row in look.tasks.values()}
+    for key, row in look.tasks.items():
+        values = [*awaited[key], *kept_in(row, "asyncio.tasks._wait", "fs")]
+        for future in found_in(values, "asyncio.Future", ("all", "inner")):
+            awaiting[future][key] = None
+    sharing = dict.fromkeys(chain.from_iterable([keys for keys in awaiting.values() if len(keys) > 1]))
+    return {key: [other for future in found_in(awaited[key], "asyncio.Future")
+                  for other in awaiting[future] if other != key] for key in sharing}
 
 
 def tasks_in(value: Any) -> List[str]:
@@ -127,9 +132,9 @@ def found_in(values: List[Any], kind: str, within: Tuple[str, ...] = ("all",)) -
     left: List[Any] = list(values)
     while left:
         each = left.pop()
-        if isinstance(each, list):
+        if type(each) is list:
             left += each
-        if not isinstance(each, dict) or each.get("done") is True:
+        if type(each) is not dict or each.get("done") is True:
             continue
         if each.get("type") == kind and isinstance(each.get("id"), str):
             found.append(each["id"])

@@ -41,7 +41,7 @@ def wait_of_frame(standing: Standing, line: Frame) -> Wait:
 
 def all_waits(standing: Standing, values: Iterable[Any]) -> Wait:
     """The wait for all of these. Those that are done don't count."""
-    left = [wait for wait in (resolve(standing, value) for value in values) if not wait.goes_on()]
+    left = [wait for wait in [resolve(standing, value) for value in values] if not wait.goes_on()]
     parts = {key_of(part): part for wait in left for part in wait.parts}
     return waiting(left, list(parts.values())) if left else goes(DONE)
 
@@ -71,7 +71,7 @@ def merged(part: Iterable[Wakers]) -> Part:
 
 
 def key_of(part: Part) -> Tuple[Any, ...]:
-    return tuple((tuple(some.names()) if len(some.names()) < 2 else id(some.who), some.how) for some in part)
+    return tuple([(tuple(some.names()) if len(some.names()) < 2 else id(some.who), some.how) for some in part])
 
 
 def resolve(standing: Standing, value: Any) -> Wait:

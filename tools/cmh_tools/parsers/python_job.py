@@ -65,12 +65,12 @@ class Job:
         for row in look.tasks.values():
             tasks[str(row.more["loop"])].append(row.key)
         self.tasks_on = {loop["thread"]: (tasks.get(str(key), []), loop["current"]) for key, loop in look.loops.items()}
-        self.cancelling = self.names_of([*(row.key for row in look.rows() if row.more.get("cancels") is not False),
-                                         *(key for key, caller in look.callers.items() if caller.cancelling)])
-        self.releasing = self.names_of(row.key for row in look.rows() if row.more.get("releases") is not False)
-        self.taken, self.around = (takers_in(look, word) for word in ("taken", "around"))
-        self.idle_timers = self.names_of(key for key, caller in look.callers.items() if not caller.is_waking)
-        self.handlers = self.names_of(key for key, coming in self.coming.items() if not coming.is_end)
+        self.cancelling = self.names_of([row.key for row in look.rows() if row.more.get("cancels") is not False]
+                                        + [key for key, caller in look.callers.items() if caller.cancelling])
+        self.releasing = self.names_of([row.key for row in look.rows() if row.more.get("releases") is not False])
+        self.taken, self.around = takers_in(look, "taken"), takers_in(look, "around")
+        self.idle_timers = self.names_of([key for key, caller in look.callers.items() if not caller.is_waking])
+        self.handlers = self.names_of([key for key, coming in self.coming.items() if not coming.is_end])
         self.unshown = why_unshown(look)
         calls = {key: timer_call(row) for key, row in look.threads.items() if TIMER in row.stack.names}
         self.timers = {key: call for key, call in calls.items() if call}
@@ -94,7 +94,7 @@ class Job:
         place = self.look.place()
         killers = self.machine.enders.get(None, []) + self.machine.enders.get(place, [])
         timers = [key for key, call in self.timers.items() if call.startswith("posix.")]
-        ends = self.names_of(key for key, coming in self.coming.items() if coming.is_end)
+        ends = self.names_of([key for key, coming in self.coming.items() if coming.is_end])
         lost = [] if self.look.is_whole else [wakers("left-out", [self.rest])]
         lost += [] if self.look.shows_alarm() else [unseen("unshown", NO_ALARM)]
         killers = list(dict.fromkeys([*killers, *self.names_of(timers)]))
@@ -119,9 +119,8 @@ class Job:
         one that isn't told from others, whoever has any."""
         holders = holders_in(self.look)
         keys = [holders.get(key, []), holders[None]] if isinstance(key, str) else holders.values()
-        held = self.names_of(dict.fromkeys(chain.from_iterable(keys)))
-        lists: List[Sequence[str]] = [held, self.cancelling if is_work else []]
-        return tuple(wakers("cancels" if is_work else "kills", names) for names in lists if names)
+        lists: List[Sequence[str]] = [self.names_of(chain.from_iterable(keys)), self.cancelling if is_work else []]
+        return tuple([wakers("cancels" if is_work else "kills", names) for names in lists if names])
 
     def loop_of(self, row: Row) -> Optional[Dict[str, Any]]:
         return self.look.loops.get(row.more.get("loop"))
@@ -165,8 +164,8 @@ def takers_in(look: Look, word: str) -> Dict[Any, List[Any]]:
     """Returns the keys of the threads and tasks that have each object by a word of their rows: as `taken` for a block,
     or `around` an inner block."""
     takers: Dict[Any, List[Any]] = defaultdict(list)
-    for row in look.rows():
-        for what in dict.fromkeys(row.more.get(word, ())):
+    for row in [row for row in look.rows() if row.more.get(word)]:
+        for what in dict.fromkeys(row.more[word]):
             takers[what].append(row.key)
     return takers
 

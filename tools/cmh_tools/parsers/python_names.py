@@ -1,13 +1,14 @@
 """Names of Python's threads, tasks and waits, and of the place where each stands."""
 from __future__ import annotations
 
+import functools
 import re
 from collections import Counter
 from dataclasses import dataclass, field
 from typing import TYPE_CHECKING, Any, Dict, List, Optional, Tuple
 
 from ..sketch import REST
-from .python_stack import Frame, Stack, stack_of
+from .python_stack import KEPT, Frame, Stack, stack_of
 from .python_text import Look, Row, is_number, last_word
 
 if TYPE_CHECKING:
@@ -16,7 +17,6 @@ if TYPE_CHECKING:
 NEED_ALL = ("Barrier.wait",)  # operations that need all of several
 PACKAGE_AWAITS = "await of a package"  # of a task that no code of the program's own began, as a server's for a client
 UNNAMED = re.compile(r"Task-\d+$")
-RUNS = re.compile(r"\.(Thread|_WorkItem)\.run$")  # frames that call what a thread was made for
 
 
 class Names:
@@ -41,8 +41,9 @@ class Names:
                 self.add(look, key, key, "")
 
     def add(self, look: Look, key: Any, name: str, number: str) -> None:
-        full = f"{self.processes[look.place()]}/{name}"
-        identity = look.place(), key, number, full
+        place = look.place()
+        full = f"{self.processes[place]}/{name}"
+        identity = place, key, number, full
         if identity not in self.names:
             self.used[full] += 1
             self.names[identity] = full if self.used[full] == 1 else f"{full} ({self.used[full]})"
@@ -165,18 +166,18 @@ def add_kept(kept: Dict[Any, List[Any]], rows: List[Any]) -> None:
 
 def operation_of(standing: Standing) -> Tuple[str, List[str]]:
     """The name of the call of the library that one waits in, such as Queue.get, and what it waits at."""
-    call, run = standing.call, standing.standard
-    run = [] if run and RUNS.search(run[0].at) else run
+    call, number = standing.call, standing.stack.called
     on: Any = call.get("on") if isinstance(call.get("on"), dict) else {}
     objects = [on["id"]] if on.get("type") not in (None, "module") and on.get("id") else []
-    objects += [words_of(standing, call)] if objects and not run else []
+    objects += [words_of(standing, call)] if objects and number is None else []
     awaited = standing.row.more.get("waits")
     if isinstance(awaited, dict) and awaited.get("id"):
         objects.append(awaited["id"])
-    if run:
-        own: Any = run[-1].has.get("self")
+    if number is not None:
+        line = standing.frames[number]
+        own: Any = line.has.get("self")
         objects = [str(own[key]) for key in ("id", "pid") if isinstance(own, dict) and own.get(key)] + objects
-        return public_name(run[-1]), [each for each in dict.fromkeys(objects) if each]
+        return public_name(line), [each for each in dict.fromkeys(objects) if each]
     if not call.get("words"):
         return ("await" if standing.stack.has_own else PACKAGE_AWAITS) if awaited else "", objects
     if not on or on.get("type") == "module":
@@ -204,12 +205,18 @@ def lasting_objects(standing: Standing) -> List[str]:
 
 def public_name(each: Frame) -> str:
     """CLASS.METHOD of a frame of the library, or MODULE.FUNCTION."""
-    parts = each.at.split(".")
-    own: Any = each.has.get("self")
-    name = {"__enter__": "acquire", "__aenter__": "acquire"}.get(parts[-1], parts[-1])
+    kind, name, is_general = public_words(each.at)
+    own: Any = each.has.get("self") if is_general else None
+    return f"{own['type'] if isinstance(own, dict) else kind}.{name}"
+
+
+@functools.lru_cache(maxsize=KEPT)
+def public_words(name: str) -> Tuple[str, str, bool]:
+    """Returns the class or the module in the name of a frame of the library, the method or function as people call it,
+    and whether the class is a general one, in whose place that of the object stands."""
+    parts = name.split(".")
+    last = {"__enter__": "acquire", "__aenter__": "acquire"}.get(parts[-1], parts[-1])
     if len(parts) > 1 and re.match(r"_?[A-Z]", parts[-2]):
-        is_general = parts[-2].startswith("_") or parts[-2] == "BaseProcess"
-        kind = own["type"] if is_general and isinstance(own, dict) else parts[-2]
-        return f"{kind}.{name}"
+        return parts[-2], last, parts[-2].startswith("_") or parts[-2] == "BaseProcess"
     modules = [part for part in parts[:-1] if not part.startswith("_")]
-    return f"{'asyncio' if modules[:1] == ['asyncio'] else (modules or ['?'])[-1]}.{name.lstrip('_')}"
+    return "asyncio" if modules[:1] == ["asyncio"] else (modules or ["?"])[-1], last.lstrip("_"), False

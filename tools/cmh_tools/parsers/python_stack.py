@@ -50,6 +50,7 @@ GETS = re.compile(r"(multiprocessing\.)?queues?\.\w+\.get$|threading\.Condition\
                   r"|concurrent\.futures\.process\._ExecutorManagerThread\.wait_result_broken_or_wakeup$"
                   r"|logging\.handlers\.QueueListener\.dequeue$|multiprocessing\.process\.")
 WORKER = re.compile(r"concurrent\.futures\.process\._process_worker$|multiprocessing\.pool\.worker$")  # of a pool
+RUNS = re.compile(r"\.(Thread|_WorkItem)\.run$")  # frames that call what a thread was made for
 KEPT = 65536  # places of which is kept what their names say
 
 
@@ -77,13 +78,15 @@ class Spot(NamedTuple):
 class Stack(NamedTuple):
     """What the frames of a thread or a task say by where they are. `own` has the texts of the job's own frames, `names`
     the names of all, and `standard` those of the standard library from the innermost on, up to the first of other code.
-    `package` is the number of the frame of a package that the job's own code has called, and `runs` of the one that
-    runs an event loop until a task ends. Outside of the first `forked` stands what a parent did. `odd` is the name of a
-    frame that isn't of its file."""
+    `called` is the number of the frame of the library that other code has called, if it waits in one, `package` of the
+    one of a package that the job's own code has called, and `runs` of the one that runs an event loop until a task
+    ends. Outside of the first `forked` stands what a parent did. `odd` is the name of a frame that isn't of its file.
+    """
 
     own: Tuple[str, ...]
     names: Tuple[str, ...]
     standard: Tuple[str, ...]
+    called: Optional[int]
     package: Optional[int]
     runs: Optional[int]
     forked: int
@@ -105,12 +108,14 @@ def stack_at(places: Tuple[Tuple[str, str, int, str], ...]) -> Stack:
     """Returns what the places of frames say."""
     spots = [Spot(*place) for place in places]
     names = tuple(spot.at for spot in spots)
+    standard = standard_names(spots)
     runs = next((number for number, name in enumerate(names) if name.endswith(".run_until_complete")), None)
     is_handler = any(name.endswith("._handle_workers") for name in names)
     taking = list(takewhile(GETS.match, names))
     outer = names[len(taking):]
     return Stack(
-        own_frames(spots), names, standard_names(spots), package_called(spots), runs,
+        own_frames(spots), names, standard,
+        len(standard) - 1 if standard and not RUNS.search(standard[0]) else None, package_called(spots), runs,
         names.index(FORKED, 1) if FORKED in names[1:] else len(names),
         next((spot.at for spot in spots if not is_of_file(spot.at, spot.file)), None),
         any(spot.kind == "own" for spot in spots),

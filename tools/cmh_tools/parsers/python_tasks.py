@@ -25,6 +25,7 @@ from .python_waits import (Wait, blocked, by_block, by_child, by_end, by_join, b
 EVENTS = "waits for events"  # how a loop is idle
 COMING = {"server": "waits for a client", "signal": "waits for a signal", "timer": "waits for its time",
           "reader": "waits for data", "connection": "waits for data"}
+LIMITED_CALLS = {"asyncio.tasks.sleep", "asyncio.tasks.wait_for"}
 LIMIT_OF_FUTEX = 3  # which argument that is
 OF_PROCESS = 128  # in what is done at a futex: it is one of this process alone
 # Frames of a thread that runs an event loop, also of one that isn't asyncio's own.
@@ -190,7 +191,7 @@ def rules_at(names: Tuple[str, ...]) -> List[Rule]:
 def task_wait(row: Row, standing: Standing) -> Wait:
     """What a task awaits, apart from its loop's thread."""
     awaited = row.more["waits"]
-    if row.more["limit"] is True or any(map(is_limited_call, standing.standard)):
+    if row.more["limit"] is True or is_limited_call(standing):
         return limited("it sleeps, or waits with a limit")
     if row.more["moved"] is True:
         return goes("it moved between two looks")
@@ -208,9 +209,10 @@ def task_wait(row: Row, standing: Standing) -> Wait:
     return blocked(any_of(*standing.job.same_process(standing.name), *standing.job.cancellers(awaited.get("id"))))
 
 
-def is_limited_call(line: Frame) -> bool:
+def is_limited_call(standing: Standing) -> bool:
     """Whether a frame of asyncio sleeps, or waits with a limit: also where that is just over."""
-    return line.at in ("asyncio.tasks.sleep", "asyncio.tasks.wait_for") and line.has.get("timeout", 0) is not None
+    return not LIMITED_CALLS.isdisjoint(standing.stack.standard) and any(
+        line.at in LIMITED_CALLS and line.has.get("timeout", 0) is not None for line in standing.standard)
 
 
 def by_library(row: Row, standing: Standing, line: Frame) -> Optional[Wait]:

@@ -198,7 +198,7 @@ def is_limit(value: Any) -> bool:
 
 
 def last_word(call: Dict[str, Any]) -> str:
-    return (call.get("words") or "").split(".")[-1]
+    return (call.get("words") or "").rpartition(".")[2]
 
 
 def looks_of(state: State) -> List[Look]:
@@ -315,7 +315,7 @@ def have_loops(look: Look) -> bool:
 def are_tasks(look: Look) -> bool:
     """Whether each object with the address of a task is described as one, and each task that isn't done has a row: who
     doesn't see that may miss a cancel."""
-    values: List[Any] = [frame.has for row in look.rows() for frame in row.frames] if look.tasks else []
+    values: List[Any] = [frame.has for row in look.rows() for frame in row.frames if frame.has] if look.tasks else []
     values += [row.more["waits"] for row in look.tasks.values()]
     for value in values:
         if type(value) is dict:
@@ -399,7 +399,8 @@ def callers_of(loop: Dict[str, Any]) -> Optional[Dict[str, bool]]:
 
 def row_of_place(key: Any, row: Dict[str, Any]) -> Row:
     """Returns the row of a thread or a task. One with a frame that couldn't be read may stand anywhere."""
-    frames = [frame_of(line) for line in row["frames"] if "in" in line]
+    frames = [Frame(line["in"], line["file"], line["line"] or 0, line.get("has", {}), kind_of(line["file"]))
+              for line in row["frames"] if "in" in line]
     made = Row(key, row["name"], frames, row, "" if len(frames) == len(row["frames"]) else
                "a frame of its stack couldn't be read")
     if made.stack.odd is not None:
@@ -419,10 +420,6 @@ def is_of_lock(call: Dict[str, Any]) -> bool:
     on, words = call.get("on"), call.get("words")
     is_method = isinstance(on, dict) and on.get("type") in LOCKS and call.get("how") == "call" and words
     return not is_method or isinstance(words, str) and last_word(call) in METHODS
-
-
-def frame_of(row: Dict[str, Any]) -> Frame:
-    return Frame(row["in"], row["file"], row["line"] or 0, row.get("has", {}), kind_of(row["file"]))
 
 
 # What faulthandler prints
