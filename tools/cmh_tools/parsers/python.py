@@ -24,7 +24,6 @@ from ..snapshots import APART, GROWN, ONCE, PARTS, WHOLE, Reading
 from . import State
 from .base import Parser, Snapshot, is_loop, without_sleep
 from .python_connections import connections_of
-from .python_frames import is_of_frames, looks_of_frames
 from .python_job import Job, machine_of
 from .python_names import NEED_ALL, Names, Standing, lasting_objects, main_task, public_name
 from .python_stack import KEPT, Frame, Stack, stack_of
@@ -110,7 +109,7 @@ class PythonParser(Parser):
         self.looks: Dict[Any, List[Look]] = {}  # of each process
 
     def read(self, state: State) -> List[Reading]:
-        looks = looks_of_frames(state.path, state.text) if is_of_frames(state.text) else looks_of(state)
+        looks = looks_of(state)
         for look in looks:
             if look.by_faulthandler:  # it shows no process id, so each of its dumps counts as a process
                 self.dumps += 1

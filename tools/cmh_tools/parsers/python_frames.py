@@ -10,15 +10,13 @@ from typing import Any, Dict, Iterator, List, Optional, Tuple
 from ..files import Refusal, shown
 from .base import fits, once_each, row_in
 from .python_stack import Frame, frame_in_file
-from .python_text import Look, Row
+from .python_text import OF_FRAMES, SPY, Look, Row
 
-MARK = "cmh-python "
 VERSION = 1
 HEX = re.compile(r"0x[0-9a-f]{1,16}")
 HEAD = {"version": int, "pid": int, "by": str, "name": str, "seconds": (int, float), "host": str, "space": str,
         "began": float, "ended": float,
         "threads": {str: {"state": str, "stops": int, "spent": int, "call?": str, "args?": [HEX] * 6}}}
-SPY = re.compile(r"^Process (\d+): ", re.M)
 SPY_THREAD = re.compile(r'^Thread (\S+) \((active\+gil|active|idle)\)(?:: "(.*)")?$')
 SPY_FRAME = re.compile(r"^    (\S.*) \(([^()]*?)(?::(\d+))?\)$")
 SPY_JSON = {"frames": [{"name": str, "filename": str, "line": int, ...: object}], "os_thread_id?": (int, type(None)),
@@ -29,29 +27,14 @@ GDB_LOST = re.compile(r"^  \(unable to read python frame information\)|^  File .
 GDB_CALL = re.compile(r"^  <built-in method (\w+) of (?:module|(.*?)) object at remote (0x[0-9a-f]+)>$")
 MAIN = "MainThread"
 LIBRARY = re.compile(r"threading\.(?:Thread\.)?(_bootstrap|_bootstrap_inner|run)$")  # frames that begin a thread
-# The calls of the kernel that end by themselves where an argument says so, by its place, and those whose limit is a
-# number, and none is below 0.
-LIMITS = {"poll": 2, "ppoll": 2, "select": 4, "pselect6": 4, "epoll_wait": 3, "epoll_pwait": 3, "epoll_pwait2": 3,
-          "futex": 3, "rt_sigtimedwait": 2, "semtimedop": 3}
-NUMBERS, FOREVER = ("poll", "epoll_wait", "epoll_pwait"), 0x7FFFFFFF
-SLEEPS = ("nanosleep", "clock_nanosleep")
 # What py-spy shortens: files of the library, by their path below it.
 SHORT = re.compile(r"(threading|queue|selectors|socket|socketserver|ssl|subprocess|runpy|sched|contextlib|functools"
                    r"|(asyncio|concurrent|multiprocessing|logging|importlib|http|urllib|xmlrpc)/.*)\.py$")
 
 
-def is_of_frames(text: str) -> bool:
-    return has_line(text, MARK) or has_line(text, "Process ") and SPY.search(text) is not None
-
-
-def has_line(text: str, start: str) -> bool:
-    """Whether a line of a text starts so: an expression takes long to find none in a large one."""
-    return text.startswith(start) or f"\n{start}" in text
-
-
 def looks_of_frames(path: str, text: str) -> List[Look]:
     """Returns the looks of a text in their order."""
-    if MARK in text:
+    if OF_FRAMES in text:
         return [look_of_reader(path, at, head, body) for at, head, body in parts_of(path, text)]
     starts = [it.start() for it in SPY.finditer(text)]
     looks = []
@@ -69,8 +52,8 @@ def parts_of(path: str, text: str) -> Iterator[Tuple[int, Dict[str, Any], List[s
     start = 0
     body: List[str] = []
     for at, line in enumerate(text.replace("\r\n", "\n").split("\n"), 1):
-        row = row_in(line, MARK)
-        if row is None and line.startswith(MARK):
+        row = row_in(line, OF_FRAMES)
+        if row is None and line.startswith(OF_FRAMES):
             raise Refusal(f"{shown(path)}:{at}: this line of cmh_python_reader.py isn't understood")
         if row is None:
             body.append(line)
@@ -196,16 +179,3 @@ def gdb_rows(lines: List[str]) -> Iterator[Thread]:
             kind = built_in[2].split(".")[-1]
             call = {"words": f"{kind}.{built_in[1]}", "how": "call", "arguments": None,
                     "on": {"type": kind, "id": built_in[3]}}
-
-
-# What the kernel shows
-
-
-def is_limited(row: Row) -> bool:
-    """Whether the call of the kernel that a thread is in ends by itself."""
-    call, words = row.more.get("call"), row.more.get("args", ())
-    place = LIMITS.get(call) if isinstance(call, str) else None
-    if place is None:
-        return call in SLEEPS
-    limit = int(words[place], 16)
-    return limit & 0xFFFFFFFF < FOREVER if call in NUMBERS else limit != 0

@@ -5,7 +5,6 @@ import re
 from typing import Any, Dict, Iterable, List, Optional, Tuple
 
 from ..model import Part, Wakers, any_of, unseen, wakers
-from ..sketch import premise
 from .python_job import FUTURE
 from .python_names import Standing, pools_of
 from .python_stack import Frame
@@ -112,10 +111,10 @@ def wait_for_work(standing: Standing, key: Any) -> Wait:
     if name is not None:
         has_begun = key_of_worker in look.threads
         against = (wakers("cancels", job.cancelling),) if has_begun and job.cancelling else job.cancellers(key)
-        made = blocked(any_of(wakers("called", [name], premise(FUTURE))), premise(FUTURE))
+        made = blocked(any_of(wakers("called", [name], FUTURE)), FUTURE)
         return made.beside(*(() if has_begun and not job.cancelling else against))
     workers = job.names_of(kept.get(key, ()))
     if workers:
-        made = blocked(any_of(wakers("called", workers, premise(FUTURE))), premise(FUTURE))
+        made = blocked(any_of(wakers("called", workers, FUTURE)), FUTURE)
         return made.beside(*job.cancellers(key))
     return blocked(any_of(*job.same_process(standing.name))).beside(*job.cancellers(key))

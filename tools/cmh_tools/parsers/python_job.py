@@ -15,8 +15,8 @@ from ..sketch import premise
 from .python_names import Names, actor_of, holders_in
 from .python_text import Look, Row, callers_of
 
-CHILD, FUTURE, BLOCK, DEAD, CANCEL = "child-process", "future", "block", "dead", "cancel"  # assumptions
-INSIDE = "runtime"  # the assumption that only its own process ends a wait at an object of the runtime
+CHILD, FUTURE, BLOCK, DEAD, CANCEL = map(premise, ("child-process", "future", "block", "dead", "cancel"))
+INSIDE = premise("runtime")  # that only its own process ends a wait at an object of the runtime
 FEW = 250  # names in a list that each of its members has without itself
 CODE = {"holds", "ends", "cancels", "releases", "taken"}  # keys of rows that say something of one's code
 NO_ALARM = "its state doesn't say whether an alarm ends its process"
@@ -112,7 +112,7 @@ class Job:
         handlers = (wakers("handles", self.handlers),) if self.handlers else ()
         timers = (wakers("repeats", self.idle_timers),) if self.idle_timers else ()
         lost = (unseen("unshown", self.unshown),) if self.unshown else ()
-        return (wakers("same-process", names, premise(INSIDE)), *timers, *handlers, *lost)
+        return (wakers("same-process", names, INSIDE), *timers, *handlers, *lost)
 
     def cancellers(self, key: Any, is_work: bool = True) -> Part:
         """Those who may end a task, a future or a child: who has it in a variable, and whose code may cancel any. Of

@@ -51,7 +51,7 @@ GETS = re.compile(r"(multiprocessing\.)?queues?\.\w+\.get$|threading\.Condition\
                   r"|logging\.handlers\.QueueListener\.dequeue$|multiprocessing\.process\.")
 WORKER = re.compile(r"concurrent\.futures\.process\._process_worker$|multiprocessing\.pool\.worker$")  # of a pool
 RUNS = re.compile(r"\.(Thread|_WorkItem)\.run$")  # frames that call what a thread was made for
-KEPT = 65536  # places of which is kept what their names say
+KEPT = 8192  # places of which is kept what their names say
 
 
 @dataclass
@@ -64,15 +64,6 @@ class Frame:
     has: Dict[str, Any]
     kind: str  # "own", "package" or "standard"
     call: Optional[Dict[str, Any]] = None
-
-
-class Spot(NamedTuple):
-    """Where a frame is."""
-
-    at: str
-    file: str
-    line: int
-    kind: str
 
 
 class Stack(NamedTuple):
@@ -106,47 +97,47 @@ def stack_of(frames: Sequence[Frame]) -> Stack:
 @lru_cache(maxsize=KEPT)
 def stack_at(places: Tuple[Tuple[str, str, int, str], ...]) -> Stack:
     """Returns what the places of frames say."""
-    spots = [Spot(*place) for place in places]
-    names = tuple(spot.at for spot in spots)
-    standard = standard_names(spots)
+    frames = [Frame(name, file, line, {}, kind) for name, file, line, kind in places]
+    names = tuple(line.at for line in frames)
+    standard = standard_names(frames)
     runs = next((number for number, name in enumerate(names) if name.endswith(".run_until_complete")), None)
     is_handler = any(name.endswith("._handle_workers") for name in names)
     taking = list(takewhile(GETS.match, names))
     outer = names[len(taking):]
     return Stack(
-        own_frames(spots), names, standard,
-        len(standard) - 1 if standard and not RUNS.search(standard[0]) else None, package_called(spots), runs,
+        own_frames(frames), names, standard,
+        len(standard) - 1 if standard and not RUNS.search(standard[0]) else None, package_called(frames), runs,
         names.index(FORKED, 1) if FORKED in names[1:] else len(names),
-        next((spot.at for spot in spots if not is_of_file(spot.at, spot.file)), None),
-        any(spot.kind == "own" for spot in spots),
+        next((line.at for line in frames if not is_of_file(line.at, line.file)), None),
+        any(line.kind == "own" for line in frames),
         len(names) > 1 and names[0].startswith("selectors.") and names[1].startswith("asyncio."),
         any(map(WORKER.match, names)), is_handler or outer != () and WORKERS.match(outer[0]) is not None,
         is_handler or taking != [])
 
 
-def standard_names(spots: List[Spot]) -> Tuple[str, ...]:
+def standard_names(frames: List[Frame]) -> Tuple[str, ...]:
     """Returns the names of the frames of the standard library from the innermost on, up to the first of other code."""
-    inner = takewhile(lambda spot: spot.kind == "standard" and (spot is spots[0] or not BEGINS.match(spot.at)), spots)
-    return tuple(spot.at for spot in inner)
+    inner = takewhile(lambda line: line.kind == "standard" and (line is frames[0] or not BEGINS.match(line.at)), frames)
+    return tuple(line.at for line in inner)
 
 
-def package_called(spots: List[Spot]) -> Optional[int]:
+def package_called(frames: List[Frame]) -> Optional[int]:
     """Returns the number of the frame of a package that the job's own code has called, such as that of a pool."""
-    number = next((number for number, outer in enumerate(spots[1:]) if outer.kind == "own"), None)
-    return number if number is not None and spots[number].kind == "package" and spots[0].kind != "own" else None
+    number = next((number for number, outer in enumerate(frames[1:]) if outer.kind == "own"), None)
+    return number if number is not None and frames[number].kind == "package" and frames[0].kind != "own" else None
 
 
-def own_frames(spots: List[Spot]) -> Tuple[str, ...]:
+def own_frames(frames: List[Frame]) -> Tuple[str, ...]:
     """Returns the texts of the job's own frames from the topmost on. Where it has none, those of packages, else of the
     library that began the thread."""
-    own = [spot for spot in spots if spot.kind == "own"]
-    if all(spot.at.endswith(".<module>") for spot in own):
-        own = [spot for spot in spots if spot.kind != "standard"]
+    own = [line for line in frames if line.kind == "own"]
+    if all(line.at.endswith(".<module>") for line in own):
+        own = [line for line in frames if line.kind != "standard"]
     if not own:
-        ends = [number for number, spot in enumerate(spots) if number and BEGINS.match(spot.at)]
-        last = ends[0] if ends else len(spots)
-        own = spots[last:last + 1] if spots[last:] and spots[last].at.endswith("_feed") else spots[last - 1:last]
-    return tuple(frame(spot.at, spot.file.split("/")[-1], spot.line) for spot in own)
+        ends = [number for number, line in enumerate(frames) if number and BEGINS.match(line.at)]
+        last = ends[0] if ends else len(frames)
+        own = frames[last:last + 1] if frames[last:] and frames[last].at.endswith("_feed") else frames[last - 1:last]
+    return tuple(frame(line.at, line.file.split("/")[-1], line.line) for line in own)
 
 
 # A frame and its file

@@ -10,9 +10,7 @@ from dataclasses import replace
 from typing import Any, Callable, Dict, List, Optional, Sequence, Tuple
 
 from ..model import Part, Sign, any_of, unseen, wakers
-from ..sketch import premise
 from .python_cancel import Cancellers
-from .python_frames import is_limited
 from .python_futures import all_waits, any_waits, by_future, by_futures, wait_of_frame
 from .python_job import CANCEL, Job
 from .python_names import Standing, main_task
@@ -26,6 +24,12 @@ EVENTS = "waits for events"  # how a loop is idle
 COMING = {"server": "waits for a client", "signal": "waits for a signal", "timer": "waits for its time",
           "reader": "waits for data", "connection": "waits for data"}
 LIMITED_CALLS = {"asyncio.tasks.sleep", "asyncio.tasks.wait_for"}
+# The calls of the kernel that end by themselves where an argument says so, by its place, and those whose limit is a
+# number, and none is below 0.
+LIMITS = {"poll": 2, "ppoll": 2, "select": 4, "pselect6": 4, "epoll_wait": 3, "epoll_pwait": 3, "epoll_pwait2": 3,
+          "futex": 3, "rt_sigtimedwait": 2, "semtimedop": 3}
+NUMBERS, FOREVER = ("poll", "epoll_wait", "epoll_pwait"), 0x7FFFFFFF
+SLEEPS = ("nanosleep", "clock_nanosleep")
 LIMIT_OF_FUTEX = 3  # which argument that is
 OF_PROCESS = 128  # in what is done at a futex: it is one of this process alone
 # Frames of a thread that runs an event loop, also of one that isn't asyncio's own.
@@ -126,7 +130,7 @@ class Waits:
         own = task_wait(row, standing)
         if not own.goes_on():
             own = own.beside(*self.cancellers.of(row.key), *self.job.cancellers(row.key), *self.of_callers(loop))
-            own.because.append(premise(CANCEL))
+            own.because.append(CANCEL)
         holder = self.job.holder(loop)
         return own if holder is None else self.behind(holder, own, thread)
 
@@ -248,3 +252,13 @@ def in_kernel(standing: Standing) -> Optional[Wait]:
     if row.more.get("state") == "R":
         return goes("it computes")
     return limited("it waits with a limit") if "args" in row.more and is_limited(row) else None
+
+
+def is_limited(row: Row) -> bool:
+    """Whether the call of the kernel that a thread is in ends by itself."""
+    call, words = row.more.get("call"), row.more.get("args", ())
+    place = LIMITS.get(call) if isinstance(call, str) else None
+    if place is None:
+        return call in SLEEPS
+    limit = int(words[place], 16)
+    return limit & 0xFFFFFFFF < FOREVER if call in NUMBERS else limit != 0

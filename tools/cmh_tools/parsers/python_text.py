@@ -17,6 +17,8 @@ from .base import fits, misfits, once_each
 from .python_stack import FORKED, Frame, Stack, frame_in_file, kind_of, stack_of
 
 MARK = "cmh-state "
+OF_FRAMES = "cmh-python "  # what the lines of cmh_python_reader.py begin with
+SPY = re.compile(r"^Process (\d+): ", re.M)
 VERSION = 1
 NUMBER, TEXT, FLAG = (int, type(None)), (str, type(None)), (bool, type(None))
 ERROR = {"error": str}  # what stands in the place of a value that an odd object kept from being read
@@ -201,8 +203,21 @@ def last_word(call: Dict[str, Any]) -> str:
     return (call.get("words") or "").rpartition(".")[2]
 
 
+def is_of_frames(text: str) -> bool:
+    """Whether a text shows frames alone, as py-spy and gdb do."""
+    return has_line(text, OF_FRAMES) or has_line(text, "Process ") and SPY.search(text) is not None
+
+
+def has_line(text: str, start: str) -> bool:
+    """Whether a line of a text starts so: an expression takes long to find none in a large one."""
+    return text.startswith(start) or f"\n{start}" in text
+
+
 def looks_of(state: State) -> List[Look]:
     """Returns the looks of a text in their order. Raises Refusal if it has none."""
+    if is_of_frames(state.text):
+        from .python_frames import looks_of_frames  # (few states are so, and to make its expressions takes long)
+        return looks_of_frames(state.path, state.text)
     lines = state.text.split("\n")
     found = looks_of_module(state.path, lines) if MARK in state.text else looks_of_faulthandler(state.path, lines)
     if not found:
@@ -322,7 +337,7 @@ def are_tasks(look: Look) -> bool:
             is_there, is_task = value.get("id") in look.tasks, value.get("type") == "Task"
             if is_there and not is_task or is_task and not is_there and value.get("done") is False:
                 return False
-            values += value.values()
+            values += [inner for inner in value.values() if type(inner) in (dict, list)]
         elif type(value) is list:
             values += value
     return True

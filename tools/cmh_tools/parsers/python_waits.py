@@ -50,8 +50,9 @@ class Wait:
 
     def beside(self, *more: Wakers) -> Wait:
         """The same, where others may end each part too."""
-        parts = [(*part, *more) for part in self.parts]
-        return Wait(self.sign, parts, self.reason, self.because, self.count) if more else self
+        if not more:
+            return self
+        return Wait(self.sign, [(*part, *more) for part in self.parts], self.reason, self.because, self.count)
 
 
 def goes(reason: str) -> Wait:
@@ -166,7 +167,7 @@ def by_dead_owner(standing: Standing, lock: Dict[str, Any]) -> Wait:
         return unsure("its lock had no owner that is in the state")
     keys = [row.key for row in look.rows() if idle_wait(Standing(standing.job, row, row.frames)) is None]
     others = [name for name in standing.job.names_of(keys) if name != standing.name]
-    return blocked(any_of(wakers("starts", others)) if others else [()], premise(DEAD))
+    return blocked(any_of(wakers("starts", others)) if others else [()], DEAD)
 
 
 def by_block(standing: Standing, lock: Dict[str, Any], most: int = 1) -> Optional[Wait]:
@@ -181,7 +182,7 @@ def by_block(standing: Standing, lock: Dict[str, Any], most: int = 1) -> Optiona
     if len(keys) != most:
         return None
     names = [name for key in keys for name in (job.owners(key) if key in look.threads else job.names_of([key]))]
-    wait = blocked(any_of(wakers("owns", list(dict.fromkeys(names)), premise(BLOCK))), premise(BLOCK))
+    wait = blocked(any_of(wakers("owns", list(dict.fromkeys(names)), BLOCK)), BLOCK)
     able = () if taken else job.same_process(standing.name)
     return wait.beside(*able, *([wakers("releases", job.releasing)] if job.releasing else []))
 
@@ -190,7 +191,7 @@ def by_takers(standing: Standing, semaphore: Dict[str, Any]) -> Optional[Wait]:
     """The wait for a permit, of which the state doesn't show how many there are: for those whose code has taken one for
     a block, and for others who may have one besides. None if nobody has."""
     keys = standing.job.taken.get(semaphore.get("id"), [])
-    owners = wakers("owns", standing.job.names_of(keys), premise(BLOCK))
+    owners = wakers("owns", standing.job.names_of(keys), BLOCK)
     return blocked(any_of(owners, *standing.job.same_process(standing.name))) if owners.who else None
 
 
@@ -238,7 +239,7 @@ def by_child(standing: Standing) -> Optional[Wait]:
         pid = child.get("pid") if is_wait and isinstance(child, dict) and line.has.get("timeout") is None else None
         name = job.machine.mains.get(standing.look.place(pid)) if pid is not None else None
         if name:
-            made = blocked(any_of(wakers("ends", [name], premise(CHILD))), premise(CHILD))
+            made = blocked(any_of(wakers("ends", [name], CHILD)), CHILD)
             return made.beside(*job.cancellers(child.get("id"), False))
     return None
 
