@@ -77,10 +77,10 @@ class Process:
     is_collective: bool = False
     is_garbled: bool = False
 
-    def copy(self) -> Process:
-        """Returns one whose parts are the same. `dataclasses.replace` takes ten times as long."""
+    def copy(self, **changes: Any) -> Process:
+        """Returns one that is the same but for some fields. `dataclasses.replace` takes ten times as long."""
         made = Process.__new__(Process)
-        made.__dict__.update(self.__dict__)
+        made.__dict__.update(self.__dict__, **changes)
         return made
 
     @property
@@ -91,6 +91,11 @@ class Process:
         if is_open(self.parts[0]) if len(self.parts) == 1 else are_open(self.parts):
             return UNKNOWN
         return ALL if self.is_for_all() else ANY
+
+    @property
+    def place(self) -> Tuple[List[str], str, List[str]]:
+        """Where it stands, by which two looks are told apart."""
+        return self.frames, self.operation, self.objects
 
     @property
     def entry(self) -> str:

@@ -10,7 +10,7 @@ from __future__ import annotations
 
 import functools
 from collections import defaultdict
-from dataclasses import dataclass, field, replace
+from dataclasses import dataclass, field
 from itertools import chain, zip_longest
 from operator import attrgetter
 from typing import Any, DefaultDict, Dict, FrozenSet, Iterable, List, Optional, Sequence, Set, Tuple
@@ -165,40 +165,40 @@ def has_left(process: Process, later: Dict[str, Process]) -> bool:
 
 def forget(process: Process) -> Process:
     """One that may have ended, or stand anywhere by now. No fact on its place decides it."""
-    return replace(process, sign=Sign.UNKNOWN, parts=[], because=[], reason=GONE, frames=[], operation="", objects=[],
-                   count=None, is_garbled=True)
+    return process.copy(sign=Sign.UNKNOWN, parts=[], because=[], reason=GONE, frames=[], operation="", objects=[],
+                        count=None, is_garbled=True)
 
 
 def newcomer(process: Process, extent: str) -> Process:
     """One of the second state alone: it came after the first, if both have all that were there. If it has nothing to do
     already, it rests, for all that its one state says."""
     if extent == PARTS and process.sign not in GOING:
-        return replace(process, sign=Sign.UNKNOWN, parts=[], because=[], reason="it isn't in the first state")
+        return process.copy(sign=Sign.UNKNOWN, parts=[], because=[], reason="it isn't in the first state")
     if process.sign is Sign.RESTS:
         return with_doubt(process, NEW)
-    return replace(process, sign=Sign.GOES_ON, parts=[], because=[SYSTEM], reason=NEW)
+    return process.copy(sign=Sign.GOES_ON, parts=[], because=[SYSTEM], reason=NEW)
 
 
 def with_doubt(process: Process, why: str) -> Process:
     """One at rest in each of some states that has it, where these aren't known to show one wait."""
-    return replace(process, parts=[(*part, unseen("uncounted", why)) for part in process.parts])
+    return process.copy(parts=[(*part, unseen("uncounted", why)) for part in process.parts])
 
 
 def join(process: Process, later: Optional[Process], known: Known) -> Process:
     """Returns a process of the first state as it is by both."""
     if process.is_garbled and process.sign is Sign.GOES_ON:
         return process  # (it has moved before)
-    odd = next((either for either in (process, later) if either is not None and either.is_garbled), None)
-    if odd is not None:
-        return replace(process, sign=Sign.UNKNOWN, parts=[], because=[], reason=odd.reason, is_garbled=True, count=None)
+    odd = process if process.is_garbled else later
+    if odd is not None and odd.is_garbled:
+        return process.copy(sign=Sign.UNKNOWN, parts=[], because=[], reason=odd.reason, is_garbled=True, count=None)
     if process.sign is Sign.ENDED:
         return end_by_both(process, later)
     if later is None or later.sign is Sign.ENDED:
         return leaver_of(process, "it has ended since", process.sign)
     if is_elsewhere(process, later):
         return leaver_of(process, "it has moved", later.sign)
-    going = [either for either in (process, later) if either.sign in GOING]
-    if going and (SYSTEM in going[0].because or Sign.UNKNOWN not in (process.sign, later.sign)):
+    going = process if process.sign in GOING else later
+    if going.sign in GOING and (SYSTEM in going.because or Sign.UNKNOWN not in (process.sign, later.sign)):
         return runner_of(process, later)
     return waiter_of(process, later, known)
 
@@ -213,8 +213,8 @@ def mover_of(process: Process, why: str) -> Process:
     """One that isn't at the same wait in both states, nor at rest in each: a deadlock never ends. Nor does a fact on
     the place that it has left decide it."""
     is_by_hand = BY_HAND in process.because
-    return replace(process, sign=Sign.GOES_ON, parts=[], reason=process.reason if process.sign in GOING else why,
-                   because=[BY_HAND if is_by_hand else SYSTEM], operation="", is_garbled=process.sign in GOING)
+    return process.copy(sign=Sign.GOES_ON, parts=[], reason=process.reason if process.sign in GOING else why,
+                        because=[BY_HAND if is_by_hand else SYSTEM], operation="", is_garbled=process.sign in GOING)
 
 
 def runner_of(process: Process, later: Process) -> Process:
@@ -226,8 +226,8 @@ def runner_of(process: Process, later: Process) -> Process:
         one = next(either for either in (process, later) if either.sign is Sign.GOES_ON)
     is_same = process.sign is later.sign
     sign = Sign.GOES_ON if Sign.GOES_ON in signs else process.sign if is_same else Sign.SLEEPS
-    return replace(process, sign=sign, parts=[], reason=one.reason, because=one.because,
-                   count=process.count if is_same else None)
+    return process.copy(sign=sign, parts=[], reason=one.reason, because=one.because,
+                        count=process.count if is_same else None)
 
 
 def waiter_of(process: Process, later: Process, known: Known) -> Process:
@@ -249,7 +249,7 @@ def waiter_of(process: Process, later: Process, known: Known) -> Process:
     elif not made.parts and process.parts:
         made.become_unknown(COME)
     elif None not in (process.count, later.count) and made.count is None:
-        return with_doubt(made, GROWN) if made.sign is Sign.RESTS else replace(made, sign=Sign.UNKNOWN, reason=GROWN)
+        return with_doubt(made, GROWN) if made.sign is Sign.RESTS else made.copy(sign=Sign.UNKNOWN, reason=GROWN)
     return made
 
 
@@ -293,20 +293,20 @@ def wakers_of_both(first: Wakers, second: Wakers, known: Known) -> Wakers:
 def end_by_both(process: Process, later: Optional[Process]) -> Process:
     """One that has ended. It did so well if one of the states says so: that makes up no deadlock."""
     if later is not None and later.sign is not Sign.ENDED:
-        return replace(process, sign=Sign.UNKNOWN, because=[], is_garbled=True,
-                       reason="it has ended by one state, and is there in the next")
+        return process.copy(sign=Sign.UNKNOWN, because=[], is_garbled=True,
+                            reason="it has ended by one state, and is there in the next")
     done = later is not None and later.reason == DONE
-    return replace(process, reason=DONE) if done else process
+    return process.copy(reason=DONE) if done else process
 
 
 def is_elsewhere(process: Process, later: Process) -> bool:
     """Whether the places of two states differ. What has no place is told by its wait. Where one state shows no place,
     nothing is known to differ."""
-    places = [(either.frames, either.operation, either.objects) for either in (process, later)]
-    if not any(map(any, places)):
-        waits = [(either.kind, set(either.whom)) for either in (process, later)]
-        return waits[0] != waits[1] and all(either.sign in WAITING for either in (process, later))
-    return places[0] != places[1] and all(map(any, places))
+    place, later_place = process.place, later.place
+    if any(place) or any(later_place):
+        return place != later_place and any(place) and any(later_place)
+    waits = [(either.kind, set(either.whom)) for either in (process, later)]
+    return waits[0] != waits[1] and all(either.sign in WAITING for either in (process, later))
 
 
 def overlap(readings: List[Reading]) -> Optional[Reading]:

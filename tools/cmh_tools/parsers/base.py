@@ -181,7 +181,7 @@ def break_wait(process: Process, why: str, is_of_process: bool) -> None:
 
 def reasons_in(parts: Sequence[Part]) -> List[str]:
     """Returns the reasons for the wakers of a wait, each once."""
-    return list(dict.fromkeys(reason for part in parts for group in part for reason in group.because))
+    return list(dict.fromkeys([reason for part in parts for group in part for reason in group.because]))
 
 
 OPEN = ("reaches", "same-process", "inside", "subscribes", "guess")  # found by a search of what is printed
