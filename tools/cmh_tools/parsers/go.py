@@ -27,7 +27,7 @@ from .go_frames import (CONNECTION, NEEDS_ALL, WATCHER, WRITER, Call, Place, acc
                         own_calls, receiver_locked, receivers_past_lock, serves_request, takes_state, types_of,
                         watches_client)
 from .go_starters import MAIN, UNSEEN, Starters, unseen_starter
-from .go_text import ADDRESS, AGAIN, LOOKED, TAKER, WHERE, Dump, Goroutine, read_dumps
+from .go_text import ADDRESS, AGAIN, LOOKED, TAKER, WHERE, Dump, Goroutine, notes_in, read_dumps
 
 SITE = "the Go program"
 # States in which a goroutine goes on by itself, or the runtime sees to it.
@@ -95,9 +95,10 @@ class GoParser(Parser):
         text = state.text[:start] if state.text.startswith(RECORD, start) else state.text
         dumps = read_dumps(state.path, text)
         self.dumps += dumps
-        looked = [row.groups() for row in LOOKED.finditer(state.text)]
-        self.seconds += sum(map(float, AGAIN.findall(state.text)))
-        where = WHERE.search(state.text)
+        notes = notes_in(state.text)
+        looked = [row.groups() for row in LOOKED.finditer(notes)]
+        self.seconds += sum(map(float, AGAIN.findall(notes)))
+        where = WHERE.search(notes)
         self.site = f"{SITE} at {where[1]}" if where else self.site
         local = LOCAL.fullmatch(where[1].partition(" ")[0]) if where else None
         self.port = local[1] if local else self.port

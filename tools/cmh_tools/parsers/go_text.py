@@ -29,6 +29,7 @@ BESIDE = re.compile(
     r"\s*|# cmh .*|PC=.*|signal arrived .*|runtime: .*|exit status \d+|\[signal .*|m\d+: .*|-----\s*"
     r"|goroutine profile: .*"
 )
+NOTE = "# cmh look"  # what the lines begin with that a recipe has written of where and when it looks
 WHERE = re.compile(r"^# cmh looks at (\S{1,300}(?: \(PID \d{1,10}\))?)$", re.M)  # before the first look
 AGAIN = re.compile(r"^# cmh looked again (\d{1,4}(?:\.\d{1,9})?) s later$", re.M)  # before each look but the first
 # Behind each look.
@@ -134,6 +135,12 @@ def place_in(line: str) -> Optional[Spot]:
 @lru_cache(maxsize=KEPT)
 def is_function(text: str) -> bool:
     return FUNCTION.fullmatch(text) is not None
+
+
+def notes_in(text: str) -> str:
+    """Returns the lines of a text that WHERE, AGAIN and LOOKED are looked for in. To look in all of it takes long."""
+    parts = f"\n{text}".split(f"\n{NOTE}")
+    return "\n".join(NOTE + part.split("\n", 1)[0] for part in parts[1:])
 
 
 def read_dumps(path: str, text: str) -> List[Dump]:
