@@ -14,20 +14,22 @@ pattern finds isn't whole while more of it may be started: by a goroutine that i
 from __future__ import annotations
 
 import re
-from typing import Dict, List, Optional, Set, Tuple
+from functools import lru_cache
+from itertools import chain
+from typing import Any, Dict, List, Optional, Set, Tuple
 
 from ..files import Refusal
 from ..model import COMES, Part, Sign, Wakers, all_of, any_of, unseen, wakers
 from ..sketch import GOING, LIMIT, SYSTEM, Process, Sketch, blocked, garbled, goes_on, premise, rests, unknown
 from ..snapshots import APART, CUT, GONE, ONCE, Reading
 from . import State
-from .base import FAR, Parser, Reach, Snapshot, duration, is_loop, without_sleep
-from .go_frames import (CONNECTION, NEEDS_ALL, WATCHER, WRITER, Call, Place, accepts_for_library, callers_in,
-                        cut_short, entry_of, is_at_connection, is_jobs, is_of_runtime, lacks_wait, misplaced,
-                        own_calls, receiver_locked, receivers_past_lock, serves_request, takes_state, types_of,
-                        watches_client)
+from .base import FAR, Parser, Reach, Snapshot, duration, without_sleep
+from .go_frames import (CONNECTION, KEPT, NEEDS_ALL, WATCHER, WRITER, Caller, Place, accepts_for_library, callers_in,
+                        cut_short, entry_of, functions_of, is_at_connection, is_of_runtime, jobs_of, lacks_wait,
+                        misplaced, objects_of, own_calls, place_of, receivers_at, serves_request, takes_state,
+                        types_of, watches_client)
 from .go_starters import MAIN, UNSEEN, Starters, unseen_starter
-from .go_text import ADDRESS, AGAIN, LOOKED, TAKER, WHERE, Dump, Goroutine, notes_in, read_dumps
+from .go_text import AGAIN, LOOKED, TAKER, WHERE, Dump, Frame, Goroutine, notes_in, read_dumps
 
 SITE = "the Go program"
 # States in which a goroutine goes on by itself, or the runtime sees to it.
@@ -36,7 +38,6 @@ RUNNING = frozenset(("running", "runnable", "preempted", "copystack", "GC assist
                      "debug call", "stopping the world", "flushing proc caches", "GC mark termination"))
 NOBODY = frozenset(("chan receive (nil chan)", "chan send (nil chan)", "select (no cases)"))
 OF_THE_SYSTEM = frozenset(("IO wait", "syscall"))
-RECEIVES = frozenset(("chan receive", "select", "sync.Cond.Wait"))  # operations at which one rests in its own loop
 END_OF_MAIN = "waits in the empty select of main"
 YIELD = "runtime.Gosched"
 READER = "sync.RWMutex.RLock"
@@ -59,17 +60,19 @@ LIBRARYS = (CONNECTION, WATCHER)  # how those are idle that run code of a librar
 
 
 class Goroutines(Snapshot):
-    """The goroutines at one time: where each one stands, by its number; who has the address of a channel or lock in a
-    frame, and doesn't wait at it; who was begun by a method of each type; all of them; and whether all were stopped
-    when they were read."""
+    """The goroutines at one time: where each one stands, by its number, and what it shows that it waits at: the objects
+    alone, and with that whose method waits for a lock; who has one of these in a frame, and doesn't wait at it; who was
+    begun by a method of each type; all of them; and whether all were stopped when they were read."""
 
     places: Dict[str, Place]
+    objects: Dict[str, List[str]]
+    things: Dict[str, List[Any]]
     reach: Reach
     begun: Reach
     everybody: Wakers
     is_stopped: bool
     has_signals: bool
-    callers: Set[Call]
+    callers: Set[Caller]
 
 
 class GoParser(Parser):
@@ -113,8 +116,8 @@ class GoParser(Parser):
             goroutine.doubt(f"{goroutine.at}: its outermost frames are missing below this line, which others have")
         odd = misplaced(dump.goroutines)
         for goroutine in dump.goroutines:
-            steps = (*goroutine.frames, goroutine.creator)
-            if odd and not odd.isdisjoint((step.function, step.path) for step in steps):
+            if odd and not odd.isdisjoint((step.function, step.path)
+                                          for step in (*goroutine.frames, goroutine.creator)):
                 why = "lines are missing below this one, since a function and its file don't fit"
                 goroutine.doubt(f"{goroutine.at}: {why}")
             if lacks_wait(goroutine):
@@ -123,7 +126,8 @@ class GoParser(Parser):
         takers = [goroutine for goroutine in shown_ones if takes_state(goroutine)]
         self.warnings += dump.warnings
         self.warnings += [f"goroutine {taker.number}, which takes the state, is left out" for taker in takers]
-        rows = [goroutine for goroutine in shown_ones if goroutine not in takers] if takers else shown_ones
+        numbers = {taker.number for taker in takers}
+        rows = [goroutine for goroutine in shown_ones if goroutine.number not in numbers]
         return Reading(dump.path, self.NAME, rows, missing_of(dump, shown_ones), CUT)
 
     def begin(self, readings: List[Reading]) -> None:
@@ -141,7 +145,8 @@ class GoParser(Parser):
         before: Dict[str, Goroutine] = {}
         for look, dump in enumerate(self.dumps):
             for goroutine in dump.goroutines:
-                self.names.setdefault(goroutine.number, f"{entry_of(goroutine)}/{goroutine.number}")
+                if goroutine.number not in self.names:
+                    self.names[goroutine.number] = f"{entry_of(goroutine)}/{goroutine.number}"
                 earlier_one = before.get(goroutine.number)
                 if earlier_one is not None and has_left(earlier_one, goroutine):
                     self.again[id(goroutine)] = ANOTHER
@@ -153,22 +158,26 @@ class GoParser(Parser):
         self.parents = {goroutine.parent for dump in self.dumps for goroutine in dump.goroutines if goroutine.parent}
 
     def prepare(self, snapshot: Goroutines) -> None:
-        """Finds in whose frames each address stands, and whether all goroutines were stopped when they were read."""
+        """Finds where all stand, who has in a frame what another one waits at, and whether all goroutines were stopped
+        when they were read."""
         rows: List[Goroutine] = snapshot.rows()
-        snapshot.places = {goroutine.number: Place(goroutine) for goroutine in rows}
+        stacks = {goroutine.frames for goroutine in rows}
+        snapshot.places = {goroutine.number: place_of(goroutine.frames, goroutine.state, goroutine.creator)
+                           for goroutine in rows}
+        snapshot.objects = {goroutine.number: objects_of(goroutine, snapshot.places[goroutine.number])
+                            for goroutine in rows}
+        snapshot.things = {goroutine.number: [*snapshot.objects[goroutine.number], *receivers_at(
+            goroutine, snapshot.places[goroutine.number].locked)] for goroutine in rows}
         snapshot.is_stopped = not any(goroutine.is_elsewhere for goroutine in rows)
-        snapshot.callers = callers_in(rows)
-        snapshot.has_signals = any(frame.function == SIGNALS for goroutine in rows for frame in goroutine.frames)
+        snapshot.callers = callers_in(stacks)
+        snapshot.has_signals = any(SIGNALS in functions_of(frames) for frames in stacks)
         own = [goroutine for goroutine in rows if snapshot.places[goroutine.number].idle not in LIBRARYS]
         snapshot.everybody = wakers("same-process", [self.names[goroutine.number] for goroutine in own])
         snapshot.reach, snapshot.begun = Reach(), Reach()
+        awaited = {*chain.from_iterable(snapshot.things.values())}
         for goroutine in own:
-            here = snapshot.places[goroutine.number].objects
-            for address in dict.fromkeys(ADDRESS.findall(" ".join(frame.arguments for frame in goroutine.frames))):
-                if address not in here:
-                    snapshot.reach.add(address, [self.names[goroutine.number]], "inside")
-            for receiver in receivers_past_lock(goroutine, snapshot.places[goroutine.number]):
-                snapshot.reach.add(receiver, [self.names[goroutine.number]], "inside")
+            for thing in awaited.intersection(held_by(goroutine, snapshot)):
+                snapshot.reach.add(thing, [self.names[goroutine.number]], "inside")
             for maker in types_of(goroutine.created_by):
                 snapshot.begun.add(maker, [self.names[goroutine.number]], "guess")
 
@@ -180,8 +189,9 @@ class GoParser(Parser):
         process = self.wait_at(goroutine, place, name, snapshot)
         process.site, process.frames = self.site, place.frames
         process.operation = process.operation or place.operation
-        process.meeting = next(iter(place.objects), name) if place.operation in NEEDS_ALL else ""
-        process.objects = [*place.objects, *self.values(goroutine), *filter(None, [self.again.get(id(goroutine))])]
+        objects = snapshot.objects[goroutine.number]
+        process.meeting = next(iter(objects), name) if place.operation in NEEDS_ALL else ""
+        process.objects = [*objects, *self.values(goroutine), *filter(None, [self.again.get(id(goroutine))])]
         since = f", for {goroutine.minutes} minutes" if goroutine.minutes else ""
         where = f" at {place.frames[0]}" if place.frames else ""
         process.note = f"{place.operation}{where}{since}"
@@ -203,7 +213,7 @@ class GoParser(Parser):
             return rests(name, place.idle, any_of(unseen("outside")), [SYSTEM])
         if state in RUNNING and place.called == YIELD:
             return goes_on(name, "yields", [premise(LIMIT)], Sign.SLEEPS, operation=f"timed {YIELD}")
-        if state in RUNNING and any(frame.function == TAKER for frame in goroutine.frames):
+        if state in RUNNING and TAKER in functions_of(goroutine.frames):
             return rests(name, "prints the state", any_of(unseen("outside")), [SYSTEM])
         if state in RUNNING:
             return goes_on(name, place.idle or ("computes" if state.startswith("run") else state), [SYSTEM])
@@ -223,11 +233,11 @@ class GoParser(Parser):
     def sleeper(self, goroutine: Goroutine, place: Place, name: str, snapshot: Goroutines) -> Process:
         """One that sleeps. One that sleeps for a short time in the function that it was started with has come back to
         that sleep from the first state to the last."""
-        found = next((frame.arguments for frame in goroutine.frames if frame.function == "time.Sleep"), "")
+        found = next((call.arguments for call in goroutine.calls if call.frame.function == "time.Sleep"), "")
         nanoseconds = int(found, 16) if SLEEP.fullmatch(found) else 0
         is_short = 0 < nanoseconds <= max(SHORT, self.seconds / 2) * 10 ** 9
         own = without_sleep([frame.function for frame in own_calls(goroutine, snapshot.callers)])
-        sign = Sign.TICKS if len(own) == 1 and not serves_request(goroutine) else Sign.SLEEPS
+        sign = Sign.TICKS if len(own) == 1 and not serves_request(goroutine.frames) else Sign.SLEEPS
         count = self.look_of(goroutine) if is_short else None
         why = f"sleeps for {duration(nanoseconds / 1e9)}" if nanoseconds else "sleeps"
         if nanoseconds > FAR * 1e9:  # (which is no limit)
@@ -242,7 +252,7 @@ class GoParser(Parser):
     def waiter(self, goroutine: Goroutine, place: Place, name: str, snapshot: Goroutines) -> Process:
         """One that waits for another goroutine, and the text doesn't show for which: first for one in whose frames it
         stands, or for those whom the type of a library has begun in whose method it waits, as a group has its tasks."""
-        inside = self.inside(goroutine, place, name, snapshot)
+        inside = self.inside(goroutine, name, snapshot)
         names = list(dict.fromkeys(other for some in inside for other in some.names()))
         why = f"{goroutine.state}: {ENDERS.get(place.operation, DOESNT_SHOW)}{also_at(names)}"
         begun = [] if inside else [group for maker in types_of(place.called) for group in snapshot.begun.of(maker)]
@@ -250,19 +260,13 @@ class GoParser(Parser):
         children = self.children(goroutine, place, snapshot)
         if children:
             parts = all_of(children, COMES, beside=(snapshot.everybody, unseen("unshown")))
-        awaits_signal = snapshot.has_signals and OF_SIGNALS.search(place.function) is not None
-        awaits_end = goroutine.number == MAIN and snapshot.has_signals and place.operation == "select"
-        may_rest = awaits_signal or awaits_end or accepts_for_library(goroutine, place) or is_in_own_loop(
-            goroutine, snapshot)
-        receives = place.operation in RECEIVES or goroutine.state in RECEIVES and is_loop(place.operation)
-        if receives and may_rest:
+        if place.receives and may_rest(goroutine, place, snapshot):
             return rests(name, why, parts, [SYSTEM])
         return blocked(name, parts, [SYSTEM], reason=why)
 
-    def inside(self, goroutine: Goroutine, place: Place, name: str, snapshot: Goroutines) -> Tuple[Wakers, ...]:
+    def inside(self, goroutine: Goroutine, name: str, snapshot: Goroutines) -> Tuple[Wakers, ...]:
         """Returns those in whose frames stands what one waits at, or who run a method of that whose lock it wants."""
-        things = [*place.objects, *receiver_locked(goroutine, place)]
-        found = [some for thing in things for some in snapshot.reach.of(thing)]
+        found = [some for thing in snapshot.things[goroutine.number] for some in snapshot.reach.of(thing)]
         if sum(len(some.names()) for some in found) > MOST:
             return ()
         return tuple(left for left in (some.without([name]) for some in found) if left.names())
@@ -306,9 +310,26 @@ class GoParser(Parser):
 DOESNT_SHOW = "the state doesn't show what ends this wait"
 
 
+def held_by(goroutine: Goroutine, snapshot: Goroutines) -> Set[Any]:
+    """Returns the addresses that a goroutine has in its frames, but for what it waits at, and of what it runs methods.
+    """
+    addresses = set(chain.from_iterable([call.addresses for call in goroutine.calls]))
+    addresses.difference_update(snapshot.objects[goroutine.number])
+    return addresses.union(receivers_at(goroutine, snapshot.places[goroutine.number].run))
+
+
+def may_rest(goroutine: Goroutine, place: Place, snapshot: Goroutines) -> bool:
+    """Whether one that receives stands where one does who has nothing to do: at a signal or the end of the program, at
+    the next connection, or in its own loop."""
+    if snapshot.has_signals and (goroutine.number == MAIN and place.operation == "select"
+                                 or OF_SIGNALS.search(place.function) is not None):
+        return True
+    return accepts_for_library(goroutine.frames, place.function) or is_in_own_loop(goroutine, snapshot)
+
+
 def is_in_own_loop(goroutine: Goroutine, snapshot: Goroutines) -> bool:
     """Whether a goroutine stands in the function that it was started with, in none that it has called."""
-    return len(own_calls(goroutine, snapshot.callers)) == 1 and not serves_request(goroutine)
+    return len(own_calls(goroutine, snapshot.callers)) == 1 and not serves_request(goroutine.frames)
 
 
 def missing_of(dump: Dump, shown: List[Goroutine]) -> str:
@@ -346,7 +367,7 @@ def has_left(first: Goroutine, later: Goroutine) -> bool:
     """Whether a goroutine has begun another wait, or stands elsewhere in the same line. The minutes of a wait only
     grow; one that sleeps in a loop comes back to the same sleep."""
     is_new = later.minutes < first.minutes and later.state != "sleep"
-    return is_new or stack_of(first) != stack_of(later)
+    return is_new or first.frames != later.frames and stack_of(first) != stack_of(later)
 
 
 def stack_of(goroutine: Goroutine) -> List[Tuple[str, Optional[int], str]]:
@@ -366,10 +387,14 @@ def check_same(first: Dump, later: Dump) -> None:
 
 def origin_of(goroutine: Goroutine) -> str:
     """Returns where a goroutine was created, or for main where main.main is, as text, or nothing."""
-    creator, last = goroutine.creator, next(filter(is_jobs, reversed(goroutine.frames)), None)
     if goroutine.fault:
         return ""
-    if creator.function and creator.path:
-        return f"{creator.function} ({creator.path}:{creator.line})"
-    is_main = goroutine.number == "1" and last is not None and last.function == "main.main"
-    return f"main.main ({last.path})" if is_main and last is not None else ""
+    if goroutine.creator.path:
+        return text_of(goroutine.creator)
+    last = jobs_of(goroutine.frames)[-1:] if goroutine.number == MAIN else ()
+    return "".join(f"main.main ({step.path})" for step in last if step.function == "main.main")
+
+
+@lru_cache(maxsize=KEPT)
+def text_of(creator: Frame) -> str:
+    return f"{creator.function} ({creator.path}:{creator.line})"

@@ -8,7 +8,7 @@ from typing import Dict, Iterable, List, Optional, Set, Tuple
 
 from ..sketch import frame
 from .base import is_loop
-from .go_text import ADDRESS, TAKER, Frame, Goroutine
+from .go_text import TAKER, Frame, Frames, Goroutine
 
 STANDARD = frozenset(
     "archive arena bufio bytes cmp compress container context crypto database debug embed encoding errors expvar flag "
@@ -29,6 +29,7 @@ OPERATIONS = {
     "sync.Mutex.lockSlow": "sync.Mutex.Lock", "sync.runtime_SemacquireMutex": "sync.Mutex.Lock",
     "sync.runtime_Semacquire": "sync.WaitGroup.Wait"}
 METHOD = re.compile(r"[(*)]")
+RECEIVES = frozenset(("chan receive", "select", "sync.Cond.Wait"))  # operations at which one rests in its own loop
 # Idle frames: a goroutine with one of them before the first of the job's own waits for work, and tells of no stall. But
 # for one that accepts connections, it has none of the job's own, and waits for no lock.
 ACCEPTOR, CONNECTION, WATCHER = "waits for a connection", "waits on a connection", "waits for what it watches"
@@ -61,8 +62,9 @@ TAKES_LOCK = frozenset(("sync.Mutex.Lock", WRITER, "sync.RWMutex.RLock"))
 WRAPPER = re.compile(r".*(?:\.gowrap\d+|·dwrap·\d+)")
 ACCEPTS = re.compile(r".*\.Accept")  # how a listener waits for the next connection
 CLOSURE = re.compile(r".*\.func[\d.]+")
-CHANNEL = re.compile(r"runtime\.chan(?:send|recv)")
-LOCK = re.compile(r"sync\.\(\*(?:Mutex|RWMutex|WaitGroup|Cond|Once)\)\.\w+|internal/sync\.\(\*Mutex\)\.\w+")
+# What shows in its first argument the channel or lock that a goroutine waits at.
+SHOWS = re.compile(r"runtime\.chan(?:send|recv)|sync\.\(\*(?:Mutex|RWMutex|WaitGroup|Cond|Once)\)\.\w+"
+                   r"|internal/sync\.\(\*Mutex\)\.\w+")
 CONDITION, WAITS_AT_IT = "sync.(*Cond).Wait", "sync.runtime_notifyListWait"
 NEEDS_ALL = frozenset(("sync.WaitGroup.Wait", "sync.RWMutex.Lock", "golang.org/x/sync/errgroup.Group.Wait"))
 WATCHES_CLIENT = "net/http.(*connReader).startBackgroundRead"
@@ -71,20 +73,27 @@ OUTERMOST = (GOEXIT, "runtime.main")
 # What calls a function of the job's own for each request.
 SERVERS = frozenset(("net/http.(*conn).serve", "google.golang.org/grpc.(*Server).handleStream",
                      "net/rpc.(*service).call"))
-Call = Tuple[str, Optional[int]]  # a function, and the line in it
-KEPT = 65536  # functions whose meaning is kept
+Caller = Tuple[str, Optional[int]]  # a function, and the line in it
+Method = Tuple[int, str]  # the number of a frame, and the type of which its function is a method
+Receiver = Tuple[str, str]  # a type, and the address of one of it
+KEPT = 65536  # functions, and lists of frames, whose meaning is kept
 
 
 def entry_of(goroutine: Goroutine) -> str:
     """Returns the function that a goroutine was started with: the outermost, or that of the job's own which a library
     has started, and none that the compiler makes of the call of a `go` statement. So it is the same wherever it
     stands."""
-    frames = [step for step in goroutine.frames if step.function not in OUTERMOST]
-    if not frames or not goroutine.is_whole:
-        return goroutine.created_by or "goroutine"
-    own = list(filter(is_own, frames)) or frames
-    last = own[-1]
-    return own[-2].function if len(own) > 1 and WRAPPER.fullmatch(last.function) else last.function
+    entry = outermost_of(goroutine.frames) if goroutine.is_whole else ""
+    return entry or goroutine.created_by or "goroutine"
+
+
+@lru_cache(maxsize=KEPT)
+def outermost_of(frames: Frames) -> str:
+    """Returns the function that a goroutine with these frames was started with, or nothing if it has none."""
+    inner = [step for step in frames if step.function not in OUTERMOST]
+    own = list(filter(is_own, inner)) or inner
+    is_wrapped = len(own) > 1 and WRAPPER.fullmatch(own[-1].function)
+    return own[-2 if is_wrapped else -1].function if own else ""
 
 
 def is_jobs(step: Frame) -> bool:
@@ -106,10 +115,11 @@ def root_of(path: str) -> Tuple[str, bool]:
     return root, inside.split("/")[0] in STANDARD
 
 
-def misplaced(goroutines: Iterable[Goroutine]) -> Set[Tuple[str, str]]:
+def misplaced(goroutines: List[Goroutine]) -> Set[Tuple[str, str]]:
     """Returns the functions that stand at a file of another package, each with that, since lines between are lost, or
     their text is another one: one of the standard library does, or in its folders one of the job."""
-    calls = {(step.function, step.path) for goroutine in goroutines for step in (*goroutine.frames, goroutine.creator)}
+    steps = {goroutine.creator for goroutine in goroutines}.union(*{goroutine.frames for goroutine in goroutines})
+    calls = {(step.function, step.path) for step in steps}
     standard = {(package_of(function), root_of(path)[0]) for function, path in calls
                 if is_standard(function, path) and root_of(path)[1]}
     roots = {root for _, root in standard} - {""}
@@ -141,14 +151,18 @@ def is_at_another(function: str, path: str, roots: Set[str]) -> bool:
 
 def lacks_wait(goroutine: Goroutine) -> bool:
     """Whether a goroutine waits in `sync`, and no frame of it is a call that waits there."""
-    is_there = WAITS_IN_SYNC.fullmatch(goroutine.state) is not None
-    return is_there and not any(WAITS_OF_SYNC.fullmatch(step.function) for step in goroutine.frames)
+    return WAITS_IN_SYNC.fullmatch(goroutine.state) is not None and not waits_in_sync(goroutine.frames)
+
+
+@lru_cache(maxsize=KEPT)
+def waits_in_sync(frames: Frames) -> bool:
+    return any(WAITS_OF_SYNC.fullmatch(step.function) for step in frames)
 
 
 def cut_short(goroutines: List[Goroutine]) -> List[Goroutine]:
     """Returns those that lack the outermost frame of the runtime and show where frames end on the stack, as SIGQUIT
     prints it of all frames, where others have both."""
-    rows = [one for one in goroutines if one.is_whole and one.number != "0" and any(step.ends for step in one.frames)]
+    rows = [one for one in goroutines if one.is_whole and one.number != "0" and any(call.ends for call in one.calls)]
     lacking = [one for one in rows if all(step.function != GOEXIT for step in one.frames)]
     return lacking if len(lacking) < len(rows) else []
 
@@ -164,31 +178,44 @@ def is_own(step: Frame) -> bool:
     return is_of_job(step.function, step.path)
 
 
-def own_calls(goroutine: Goroutine, callers: Set[Call]) -> List[Frame]:
+@lru_cache(maxsize=KEPT)
+def own_of(frames: Frames) -> Frames:
+    """Returns the frames of the job's own, the innermost first."""
+    return tuple(filter(is_own, frames))
+
+
+@lru_cache(maxsize=KEPT)
+def jobs_of(frames: Frames) -> Frames:
+    """Returns the frames that are none of the standard library, the innermost first."""
+    return tuple(filter(is_jobs, frames))
+
+
+def own_calls(goroutine: Goroutine, callers: Set[Caller]) -> List[Frame]:
     """Returns the frames of the job's own, the innermost first, without those that only call what they were handed."""
-    own = list(filter(is_own, goroutine.frames)) or list(filter(is_jobs, goroutine.frames))
+    own = [*(own_of(goroutine.frames) or jobs_of(goroutine.frames))]
     while own[1:] and (call_of(own[-1]) in callers or WRAPPER.fullmatch(own[-1].function)):
         own.pop()
     is_begun = own[1:] and CLOSURE.fullmatch(own[-1].function) and is_loop(own[-2].function)
     return own[:-1] if is_begun else own
 
 
-def callers_in(goroutines: Iterable[Goroutine]) -> Set[Call]:
-    """Returns the places from which several functions are called, each by another goroutine."""
-    called: Dict[Call, Set[str]] = {}
-    for own in (list(filter(is_own, goroutine.frames)) for goroutine in goroutines):
+def callers_in(stacks: Iterable[Frames]) -> Set[Caller]:
+    """Returns the places from which several functions are called, each by another goroutine, by the frames of all."""
+    called: Dict[Caller, Set[str]] = {}
+    for own in map(own_of, stacks):
         for callee, caller in zip(own, own[1:]):
             called.setdefault(call_of(caller), set()).add(callee.function)
     return {call for call, functions in called.items() if len(functions) > 1}
 
 
-def call_of(caller: Frame) -> Call:
+def call_of(caller: Frame) -> Caller:
     return caller.function, caller.line
 
 
-def serves_request(goroutine: Goroutine) -> bool:
+@lru_cache(maxsize=KEPT)
+def serves_request(frames: Frames) -> bool:
     """Whether a library calls the job's own functions, for each request anew."""
-    return any(step.function in SERVERS for step in goroutine.frames)
+    return any(step.function in SERVERS for step in frames)
 
 
 @lru_cache(maxsize=KEPT)
@@ -212,7 +239,7 @@ def idle_label(frames: List[Frame], state: str, has_own: bool) -> str:
 
 def is_of_runtime(goroutine: Goroutine) -> bool:
     """Whether a goroutine is of the runtime, and runs no code of the job."""
-    if any(map(is_jobs, goroutine.frames)) or goroutine.fault:
+    if goroutine.fault or jobs_of(goroutine.frames):
         return False
     if goroutine.number == "0" or goroutine.state in OF_THE_RUNTIME:
         return True
@@ -227,74 +254,92 @@ def is_at_connection(goroutine: Goroutine) -> bool:
 
 def watches_client(goroutine: Goroutine) -> bool:
     """Whether a goroutine only sees whether the client of a request is still there, as of the one for the state."""
-    return goroutine.created_by == WATCHES_CLIENT and not any(map(is_own, goroutine.frames))
+    return goroutine.created_by == WATCHES_CLIENT and not own_of(goroutine.frames)
+
+
+@lru_cache(maxsize=KEPT)
+def functions_of(frames: Frames) -> Dict[str, None]:
+    """Returns the functions of frames, the innermost first, each once, but for those of the runtime that are outermost.
+    """
+    return dict.fromkeys(step.function for step in frames if step.function not in OUTERMOST)
 
 
 def takes_state(goroutine: Goroutine) -> bool:
     """Whether a goroutine answers the request for the state. One that takes it by the job's own code is of the job."""
-    functions = {step.function for step in goroutine.frames}
+    functions = functions_of(goroutine.frames)
     return TAKER in functions and "net/http.(*conn).serve" in functions
 
 
 class Place:
-    """Where a goroutine stands: its frames as facts match them, what it calls there, and how it is idle, if it is.
-    `function` is the topmost of its own, and `called` the function whose call is the operation."""
+    """Where goroutines stand: their frames as facts match them, what they call there, and how they are idle, if they
+    are. `function` is the topmost of their own, and `called` the function whose call is the operation. `shown` has the
+    numbers of the calls whose first argument may be what a goroutine waits at, and `locked` and `run` those of methods,
+    each with its type: of the one that waits for a lock, and of those that run."""
 
-    def __init__(self, goroutine: Goroutine) -> None:
-        frames = [step for step in goroutine.frames if step.function not in OUTERMOST]
-        start = next((index for index, step in enumerate(frames) if is_own(step)), None)
-        self.idle = idle_label(frames[:start], goroutine.state, start is not None)
+    def __init__(self, frames: Frames, state: str, creator: Frame) -> None:
+        numbers = [number for number, step in enumerate(frames) if step.function not in OUTERMOST]
+        steps = [frames[number] for number in numbers]
+        start = next((index for index, step in enumerate(steps) if is_own(step)), None)
+        self.idle = idle_label(steps[:start], state, start is not None)
         self.is_at_connection = start is not None and any(label_of(step.function) == CONNECTION
-                                                          for step in frames[:start])
+                                                          for step in steps[:start])
         if start is None:
-            start = next((index for index, step in enumerate(frames) if is_jobs(step)), None)
+            start = next((index for index, step in enumerate(steps) if is_jobs(step)), None)
         if start is None:
-            start = next((index for index, step in enumerate(frames) if package_of(step.function) != "runtime"), 0)
-        own = [step for step in frames[start:] if is_jobs(step)]
+            start = next((index for index, step in enumerate(steps) if package_of(step.function) != "runtime"), 0)
+        own = [step for step in steps[start:] if is_jobs(step)]
         self.function = own[0].function if own else ""
-        if not own and goroutine.created_by and is_jobs(goroutine.creator):
-            own, start = [goroutine.creator], len(frames)
-        self.frames = [frame(step.function, step.file, step.line) for step in own or frames[start:]]
-        inner = frames[:start]
+        if not own and creator.function and is_jobs(creator):
+            own, start = [creator], len(steps)
+        self.frames = [frame(step.function, step.file, step.line) for step in own or steps[start:]]
+        inner = steps[:start]
         if len(inner) > 1 and inner[-1].function == CONDITION and inner[-2].function != WAITS_AT_IT:
             inner.pop()  # (it was signalled, and locks again what it has given back)
         self.called = inner[-1].function if inner else ""
-        self.operation = operation_of(goroutine.state, self.called)
-        self.objects = objects_of(inner)
+        self.operation = operation_of(state, self.called)
+        self.receives = self.operation in RECEIVES or state in RECEIVES and is_loop(self.operation)
+        self.shown = [number for number, step in zip(numbers, inner) if SHOWS.fullmatch(step.function)]
+        self.locked = self.methods_locked(frames)
+        self.run = self.methods_past_lock(frames)
+
+    def methods_locked(self, frames: Frames) -> List[Method]:
+        """Returns the method that waits for a lock, if the frames show that."""
+        takes = self.operation in TAKES_LOCK
+        own = [number for number, step in enumerate(frames) if takes and step.function == self.function]
+        return methods_in(frames, own[:1])
+
+    def methods_past_lock(self, frames: Frames) -> List[Method]:
+        """Returns the methods that run: but for that which only now takes a lock. A writer that waits for the readers
+        of a lock keeps others out already."""
+        own = [number for number, step in enumerate(frames) if step.function not in OUTERMOST and is_jobs(step)]
+        is_writer = self.operation == WRITER and all(MUTEX not in step.function for step in frames)
+        return methods_in(frames, own[1:] if self.operation in TAKES_LOCK and not is_writer else own)
 
 
-def accepts_for_library(goroutine: Goroutine, place: Place) -> bool:
-    """Whether a library waits for the next connection by a listener of the job's own."""
-    return any(step.function == place.function and ACCEPTS.fullmatch(step.function) and not is_own(caller)
-               for step, caller in zip(goroutine.frames, goroutine.frames[1:]))
+@lru_cache(maxsize=KEPT)
+def place_of(frames: Frames, state: str, creator: Frame) -> Place:
+    """Returns where those stand who have these frames in a state: one place for all."""
+    return Place(frames, state, creator)
 
 
-def receiver_of(step: Frame) -> Optional[Tuple[str, str]]:
-    """Returns the type and the address of what a frame is a method of, if it shows them."""
-    method, first = RECEIVER.fullmatch(step.function), step.arguments.split(",")[0]
-    return (method[1], first) if method and ADDRESS.fullmatch(first) else None
+def methods_in(frames: Frames, numbers: List[int]) -> List[Method]:
+    """Returns which of some frames are methods, each with its type."""
+    methods = [(number, RECEIVER.fullmatch(frames[number].function)) for number in numbers]
+    return [(number, method[1]) for number, method in methods if method]
 
 
+@lru_cache(maxsize=KEPT)
+def accepts_for_library(frames: Frames, function: str) -> bool:
+    """Whether a library waits for the next connection by a listener of the job's own, which has this function."""
+    return any(step.function == function and ACCEPTS.fullmatch(step.function) and not is_own(caller)
+               for step, caller in zip(frames, frames[1:]))
+
+
+@lru_cache(maxsize=KEPT)
 def types_of(function: str) -> List[str]:
     """Returns the type that a function is a method of, if it is one."""
     method = RECEIVER.match(function)
     return [method[1]] if method else []
-
-
-def receivers_past_lock(goroutine: Goroutine, place: Place) -> List[Tuple[str, str]]:
-    """Returns of what a goroutine runs methods: but for that which only now takes a lock. A writer that waits for the
-    readers of a lock keeps others out already."""
-    frames = [step for step in goroutine.frames if step.function not in OUTERMOST and is_jobs(step)]
-    is_writer = place.operation == WRITER and all(MUTEX not in step.function for step in goroutine.frames)
-    inner = frames[1:] if place.operation in TAKES_LOCK and not is_writer else frames
-    return list(dict.fromkeys(filter(None, map(receiver_of, inner))))
-
-
-def receiver_locked(goroutine: Goroutine, place: Place) -> List[Tuple[str, str]]:
-    """Returns of what the method is that waits for a lock, if the text shows that."""
-    takes = place.operation in TAKES_LOCK
-    own = [step for step in goroutine.frames if takes and step.function == place.function]
-    return list(filter(None, map(receiver_of, own[:1])))
 
 
 def operation_of(state: str, called: str) -> str:
@@ -305,11 +350,11 @@ def operation_of(state: str, called: str) -> str:
     return OPERATIONS.get(name, name)
 
 
-def objects_of(frames: List[Frame]) -> List[str]:
+def receivers_at(goroutine: Goroutine, methods: List[Method]) -> List[Receiver]:
+    """Returns the types and the addresses of what a goroutine calls these methods of, where it shows them."""
+    return [(kind, goroutine.calls[number].first) for number, kind in methods if goroutine.calls[number].first]
+
+
+def objects_of(goroutine: Goroutine, place: Place) -> List[str]:
     """Returns the address of the channel or lock that the frames of a wait show, if they do for certain."""
-    for step in frames:
-        if CHANNEL.fullmatch(step.function) or LOCK.fullmatch(step.function):
-            first = step.arguments.split(",")[0]
-            if ADDRESS.fullmatch(first):
-                return [first]
-    return []
+    return [first for first in [goroutine.calls[number].first for number in place.shown] if first][:1]

@@ -2,11 +2,12 @@
 from __future__ import annotations
 
 from collections import defaultdict
+from functools import lru_cache
 from typing import DefaultDict, Dict, List, Set, Tuple
 
 from ..sketch import Process, unknown
-from .go_frames import ACCEPTOR, CONNECTION, OUTERMOST, Place, is_jobs, package_of
-from .go_text import Goroutine
+from .go_frames import ACCEPTOR, CONNECTION, KEPT, OUTERMOST, Place, functions_of, is_jobs, package_of
+from .go_text import Frame, Goroutine
 
 MAIN = "1"
 UNSEEN = "unseen-starter"
@@ -27,10 +28,11 @@ class Starters:
         self.kept: Dict[Tuple[str, bool], List[str]] = {}
         self.over = over
         for it in goroutines:
-            functions = [frame.function for frame in it.frames if frame.function not in OUTERMOST]
-            for function in dict.fromkeys(functions):
+            for function in functions_of(it.frames):
                 self.standing[function].append(names[it.number])
-            for function, outer in zip(functions, [*functions[1:], origin_of(it)]):
+        for frames, origin in dict.fromkeys((goroutine.frames, origin_of(goroutine)) for goroutine in goroutines):
+            functions = [frame.function for frame in frames if frame.function not in OUTERMOST]
+            for function, outer in zip(functions, [*functions[1:], origin]):
                 self.outer[function][outer] = None
         unseen = [UNSEEN] if any(map(is_unseen, goroutines)) else []
         self.callers = unseen + callers_of(goroutines, places, names, over)
@@ -66,7 +68,13 @@ def is_unseen(goroutine: Goroutine) -> bool:
     """Whether another one like it may be started at any time by none of the goroutines."""
     if not goroutine.created_by:
         return goroutine.number != MAIN
-    return package_of(goroutine.created_by) in BY_ITSELF and not is_jobs(goroutine.creator)
+    return starts_unseen(goroutine.creator)
+
+
+@lru_cache(maxsize=KEPT)
+def starts_unseen(creator: Frame) -> bool:
+    """Whether a function starts goroutines, while none of them waits to."""
+    return package_of(creator.function) in BY_ITSELF and not is_jobs(creator)
 
 
 def callers_of(goroutines: List[Goroutine], places: Dict[str, Place], names: Dict[str, str],

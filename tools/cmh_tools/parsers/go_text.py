@@ -8,15 +8,16 @@ from __future__ import annotations
 
 import re
 from dataclasses import dataclass, field
-from functools import lru_cache
-from typing import Dict, List, Optional, Tuple
+from functools import cached_property, lru_cache
+from itertools import accumulate, compress, count
+from operator import not_
+from typing import Dict, List, NamedTuple, Optional, Tuple
 
 from ..files import Refusal, shown
 
 HEADER = re.compile(r"goroutine (?P<id>\d+)(?: gp=\S+)?(?: m=\S+)?(?: mp=\S+)? \[(?P<state>.*)\](?: \{.*\})?:\s*")
 # Of a package, and perhaps of a type.
 FUNCTION = re.compile(r"panic|[^\s.()][^\s()]*\.(?:\(\*[^()*[\]]+(?:\[[^()]*\])?\)\.)?[^()]+")
-CALL = re.compile(r"(?P<function>\S.*)\((?P<arguments>[^()]*)\)\s*")
 PLACE = re.compile(r"\t(?P<file>.*):(?P<line>\d{1,9})(?: (?P<offset>\+0x[0-9a-f]+))?"
                    r"(?: fp=(?P<fp>\S+) sp=(?P<sp>\S+).*)?\s*")
 CREATED = re.compile(r"created by (?P<function>.*?)(?: in goroutine (?P<parent>\d+))?\s*")
@@ -52,31 +53,47 @@ ROOT = re.compile(r"main\.main|.*\.init(?:\.\d+)?")  # what the runtime calls in
 TAKER = "runtime/pprof.writeGoroutineStacks"
 TAKEN = f"{TAKER}("
 DEEP = 90  # Go prints 100 frames, counts some that it hides, and doesn't always say that it has left out others.
+MOST = 256  # lines of calls and places that are read at once, which are more than Go prints of a goroutine
 KEPT = 65536  # lines whose meaning is kept
 SHOWN = 5  # lines that aren't understood; the others are counted
-Spot = Tuple[str, int, str, Optional[Tuple[str, str]]]  # a file, a line, an offset, and the ends on the stack
+Ends = Optional[Tuple[str, str]]  # where a frame ends and begins on the stack
+Spot = Tuple[str, int, str, Ends]  # a file, a line, an offset, and the ends on the stack
 
 
-@dataclass
+@dataclass(eq=False)
 class Frame:
-    """A frame: 'main.(*Store).Put', 'thumbs.go', the whole path of it, 26, '+0x45', and the arguments as text. `ends`
-    is where it ends and begins on the stack, which SIGQUIT prints of those that aren't inlined."""
+    """A frame: 'main.(*Store).Put', the whole path of 'thumbs.go', 26, and '+0x45'. All goroutines that stand there
+    have the same one, which nobody changes, so that what it means is found once."""
 
     function: str
-    arguments: str = ""
     path: str = ""
     line: Optional[int] = None
     offset: str = ""
-    ends: Optional[Tuple[str, str]] = None
 
     @property
     def file(self) -> str:
         return self.path.split("/")[-1]
 
 
+NOWHERE, BEFORE = Frame(""), Frame("", line=0)
+Frames = Tuple[Frame, ...]
+
+
+class Call(NamedTuple):
+    """A frame as a goroutine shows it: with the arguments as text, the addresses that stand in these, and the first of
+    them if that is an address. `ends` is where the frame ends and begins on the stack, which SIGQUIT prints of those
+    that aren't inlined."""
+
+    frame: Frame
+    arguments: str = ""
+    addresses: Tuple[str, ...] = ()
+    first: str = ""
+    ends: Ends = None
+
+
 @dataclass
 class Goroutine:
-    """A goroutine of one state, topmost frame first. `parent` is the number of the one that created it, if the text has
+    """A goroutine of one state, topmost call first. `parent` is the number of the one that created it, if the text has
     it; `is_whole` says that no frames are elided, `is_elsewhere` that it ran on while the others were read, `is_locked`
     that it has a thread of its own, `is_leaked` that the collector has found that nobody can end its wait, and `fault`
     what of it wasn't understood."""
@@ -85,9 +102,9 @@ class Goroutine:
     state: str
     at: str
     minutes: int = 0
-    frames: List[Frame] = field(default_factory=list)
+    calls: List[Call] = field(default_factory=list)
     created_by: str = ""
-    creator: Frame = field(default_factory=lambda: Frame(""))
+    creator: Frame = NOWHERE
     parent: str = ""
     is_whole: bool = True
     is_elsewhere: bool = False
@@ -95,15 +112,22 @@ class Goroutine:
     is_leaked: bool = False
     fault: str = ""
 
+    @cached_property
+    def frames(self) -> Frames:
+        """Its frames, by which all is kept that is the same for those who stand so. It has been read when it's asked
+        for them."""
+        return tuple([call.frame for call in self.calls])
+
     def has_root(self) -> bool:
         """Whether its frames go out as far as it was started: by a `go` statement, as main, or by a thread of C."""
-        is_main = self.number == "1" and any(ROOT.fullmatch(step.function) for step in self.frames)
-        return bool(self.created_by) or is_main or self.number in ("0", "17") or self.is_locked or not self.is_whole
+        if self.created_by or self.number in ("0", "17") or self.is_locked or not self.is_whole:
+            return True
+        return self.number == "1" and any(ROOT.fullmatch(step.function) for step in self.frames)
 
     def is_in_one_piece(self) -> bool:
         """Whether each frame begins on the stack where the one that it called ends."""
-        ends = [step.ends for step in self.frames if step.ends]
-        return all(inner[0] == outer[1] for inner, outer in zip(ends, ends[1:]))
+        ends = [call.ends for call in self.calls if call.ends]
+        return not ends or all(inner[0] == outer[1] for inner, outer in zip(ends, ends[1:]))
 
     def doubt(self, fault: str) -> None:
         self.fault = self.fault or shown(fault)
@@ -137,6 +161,62 @@ def is_function(text: str) -> bool:
     return FUNCTION.fullmatch(text) is not None
 
 
+@lru_cache(maxsize=KEPT)
+def frame_of(function: str, path: str, line: int, offset: str) -> Frame:
+    """Returns the frame that all have who stand in a function at a place."""
+    return Frame(function, path, line, offset)
+
+
+def call_in(line: str) -> Optional[Tuple[str, str]]:
+    """Returns the function that a line has a call of, and the arguments, or None."""
+    function, _, rest = line.rstrip().rpartition("(")
+    arguments, end, more = rest.partition(")")
+    return (function, arguments) if end and not more and is_function(function) else None
+
+
+def call_of(frame: Frame, arguments: str, ends: Ends = None) -> Call:
+    addresses, first = tuple(ADDRESS.findall(arguments)), arguments.partition(",")[0]
+    return Call(frame, arguments, addresses, first if first in addresses[:1] else "", ends)
+
+
+@lru_cache(maxsize=KEPT)
+def whole_call(line: str, below: str) -> Optional[Call]:
+    """Returns the call that a line has with its place in the line below, or None. Many goroutines show the same one."""
+    call = call_in(line)
+    place = place_in(below) if call else None
+    return call_of(frame_of(call[0], *place[:3]), call[1], place[3]) if call and place else None
+
+
+@lru_cache(maxsize=KEPT)
+def origin_in(line: str) -> Optional[Tuple[str, str]]:
+    """Returns the function that has created a goroutine, by a line, and the number of the one in it, or None."""
+    match = CREATED.fullmatch(line)
+    return (match["function"], match["parent"] or "") if match and is_function(match["function"]) else None
+
+
+@lru_cache(maxsize=KEPT)
+def whole_origin(line: str, below: str) -> Optional[Tuple[Frame, str]]:
+    """Returns the frame in which a goroutine was created, with its place in the line below, and the number of the one
+    in it, or None."""
+    origin, place = origin_in(line), place_in(below)
+    return (frame_of(origin[0], *place[:3]), origin[1]) if origin and place else None
+
+
+@lru_cache(maxsize=KEPT)
+def state_in(text: str) -> Tuple[str, int, bool, bool]:
+    """Returns the state that a heading has without its marks, for how many minutes it lasts, and whether the goroutine
+    is locked to a thread, and leaked."""
+    state, *more = text.split(", ")
+    minutes = [int(minute[1]) for minute in map(MINUTES.fullmatch, more) if minute]
+    return MARKS.sub("", state), sum(minutes[:1]), "locked to thread" in more, LEAKED in state
+
+
+def lines_with(start: str, text: str) -> List[int]:
+    """Returns the numbers of the lines of a text that start so, from 0. To look at each line takes long."""
+    parts = f"\n{text}".split(f"\n{start}")
+    return [end - 1 for end in accumulate(part.count("\n") + 1 for part in parts[:-1])]
+
+
 def notes_in(text: str) -> str:
     """Returns the lines of a text that WHERE, AGAIN and LOOKED are looked for in. To look in all of it takes long."""
     parts = f"\n{text}".split(f"\n{NOTE}")
@@ -147,7 +227,8 @@ def read_dumps(path: str, text: str) -> List[Dump]:
     """Returns the dumps of a text, in their order. Raises Refusal if it has none, or one that isn't whole or has a
     goroutine twice."""
     name = shown(path)
-    lines = text.replace("\r\n", "\n").split("\n")
+    text = text.replace("\r\n", "\n")
+    lines = text.split("\n")
     quit_at = next((at for at, line in enumerate(lines) if line.startswith("SIGQUIT: ")), None) \
         if "SIGQUIT: " in text else None
     first = next((at for at, line in enumerate(lines) if line[:10] == "goroutine " and HEADER.fullmatch(line)), None)
@@ -158,8 +239,8 @@ def read_dumps(path: str, text: str) -> List[Dump]:
         if quit_at:
             dump.warnings.append(f"{name}: {quit_at} lines before 'SIGQUIT' are left out")
         return [dump]
-    starts = [at - 1 for at, line in enumerate(lines) if line.startswith(TAKEN) and at > first]
-    starts = sorted({0, *(at for at in starts if at > first and HEADER.fullmatch(lines[at]))})
+    headings = [number - 1 for number in lines_with(TAKEN, text)]
+    starts = sorted({0, *(number for number in headings if number > first and HEADER.fullmatch(lines[number]))})
     return [Reader(name, lines, *part, False).read() for part in zip(starts, [*starts[1:], len(lines)])]
 
 
@@ -170,15 +251,16 @@ class Reader:
         self.path, self.start, self.dump = path, start, Dump(path, is_last=is_last)
         self.lines = [*lines[start:end], ""] if end < len(lines) else lines[start:]
         self.goroutine: Optional[Goroutine] = None
-        self.step = Frame("", line=0)  # whose place is to come, or has come last
+        self.step = BEFORE  # whose place is to come, or has come last
         self.is_in_origin, self.is_over, self.odd = False, False, 0
         self.misread: Optional[Goroutine] = None  # the last of which a line isn't understood
         self.seen: Dict[str, str] = {}
 
     def read(self) -> Dump:
-        for number, line in enumerate(self.lines, self.start + 1):
-            if not self.is_over:
-                self.take(line, number)
+        start = 0
+        for end_of_block in (*compress(count(), map(not_, self.lines)), len(self.lines) - 1):
+            self.take_block(start, end_of_block)
+            start = end_of_block + 1
         end = f"{self.path}:{self.start + len(self.lines)}"
         if not self.dump.goroutines:
             raise Refusal(f"{end}: the dump is cut off: it has no goroutine")
@@ -191,91 +273,124 @@ class Reader:
             self.dump.warnings.append(f"{self.path}: {self.odd - SHOWN} more lines aren't understood")
         return self.dump
 
-    def take(self, line: str, number: int) -> None:
-        """Reads a line. Most are calls, each with its place below."""
-        one = None if self.is_in_origin else self.goroutine
-        is_open = one is not None and not one.created_by and self.step.line is not None
-        if one is not None and line[:1] == "\t" and (place := place_in(line)):
-            self.set_place(one, place, line, number)
-        elif one is not None and is_open and (call := CALL.fullmatch(line)) and is_function(call["function"]):
-            self.step = Frame(call["function"], call["arguments"])
-            one.frames.append(self.step)
-        else:
-            self.take_other(line, f"{self.path}:{number}")
+    def is_open(self) -> bool:
+        """Whether a frame of a goroutine may come next, or where it was created."""
+        one = self.goroutine
+        return one is not None and not self.is_in_origin and not one.created_by and self.step.line is not None
 
-    def take_other(self, line: str, at: str) -> None:
-        """Reads a line that is no call or place of a goroutine."""
-        match = HEADER.fullmatch(line) if line.startswith("goroutine ") else None
+    def take_block(self, start: int, end: int) -> None:
+        """Reads the lines up to a blank one: most are the heading of a goroutine, its calls, and where it was created.
+        """
+        index = start
+        while index <= end and not self.is_over:
+            self.take(self.lines[index], self.start + index + 1)
+            index = self.take_calls(index + 1, end)
+
+    def take_calls(self, index: int, end: int) -> int:
+        """Reads what follows a line of a goroutine, as far as it has its places below: calls, and where the goroutine
+        was created. Returns where the next line is."""
+        one = self.goroutine
+        if one is None or not self.is_open():
+            return index
+        lines = self.lines[index:min(end, index + MOST)]
+        for call in map(whole_call, lines[::2], lines[1::2]):
+            if call is None:
+                break
+            one.calls.append(call)
+            index += 2
+        origin = whole_origin(self.lines[index], self.lines[index + 1]) if index + 1 < end else None
+        if origin is None:
+            return index
+        one.creator, one.parent = origin
+        self.step, one.created_by = one.creator, one.creator.function
+        return index + 2
+
+    def take(self, line: str, number: int) -> None:
+        """Reads a line."""
+        one = None if self.is_in_origin else self.goroutine
+        match = HEADER.fullmatch(line) if line[:10] == "goroutine " else None
         if match:
-            self.begin(match, at)
-        elif not line.strip():
-            self.close(at)
-        elif self.goroutine is not None and not self.is_in_origin:
-            self.add(self.goroutine, line, at)
+            self.begin(match, number)
+        elif not line or not line.strip():
+            self.close(number)
+        elif one is not None and line[:1] == "\t" and (place := place_in(line)):
+            self.set_place(one, place, line, number)
+        elif one is not None and self.is_open() and (origin := origin_in(line)):
+            one.created_by, one.parent = origin
+            self.step = one.creator = Frame(one.created_by)
+        elif one is not None and self.is_open() and (call := call_in(line)):
+            self.step = Frame(call[0])
+            one.calls.append(call_of(self.step, call[1]))
+        else:
+            self.take_other(line, number)
+
+    def take_other(self, line: str, number: int) -> None:
+        """Reads a line that is no heading, call or place of a goroutine."""
+        if self.goroutine is not None and not self.is_in_origin:
+            self.add(self.goroutine, line, number)
         elif self.dump.is_last and self.dump.goroutines and REGISTER.fullmatch(line):
             self.is_over = True
         elif not self.is_in_origin and not SIGNAL.fullmatch(line) and not BESIDE.fullmatch(line):
-            self.warn(line, at)
-            self.dump.lost = self.dump.lost or f"{at} belongs to no goroutine"
+            self.warn(line, number)
+            self.dump.lost = self.dump.lost or f"{self.path}:{number} belongs to no goroutine"
 
-    def close(self, at: str) -> None:
+    def close(self, number: int) -> None:
         """Ends the block of a goroutine."""
-        one = self.goroutine
-        if one is not None and self.step.line is None:
-            one.doubt(f"{at}: the place of {self.step.function} is missing before this line")
-        if one is not None and not one.frames and not one.is_elsewhere:
+        one, self.goroutine, self.is_in_origin = self.goroutine, None, False
+        if one is None:
+            return
+        if self.step.line is None:
+            one.doubt(f"{self.path}:{number}: the place of {self.step.function} is missing before this line")
+        if not one.calls and not one.is_elsewhere:
             one.doubt(f"{one.at}: no frames follow this line")
-        if one is not None and len(one.frames) >= DEEP:
+        if len(one.calls) >= DEEP:
             one.is_whole = False
-        if one is not None and not one.is_in_one_piece():
+        if not one.is_in_one_piece():
             one.doubt(f"{one.at}: frames are missing below this line, since the others don't meet on the stack")
-        if one is not None and not one.has_root():
-            one.doubt(f"{at}: its outermost frames are missing before this line")
-        self.goroutine, self.is_in_origin = None, False
+        if not one.has_root():
+            one.doubt(f"{self.path}:{number}: its outermost frames are missing before this line")
 
-    def begin(self, match: "re.Match[str]", at: str) -> None:
+    def begin(self, match: "re.Match[str]", number: int) -> None:
         """Begins the block of a goroutine."""
-        self.close(at)
-        number = match["id"]
-        if number in self.seen:
-            raise Refusal(f"{at}: goroutine {number} stands at {self.seen[number]} already: a file has one state")
-        self.seen[number] = at
-        state, *more = match["state"].split(", ")
-        minutes = [int(minute[1]) for minute in map(MINUTES.fullmatch, more) if minute]
-        self.goroutine = Goroutine(number, MARKS.sub("", state), at, sum(minutes[:1]))
-        self.step = Frame("", line=0)
-        self.goroutine.is_locked, self.goroutine.is_leaked = "locked to thread" in more, LEAKED in state
+        self.close(number)
+        name, at = match["id"], f"{self.path}:{number}"
+        if name in self.seen:
+            raise Refusal(f"{at}: goroutine {name} stands at {self.seen[name]} already: a file has one state")
+        self.seen[name] = at
+        state, minutes, is_locked, is_leaked = state_in(match["state"])
+        self.goroutine = Goroutine(name, state, at, minutes, is_locked=is_locked, is_leaked=is_leaked)
+        self.step = BEFORE
         self.dump.goroutines.append(self.goroutine)
-        if self.goroutine.state not in STATES:
+        if state not in STATES:
             self.goroutine.doubt(f"{at}: this is no state that the runtime has")
 
-    def add(self, one: Goroutine, line: str, at: str) -> None:
-        """Adds a line of its block to a goroutine, but for a call or a place."""
-        is_open = not one.created_by and self.step.line is not None
+    def add(self, one: Goroutine, line: str, number: int) -> None:
+        """Adds a line of its block to a goroutine, but for a call, a place, or who created it."""
         if ELIDED.fullmatch(line):
             one.is_whole, one.is_elsewhere = False, line.startswith(ELSEWHERE)
         elif ORIGIN.fullmatch(line):
             self.is_in_origin = True
-        elif is_open and (match := CREATED.fullmatch(line)) and is_function(match["function"]):
-            one.created_by, one.parent = match["function"], match["parent"] or ""
-            self.step = one.creator = Frame(match["function"])
         else:
-            self.fail(one, line, at)
+            self.fail(one, line, number)
 
     def set_place(self, one: Goroutine, place: Spot, line: str, number: int) -> None:
         """Sets the file and line of the last frame, or of the place where the goroutine was created."""
-        if self.step.line is None:
-            self.step.path, self.step.line, self.step.offset, self.step.ends = place
+        if self.step.line is not None:
+            self.fail(one, line, number)
+            return
+        self.step = frame_of(self.step.function, *place[:3])
+        if one.created_by:
+            one.creator = self.step
         else:
-            self.fail(one, line, f"{self.path}:{number}")
+            one.calls[-1] = one.calls[-1]._replace(frame=self.step, ends=place[3])
 
-    def fail(self, one: Goroutine, line: str, at: str) -> None:
+    def fail(self, one: Goroutine, line: str, number: int) -> None:
         """Says that a line of a goroutine isn't understood, or not there."""
-        self.warn(line, at)
+        self.warn(line, number)
         self.misread = one
-        one.doubt(f"{at} isn't understood")
+        one.doubt(f"{self.path}:{number} isn't understood")
 
-    def warn(self, line: str, at: str) -> None:
+    def warn(self, line: str, number: int) -> None:
         self.odd += 1
         if self.odd <= SHOWN:
-            self.dump.warnings.append(f"{at}: this line isn't understood: {shown(line.strip())[:200]}")
+            self.dump.warnings.append(f"{self.path}:{number}: this line isn't understood: {shown(line.strip())[:200]}")
