@@ -24,12 +24,12 @@ from ..sketch import GOING, LIMIT, SYSTEM, Process, Sketch, blocked, garbled, go
 from ..snapshots import APART, CUT, GONE, ONCE, Reading
 from . import State
 from .base import FAR, Parser, Reach, Snapshot, duration, without_sleep
-from .go_frames import (CONNECTION, KEPT, NEEDS_ALL, WATCHER, WRITER, Caller, Place, accepts_for_library, callers_in,
-                        cut_short, entry_of, functions_of, is_at_connection, is_of_runtime, jobs_of, lacks_wait,
-                        misplaced, objects_of, own_calls, place_of, receivers_at, serves_request, takes_state,
-                        types_of, watches_client)
+from .go_frames import (CONNECTION, KEPT, NEEDS_ALL, WATCHER, WRITER, Caller, Place, Receiver, accepts_for_library,
+                        callers_in, cut_short, entry_of, functions_of, is_at_connection, is_of_runtime, jobs_of,
+                        lacks_wait, misplaced, objects_of, own_calls, place_of, receivers_at, serves_request,
+                        takes_state, types_of, watches_client)
 from .go_starters import MAIN, UNSEEN, Starters, unseen_starter
-from .go_text import AGAIN, LOOKED, TAKER, WHERE, Dump, Frame, Goroutine, notes_in, read_dumps
+from .go_text import ADDRESSES, AGAIN, LOOKED, TAKER, WHERE, Dump, Frame, Goroutine, notes_in, read_dumps
 
 SITE = "the Go program"
 # States in which a goroutine goes on by itself, or the runtime sees to it.
@@ -60,16 +60,18 @@ LIBRARYS = (CONNECTION, WATCHER)  # how those are idle that run code of a librar
 
 
 class Goroutines(Snapshot):
-    """The goroutines at one time: where each one stands, by its number, and what it shows that it waits at: the objects
-    alone, and with that whose method waits for a lock; who has one of these in a frame, and doesn't wait at it; who was
-    begun by a method of each type; all of them; and whether all were stopped when they were read."""
+    """The goroutines at one time: where each one stands, by its number, the objects that it shows that it waits at, and
+    that whose method waits for a lock; who has one of these in a frame, and doesn't wait at it; who was begun by a
+    method of each type; all of them; a wait that any of them may end; and whether all were stopped when they were read.
+    """
 
     places: Dict[str, Place]
     objects: Dict[str, List[str]]
-    things: Dict[str, List[Any]]
+    locked: Dict[str, List[Receiver]]
     reach: Reach
     begun: Reach
     everybody: Wakers
+    anybody: List[Part]
     is_stopped: bool
     has_signals: bool
     callers: Set[Caller]
@@ -166,17 +168,18 @@ class GoParser(Parser):
                            for goroutine in rows}
         snapshot.objects = {goroutine.number: objects_of(goroutine, snapshot.places[goroutine.number])
                             for goroutine in rows}
-        snapshot.things = {goroutine.number: [*snapshot.objects[goroutine.number], *receivers_at(
-            goroutine, snapshot.places[goroutine.number].locked)] for goroutine in rows}
+        snapshot.locked = {goroutine.number: receivers_at(goroutine, snapshot.places[goroutine.number].locked)
+                           for goroutine in rows if snapshot.places[goroutine.number].locked}
         snapshot.is_stopped = not any(goroutine.is_elsewhere for goroutine in rows)
         snapshot.callers = callers_in(stacks)
         snapshot.has_signals = any(SIGNALS in functions_of(frames) for frames in stacks)
         own = [goroutine for goroutine in rows if snapshot.places[goroutine.number].idle not in LIBRARYS]
         snapshot.everybody = wakers("same-process", [self.names[goroutine.number] for goroutine in own])
         snapshot.reach, snapshot.begun = Reach(), Reach()
-        awaited = {*chain.from_iterable(snapshot.things.values())}
+        snapshot.anybody = any_of(snapshot.everybody, unseen("unshown"))
+        awaited = {*chain(*snapshot.objects.values(), *snapshot.locked.values())}
         for goroutine in own:
-            for thing in awaited.intersection(held_by(goroutine, snapshot)):
+            for thing in held_by(goroutine, snapshot, awaited):
                 snapshot.reach.add(thing, [self.names[goroutine.number]], "inside")
             for maker in types_of(goroutine.created_by):
                 snapshot.begun.add(maker, [self.names[goroutine.number]], "guess")
@@ -253,21 +256,22 @@ class GoParser(Parser):
         """One that waits for another goroutine, and the text doesn't show for which: first for one in whose frames it
         stands, or for those whom the type of a library has begun in whose method it waits, as a group has its tasks."""
         inside = self.inside(goroutine, name, snapshot)
-        names = list(dict.fromkeys(other for some in inside for other in some.names()))
+        names = list(dict.fromkeys(other for some in inside for other in some.names())) if inside else []
         why = f"{goroutine.state}: {ENDERS.get(place.operation, DOESNT_SHOW)}{also_at(names)}"
         begun = [] if inside else [group for maker in types_of(place.called) for group in snapshot.begun.of(maker)]
-        parts: List[Part] = any_of(*inside, *begun, snapshot.everybody, unseen("unshown"))
+        parts = any_of(*inside, *begun, *snapshot.anybody[0]) if inside or begun else snapshot.anybody
         children = self.children(goroutine, place, snapshot)
         if children:
-            parts = all_of(children, COMES, beside=(snapshot.everybody, unseen("unshown")))
+            parts = all_of(children, COMES, beside=snapshot.anybody[0])
         if place.receives and may_rest(goroutine, place, snapshot):
             return rests(name, why, parts, [SYSTEM])
         return blocked(name, parts, [SYSTEM], reason=why)
 
     def inside(self, goroutine: Goroutine, name: str, snapshot: Goroutines) -> Tuple[Wakers, ...]:
         """Returns those in whose frames stands what one waits at, or who run a method of that whose lock it wants."""
-        found = [some for thing in snapshot.things[goroutine.number] for some in snapshot.reach.of(thing)]
-        if sum(len(some.names()) for some in found) > MOST:
+        things = [*snapshot.objects[goroutine.number], *snapshot.locked.get(goroutine.number, ())]
+        found = [some for thing in things for some in snapshot.reach.of(thing)]
+        if not found or sum(len(some.names()) for some in found) > MOST:
             return ()
         return tuple(left for left in (some.without([name]) for some in found) if left.names())
 
@@ -310,12 +314,13 @@ class GoParser(Parser):
 DOESNT_SHOW = "the state doesn't show what ends this wait"
 
 
-def held_by(goroutine: Goroutine, snapshot: Goroutines) -> Set[Any]:
-    """Returns the addresses that a goroutine has in its frames, but for what it waits at, and of what it runs methods.
-    """
-    addresses = set(chain.from_iterable([call.addresses for call in goroutine.calls]))
-    addresses.difference_update(snapshot.objects[goroutine.number])
-    return addresses.union(receivers_at(goroutine, snapshot.places[goroutine.number].run))
+def held_by(goroutine: Goroutine, snapshot: Goroutines, awaited: Set[Any]) -> Set[Any]:
+    """Returns what a goroutine has of that which some wait at: the addresses in its frames, but for what it waits at
+    itself, and that of which it runs methods."""
+    held = awaited.intersection(chain.from_iterable(map(ADDRESSES, goroutine.calls)))
+    held.difference_update(snapshot.objects[goroutine.number])
+    runs = snapshot.places[goroutine.number].run
+    return held.union(awaited.intersection(receivers_at(goroutine, runs))) if runs else held
 
 
 def may_rest(goroutine: Goroutine, place: Place, snapshot: Goroutines) -> bool:

@@ -10,7 +10,7 @@ import re
 from dataclasses import dataclass, field
 from functools import cached_property, lru_cache
 from itertools import accumulate, compress, count
-from operator import not_
+from operator import attrgetter, not_
 from typing import Dict, List, NamedTuple, Optional, Tuple
 
 from ..files import Refusal, shown
@@ -91,6 +91,9 @@ class Call(NamedTuple):
     ends: Ends = None
 
 
+FRAME, ADDRESSES = attrgetter("frame"), attrgetter("addresses")  # of a call
+
+
 @dataclass
 class Goroutine:
     """A goroutine of one state, topmost call first. `parent` is the number of the one that created it, if the text has
@@ -116,7 +119,7 @@ class Goroutine:
     def frames(self) -> Frames:
         """Its frames, by which all is kept that is the same for those who stand so. It has been read when it's asked
         for them."""
-        return tuple([call.frame for call in self.calls])
+        return tuple(map(FRAME, self.calls))
 
     def has_root(self) -> bool:
         """Whether its frames go out as far as it was started: by a `go` statement, as main, or by a thread of C."""
@@ -227,7 +230,7 @@ def read_dumps(path: str, text: str) -> List[Dump]:
     """Returns the dumps of a text, in their order. Raises Refusal if it has none, or one that isn't whole or has a
     goroutine twice."""
     name = shown(path)
-    text = text.replace("\r\n", "\n")
+    text = text.replace("\r\n", "\n") if "\r" in text else text
     lines = text.split("\n")
     quit_at = next((at for at, line in enumerate(lines) if line.startswith("SIGQUIT: ")), None) \
         if "SIGQUIT: " in text else None
