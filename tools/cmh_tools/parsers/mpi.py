@@ -24,20 +24,22 @@ from .mpi_ranks import FEW
 from .mpi_records import COMPUTES, FINALIZED, ONE_THREAD, RecordsParser, doubt_reach, pids_of, say_missing
 from .mpi_text import MARK
 
-HEADING = re.compile(r"^# (?:gdb|eu-stack) -p \d+.*$", re.M)
+# Lines are searched for by the letters that they begin with: a `^` before these would be tried at each character.
+# So `(?<!.` says, behind these letters, that none stands before them.
+HEADING = re.compile(r"# (?<!.# )(?:gdb|eu-stack) -p \d+.*")
 HEAD = re.compile(r"# (?:gdb|eu-stack) -p (?P<pid>\d+)(?: on (?P<host>[^\s,]+))?\b.*\b(?:OMPI_COMM_WORLD_RANK|"
                   r"MV2_COMM_WORLD_RANK|PMI_RANK|PMIX_RANK|SLURM_PROCID)=(?P<rank>\d{1,9})\b")
 SIZE = re.compile(r"\b(?:OMPI_COMM_WORLD_SIZE|MV2_COMM_WORLD_SIZE|PMI_SIZE|SLURM_NTASKS)=(\d{1,7})\b")
 FRAME = re.compile(r"^#(?P<at>\d{1,9}) +(?:0x[0-9a-f]+ in )?(?P<function>\S.*?) \((?P<arguments>.*)\)"
                    r"(?: at (?P<file>.+?):(?P<line>\d+)| from (?P<library>.+?))?\s*$", re.M)
-STEP = re.compile(r"^#\d+ ", re.M)
+STEP = re.compile(r"#(?<!.#)\d+ ")
 # What eu-stack prints: a frame with its module, or a thread. It shows no arguments.
 BARE = re.compile(r"^(#\d+ +0x[0-9a-f]+)(?: (?!- )(\S.*?))? - (\S*)$", re.M)
 BARE_THREAD = re.compile(r"^TID (\d+):$", re.M)
-THREAD = re.compile(r"^Thread (\d{1,9}) \(.*$", re.M)
+THREAD = re.compile(r"Thread (?<!.Thread )(\d{1,9}) \(.*")
 NUMBER_OF_THREAD = re.compile(r"\bLWP (\d{1,9})\b")
 # How often a thread has given up its processor, as the recipe copies it after the first stacks and before the second.
-SWITCHES = re.compile(r"^# /proc/(\d{1,9})/task/(\d{1,9})/status:voluntary_ctxt_switches:\s*(\d{1,18})$", re.M)
+SWITCHES = re.compile(r"# (?<!.# )/proc/(\d{1,9})/task/(\d{1,9})/status:voluntary_ctxt_switches:\s*(\d{1,18})$", re.M)
 CALL = re.compile(r"[Pp]?(?:MPI_(?P<name>[A-Z]\w*)|mpi_(?P<fortran>[a-z]\w*?)_+)$")
 OF_LIBRARY = re.compile(r"(ompi|opal|orte|prte|mca|pmix|PMIx|MPI[DRIU]\w*|MPL|ucp|ucs|uct|psm2?|psmx\w*|fi|ofi|rxm)_")
 FINALIZE = re.compile(r"(ompi_mpi_finalize|MPI[DRI]+_Finalize)$")
