@@ -237,7 +237,9 @@ def is_parked(row: Row) -> bool:
 def joined_by(row: Row, rows: List[Row]) -> str:
     """Returns the number of the thread for whose end one waits, as the kernel writes it, or nothing."""
     call = str(row.get("call", ""))
-    return next((str(other["tid"]) for other in rows if call == f"shared {other['inner']}" and not row.get("kind")), "")
+    if row.get("kind") or not call.startswith("shared "):
+        return ""
+    return next((str(other["tid"]) for other in rows if call == f"shared {other['inner']}"), "")
 
 
 def name_of(row: Row) -> str:

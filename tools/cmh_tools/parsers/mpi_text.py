@@ -7,11 +7,11 @@ from __future__ import annotations
 
 import re
 from collections import Counter
-from typing import Any, Dict, Iterator, List, Optional, Sequence
+from typing import Any, Dict, Iterable, KeysView, List, Optional, Sequence
 
 from ..files import Refusal, shown
 from ..sketch import quote
-from .base import misfits, row_in
+from .base import misfit, row_in
 
 Row = Dict[str, Any]
 
@@ -62,15 +62,21 @@ SHAPES: Dict[str, Dict[str, Any]] = {
 UNKNOWN_ROW: Dict[str, Any] = {}  # the shape of a row of none of these
 # Keys of which each is there if another one is, in rows of threads, communicators and ranks, by a key that tells these.
 # Older readers printed none of some.
-TOGETHER = {"tid": (("calls", "polls", "name", "kind"), ("number", "comm", "partner", "tag"), ("requests", "more")),
-            "id": (("parent", "made"), ("held", "target", "alone")),
-            "comms": (("any_tag", "begun"), ("alarms", "asked", "named"))}
+TOGETHER = {kind: [dict.fromkeys(keys.split()).keys() for keys in groups] for kind, groups in {
+    "tid": ("calls polls name kind", "number comm partner tag", "requests more"),
+    "id": ("parent made", "held target alone"),
+    "comms": ("any_tag begun", "alarms asked named")}.items()}
 
 
 def rows_of(text: str, path: str) -> List[Row]:
     """Returns the rows of a state. Raises Refusal if it isn't one, or isn't whole."""
-    rows = [row_of(line, f"{shown(path)}:{number}")
-            for number, line in enumerate(text.replace("\r\n", "\n").split("\n"), 1) if line]
+    known: Dict[str, Row] = {}  # by their lines: who hasn't moved has the same one in each reading
+    rows: List[Row] = []
+    for number, line in enumerate(text.replace("\r\n", "\n").split("\n"), 1):
+        if line in known:
+            rows.append(copy_of(known[line]))
+        elif line:
+            rows.append(known.setdefault(line, row_of(line, path, number)))
     if rows[0].get("version") != VERSION:
         raise Refusal(f"{shown(path)}:1: {EXPECTED}, of version {VERSION}")
     if rows[-1].get("end") != "state":
@@ -79,33 +85,46 @@ def rows_of(text: str, path: str) -> List[Row]:
     return rows
 
 
-def row_of(line: str, where: str) -> Row:
+def copy_of(row: Row) -> Row:
+    """Returns a row whose threads are its own, as later readings add to them."""
+    return {**row, "threads": [dict(thread) for thread in row["threads"]]} if "threads" in row else row
+
+
+def row_of(line: str, path: str, number: int) -> Row:
     row = row_in(line, MARK)
     if row is None:
-        raise Refusal(f"{where}: {EXPECTED}, and this line isn't one, is cut off, or has a key twice")
-    odd = next(odd_of(row), None)
+        raise Refusal(f"{shown(path)}:{number}: {EXPECTED}, and this line isn't one, is cut off, or has a key twice")
+    odd = odd_of(row)
     if odd is not None:
-        raise Refusal(f"{where}: {EXPECTED}, and in this line {quote(odd)} isn't as these have it")
+        raise Refusal(f"{shown(path)}:{number}: {EXPECTED}, and in this line {quote(odd)} isn't as these have it")
     return row
 
 
-def odd_of(row: Row) -> Iterator[str]:
-    """Yields what in a row isn't as these have it."""
-    shape = next((SHAPES[key] for key in SHAPES if key in row), UNKNOWN_ROW)
-    yield from (path[1:] for path in misfits(row, shape))
-    threads, comms = row.get("threads", []), row.get("comms", [])
-    for part in [row, *threads, *comms]:
-        yield from odd_keys(part)
-    yield from ("threads" for thread in threads if not is_whole(thread))
-    yield from (key for key in ("tid", "inner") if has_twice([thread.get(key) for thread in threads]))
-    yield from ["comms"] if has_twice([comm.get("id") for comm in comms if comm.get("id") != "0"]) else []
+def odd_of(row: Row) -> Optional[str]:
+    """Returns the first thing in a row that isn't as these have it, or None."""
+    place = misfit(row, next((SHAPES[key] for key in SHAPES if key in row), UNKNOWN_ROW))
+    if place is not None:
+        return place[1:]
+    if "threads" not in row:
+        return None
+    threads, comms = row["threads"], row["comms"]
+    rows = ((key, part) for key, parts in (("comms", (row,)), ("tid", threads), ("id", comms)) for part in parts)
+    lost = next((key for kind, part in rows for key in lost_keys(part, TOGETHER[kind])), None)
+    if lost is not None:
+        return lost
+    if not all(map(is_whole, threads)):
+        return "threads"
+    twice = next((key for key in ("tid", "inner") if has_twice([thread[key] for thread in threads])), None)
+    return twice or ("comms" if has_twice([comm["id"] for comm in comms if comm["id"] != "0"]) else None)
 
 
-def odd_keys(row: Row) -> Iterator[str]:
-    """Yields the keys that a row lacks and that others of it need."""
-    for keys in next((groups for key, groups in TOGETHER.items() if key in row), ()):
-        lost = [key for key in keys if key not in row]
-        yield from lost if len(lost) < len(keys) else []
+def lost_keys(row: Row, groups: Iterable[KeysView[str]]) -> List[str]:
+    """Returns keys that a row lacks, and that others of it need."""
+    there = row.keys()
+    for keys in groups:
+        if not there >= keys and not there.isdisjoint(keys):
+            return [key for key in keys if key not in there]
+    return []
 
 
 def has_twice(values: List[Any]) -> bool:
