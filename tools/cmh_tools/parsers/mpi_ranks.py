@@ -37,7 +37,8 @@ class Rank:
     host: str
 
     def __post_init__(self) -> None:
-        self.pid, self.level = int(self.row["pid"]), max(self.row.get("level", 0), self.row.get("asked", 0))
+        self.name, self.pid = f"rank-{self.number}", int(self.row["pid"])
+        self.level = max(self.row.get("level", 0), self.row.get("asked", 0))
         self.comms: List[Row] = self.row.get("comms", [])
         self.fault = str(self.row.get("fault", "")) or fault_of(self.row)
         self.by_id = {comm["id"]: comm for comm in self.comms if comm["id"] != "0"}
@@ -51,6 +52,7 @@ class Rank:
         more = self.others if self.is_threaded else []
         self.threads = [Thread(self, row, f"/{row['tid']}" if number else "")
                         for number, row in enumerate([*main, *more])]
+        self.in_finalize = any(thread.row.get("name") == "Finalize" for thread in self.threads if thread.kind == OTHER)
         self.halves: Dict[Any, List[Row]] = {}
         # (Its sends and receives that aren't complete, by the partner: those it is in, and those it has begun.)
         begun = [dict(zip(("kind", "comm", "partner", "tag"), half)) for half in self.row.get("begun", [])]
@@ -64,10 +66,6 @@ class Rank:
         silent = [] if has_said or self.is_threaded else self.others
         return [Thread(self, row, f"/{row['tid']}") for row in silent
                 if row["state"] == "R" or row.get("call") in BY_ITSELF or row.get("ticks")]
-
-    @property
-    def name(self) -> str:
-        return f"rank-{self.number}"
 
     def names(self) -> List[str]:
         """Those of its threads that may call MPI, or itself."""
@@ -107,9 +105,6 @@ class Rank:
         return [thread for thread in self.threads
                 if thread.kind in kinds and self.comms[thread.row["comm"]:][:1] == [own]]
 
-    def in_finalize(self) -> bool:
-        return any(thread.row.get("name") == "Finalize" and thread.kind == OTHER for thread in self.threads)
-
     def hidden_calls(self) -> str:
         """Returns which calls it may be in that leave no record, or nothing."""
         if self.row["opened"] > 0:
@@ -144,10 +139,10 @@ class Thread:
 
     def more(self) -> Dict[str, Any]:
         """What tells its wait from the next, and the note."""
-        frames = [frame(*self.row["place"])] if self.row.get("place") and self.kind else []
+        operation, frames = self.operation(), [frame(*self.row["place"])] if self.row.get("place") and self.kind else []
         values = [*self.partners(), *([f"tag={self.row['tag']}"] if self.kind in (RECEIVE, SEND) else [])]
-        words = [self.operation(), self.with_whom(), *(["in", frames[0]] if frames else [])]
-        return {"site": self.rank.host, "frames": frames, "operation": self.operation(),
+        words = [operation, self.with_whom(), *(["in", frames[0]] if frames else [])]
+        return {"site": self.rank.host, "frames": frames, "operation": operation,
                 "objects": [f"call-{self.calls}", *values], "count": str(self.calls),
                 "note": " ".join(filter(None, words)), "thread": f"{self.rank.pid}/{self.row['tid']}"}
 
@@ -211,8 +206,8 @@ class Job(Snapshot):
         self.late, self.members = {}, {}
         forms: Dict[str, Any] = {}
         comms = ((rank, comm) for rank in self.ranks.values() for comm in rank.by_id.values() if not comm["inter"])
-        self.odd = {comm["id"] for rank, comm in comms if rank_at(comm, comm["rank"]) != rank.number
-                    or forms.setdefault(comm["id"], form_of(comm)) != form_of(comm)}
+        rows = ((comm["id"], form_of(comm), rank_at(comm, comm["rank"]) == rank.number) for rank, comm in comms)
+        self.odd = {key for key, form, is_there in rows if not is_there or forms.setdefault(key, form) != form}
 
     def others(self, numbers: Iterable[int], name: str) -> List[str]:
         """The threads of some ranks, but for one. Of many ranks the list is shared, with that one in it."""
@@ -276,8 +271,9 @@ def note_ticks(rows: Iterable[Row]) -> None:
     caught awake in one of them, and has used next to no processor time since, stands where it sleeps."""
     keyed = (((row["pid"], thread["tid"]), thread) for row in rows for thread in row.get("threads", []))
     for was, now in pairs_of(keyed):
-        limited = [row["call"] for row in (was, now) if row.get("call") in BY_ITSELF]
-        if was.get("switches") != now.get("switches") and limited:
+        has_moved = was.get("switches") != now.get("switches")
+        limited = [row["call"] for row in (was, now) if row.get("call") in BY_ITSELF] if has_moved else []
+        if limited:
             was["ticks"] = now["ticks"] = True
             if "used" in was and now.get("used", math.inf) - was["used"] < BUSY:
                 was["call"], now["call"] = limited[0], limited[-1]
@@ -297,8 +293,8 @@ def difference(was: Rank, now: Rank) -> str:
     if "threads" not in was.row or "threads" not in now.row:
         return ""
     key = next((key for key in OF_RANK if was.row.get(key) != now.row.get(key)), None)
-    comms = ((comm, now.by_id[name]) for name, comm in was.by_id.items() if name in now.by_id)
-    part = next((key for comm, later in comms for key in OF_COMM if comm.get(key) != later.get(key)), None)
+    both = [] if was.comms == now.comms else [name for name in was.by_id if name in now.by_id]
+    part = next((key for name in both for key in OF_COMM if was.by_id[name].get(key) != now.by_id[name].get(key)), None)
     name: Optional[str] = key or part and f"the {part} of a communicator"
     return f"its readings differ in {name}, which never changes" if name else ""
 

@@ -58,7 +58,7 @@ class RecordsParser(Parser):
 
     def prepare(self, snapshot: Job) -> None:
         snapshot.read_ranks(self.lists)
-        working = [rank for rank in snapshot.ranks.values() if not rank.in_finalize()]
+        working = [rank for rank in snapshot.ranks.values() if not rank.in_finalize]
         snapshot.to_finalize = all_of([rank.names()[0] for rank in working], "comes", premise(FINALIZED))
 
     def processes(self, snapshot: Job) -> Iterable[Any]:
@@ -139,7 +139,7 @@ def process_of_thread(thread: Thread, job: Job) -> Process:
         return goes_on(thread.name, why, [premise(LIMIT)], Sign.TICKS, **more)
     if thread.kind == POLL:
         return polls(thread, job, more)
-    if thread.rank.in_finalize():
+    if thread.rank.in_finalize:
         return finalizes(thread, job, more)
     is_of_requests = thread.kind in (ALL_OF, ANY_OF)
     need = need_of_requests(thread, job, thread.kind) if is_of_requests else need_of(thread, job, thread.row)

@@ -45,7 +45,7 @@ MESSAGE = [int, int, PARTNER, int]
 REQUEST = [int, int, PARTNER, int, int, (int, type(None))]
 THREAD = {"tid": int, "inner": int, "state": STATE, "call?": CALL, "calls?": int, "polls?": int, "name?": WORD,
           "kind?": int, "number?": int, "comm?": int, "partner?": PARTNER, "tag?": int, "requests?": [REQUEST],
-          "more?": int, "place?": ([str], [str, str, int]), "fault?": str, "called?": str, "switches?": int,
+          "more?": int, "place?": ([str, str, int], [str]), "fault?": str, "called?": str, "switches?": int,
           "used?": float, "entered?": int,
           "ahead?": object, "meanwhile?": object, "looks?": object}  # (the last 3: of old states)
 SIZE = range(1 << 31)
