@@ -8,17 +8,18 @@ from typing import Dict, Iterator, List, Set, Tuple
 
 from ..files import Refusal, shown
 from ..snapshots import PARTS, Reading
-from .erlang_text import WORD, Block, Receives
+from .erlang_text import WORD, Block, Receives, terms_of
 
 # Of older texts, which said what code may do: these lines tell nothing any more.
 OLD_WORDS = {"begins", "grants", "holds", "keepers", "outside", "permits", "places", "quiet", "tells", "ticks"}
 FIRST = re.compile(r"=(left out|\w+) ")  # no line of a process begins so
 MARK = re.compile(rf"\n{FIRST.pattern}")
 TAKEN = re.compile(r"(\d{1,12}\.\d{3}) (\d{1,12}\.\d{3}) \S+\s*")  # when a node was read, behind all else of it
+A_LIMIT, AN_OWNER = r"infinity|any|\d+", r"{<[\d.]+>,#Ref<[\d.]+>}"
 # The rows below lines of some words: the receives of a function, and whom it has sent to before; the number of another
 # node; who has a lock, or wants one of Mnesia; the modules of the program's own that handle events of the system; who
 # has begun a timer that is repeated; the port of a connection with its owner and its ends; and the machine.
-ROWS = {"receives": re.compile(rf"{{{WORD},{WORD},(\d+),\[((?:(?:infinity|any|\d+),?)*)\]"
+ROWS = {"receives": re.compile(rf"{{{WORD},{WORD},(\d+),\[((?:{terms_of(A_LIMIT)})?)\]"
                                r"(?:,(\d+)((?:,(?:once|told|down))*))?}"),
         "asks": re.compile(rf"{{{WORD},{WORD},(\d+),\[(.*)\]}}"),
         "numbers": re.compile(r"(\d+) (\S+)"),
@@ -26,7 +27,7 @@ ROWS = {"receives": re.compile(rf"{{{WORD},{WORD},(\d+),\[((?:(?:infinity|any|\d
         "repeated": re.compile(r"<[\d.]+>"),
         "sockets": re.compile(r"(#Port<[\d.]+>) (<[\d.]+>) (\S+) (\S+)"),
         "machine": re.compile(r"\S+ pid:\[\d+\]"),
-        "locks": re.compile(r"{(.*),\[((?:{<[\d.]+>,#Ref<[\d.]+>},?)+)\]}"),
+        "locks": re.compile(rf"{{(.*),\[({terms_of(AN_OWNER)})\]}}"),
         "mnesia": re.compile(r"{(?P<word>has|wants),{(?P<what>.*)},(?P<kind>\w+),"
                               r"(?P<pid><[\d.]+>)(?:,(?P<owner><[\d.]+>))?}")}
 WITHOUT_ROWS = {"end", "keeps", "left out", "nodes", "repeats", "tables", "timers"}

@@ -45,24 +45,30 @@ LOOPS = re.compile(r"(gen_server:loop|gen_statem:loop_(receive|hibernate)|gen_ev
                    r"|proc_lib:wake_up|erlang:hibernate)/")
 # The values that items may have, of which more is read than what is searched for in them.
 TERMS, AN_ATOM = r"cut|\[.*\]", r"(?:\w[\w@.-]*|'[^'\n]*')"
+A_CALL = rf"{{{AN_ATOM},{AN_ATOM},\d+,\[[^][]*\]}}"
 WORDS = "bytes|exits|far|halts|leaves|replies|stops|tables|timers"
 
 
 
+def terms_of(form: str) -> str:
+    """Returns the form of terms that have one, with commas between them."""
+    return rf"(?:{form})(?:,(?:{form}))*"
+
+
 def list_of(form: str) -> str:
     """Returns the form of a list whose terms have one, or that is too long to be read."""
-    return rf"cut|\[(?:(?:{form})(?:,(?:{form}))*)?\]"
+    return rf"cut|\[(?:{terms_of(form)})?\]"
 
 
 FORMS = {key: re.compile(form) for key, form in {
     "closures": "cut|false|true", "timed": "false|true", "trap_exit": "false|true", "references": list_of(
-        r"#Ref<[\d.]+>"), "may_end": list_of(A_PID), "code": rf"\[(?:(?:{WORDS}),?)*\]", "messages": TERMS,
+        r"#Ref<[\d.]+>"), "may_end": list_of(A_PID), "code": rf"\[(?:{terms_of(WORDS)})?\]", "messages": TERMS,
     "monitors": list_of(rf"{{(?:process|port),(?:{A_PID}|#Port<[\d.]+>|{{{AN_ATOM},{AN_ATOM}}})}}"),
     "links": list_of(rf"{A_PID}|#Port<[\d.]+>"), "registered_name": rf"\[\]|{AN_ATOM}", "dictionary": TERMS,
     "initial_call": rf"{{{AN_ATOM},{AN_ATOM},\d+}}", "message_queue_len": r"\d+",
-    "strategies": r"cut|\[(?:(?:one_for_one|one_for_all|rest_for_one|simple_one_for_one),?)*\]", "reductions": r"\d+",
+    "strategies": list_of("one_for_one|one_for_all|rest_for_one|simple_one_for_one"), "reductions": r"\d+",
     "status": "exiting|garbage_collecting|runnable|running|suspended|waiting",
-    "current_stacktrace": rf"\[(?:{{{AN_ATOM},{AN_ATOM},\d+,\[[^][]*\]}},?)*\]"}.items()}
+    "current_stacktrace": rf"\[(?:{terms_of(A_CALL)})?\]"}.items()}
 OF_ELIXIR = re.compile(r"'Elixir\.([\w.]+)'")
 FUN = re.compile(r"'-(.*)/\d+-(fun-\d+)-'")
 WORD = r"(\w+|'[^']*')"
