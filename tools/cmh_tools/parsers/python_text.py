@@ -26,6 +26,9 @@ HEAD = {"version": int, "process": str, "pid": int, "seconds": (int, float), "un
         "alarm?": (int, float), "on_alarm?": TEXT, "on_child?": TEXT, "handlers?": {str: str}, "foreign_timer?": FLAG,
         "others?": NUMBER, "queues?": NUMBER, "parent?": int, "host?": str, "began?": object, "ended?": object,
         "python?": str, "reader?": NUMBER, "space?": TEXT, "time?": str}
+# Keys of a head, and those of which one is there too, as each version of cmh_state writes them.
+NEEDS = [({"queues"}, ("others",)), ({"queues"}, ("reader",)), ({"reader", "others"}, ("foreign_timer",)),
+         ({"reader"}, ("handlers", "on_child")), *(({"reader"}, (key,)) for key in ("alarm", "on_alarm", "unseen"))]
 FILE = (type(None), re.compile(r"[0-9a-f]{1,8}:[0-9a-f]{1,8} \d{1,20}"))  # its device and its number
 ID = re.compile("0x[0-9a-f]{1,16}")
 OBJECT = {"type": str, "id": ID, "all?": [object], "done?": bool, "name?": str, ...: object}
@@ -297,13 +300,19 @@ ROW = json.JSONDecoder(object_pairs_hook=object_of)  # (to make one for each lin
 def head_of(row: Dict[str, Any], path: str, at: int) -> Look:
     if row["version"] != VERSION:
         raise Refusal(f"{shown(path)}:{at}: a state of version {shown(str(row['version']))}, and {VERSION} is read")
-    wrong = next(misfits(row, HEAD), None) or (None if is_number(row["seconds"]) else ".seconds")
+    wrong = next(misfits(row, HEAD), None) or (None if is_number(row["seconds"]) else ".seconds") or lost_key(row)
     if wrong is not None:
         raise Refusal(f"{shown(path)}:{at}: the first line of a state, in which {shown(wrong[1:])} is missing or odd")
     look = Look(f"{path}:{at}", row["process"], row["pid"], row["seconds"], row)
     for word in row.get("unseen", ()):
         look.warnings.append(f"process {look.pid} has loaded {shown(word)}: what waits in it is not seen")
     return look
+
+
+def lost_key(head: Dict[str, Any]) -> Optional[str]:
+    """Returns the place of a key that a head lacks, and that each one has which has what it has, or None."""
+    there = head.keys()
+    return next((f".{keys[0]}" for has, keys in NEEDS if has <= there and there.isdisjoint(keys)), None)
 
 
 def close(look: Optional[Look], path: str, ended: bool = False) -> None:
