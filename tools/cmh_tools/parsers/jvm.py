@@ -16,18 +16,18 @@ from ..model import Sign, wakers
 from ..sketch import WAITING, WORK, Process, Sketch, frame, garbled, premise, quote
 from ..snapshots import APART, ONCE, WHOLE, WOKEN, Reading
 from . import State
-from .base import Break, Parser
+from .base import Break, Parser, break_wait
 from .jvm_dumps import read_dumps
 from .jvm_frames import (AGAIN, BARRIER, CLEANER, HAS_TIMER, LIMITS_FUTURES, MEETS, NEEDS_ALL, REENTRANT, Place,
                          has_limit, is_at_rest, is_in, is_of_jvm, place_of)
 from .jvm_heap import TIMER, Heap, HeapView, is_between, read_heap
 from .jvm_locks import Locks
-from .jvm_rows import NOBODY, label_of
 from .jvm_states import check_dumps, is_coarse, missing_of, names_of
 from .jvm_text import Dump, Thread, stack_of
 from .jvm_waits import MAIN, NATIVE, TIMED, Everybody, Threads, has_stood, is_locking, meetings_of, wait_of
 from .jvm_whole import add_inner, count_owned, kernel_thread, owner_of
 
+ELSEWHERE = "the heap shows it at another place, so its wait may have ended between the looks"
 # A line of take-jvm that isn't known: `code` is of older ones, and nobody reads it any more.
 ODD_MARK = re.compile(r"^# cmh(?! (?:began|ended|heap|virtual|limits|code) ).{0,9}", re.M)
 
@@ -86,7 +86,7 @@ class JvmParser(Parser):
 
     def periodic(self, threads: List[Thread]) -> List[str]:
         """Returns the names of the timers that have nothing to do but what they do again and again."""
-        rows = [(thread, self.heap.waits.get(label_of(thread) or NOBODY)) for thread in threads] if self.heap else []
+        rows = [(thread, self.heap.row_of(thread)) for thread in threads] if self.heap else []
         others = {thread.key for thread, wait in rows if wait is None or wait.kind != TIMER or not place_of(thread).has(
             HAS_TIMER)}
         return list(dict.fromkeys(self.names[thread.key] for thread, _ in rows if thread.key not in others))
@@ -123,6 +123,8 @@ class JvmParser(Parser):
             return garbled(name, thread.fault, site=site)
         place, here = place_of(thread), snapshot.locks.objects.get(thread.key, [])
         process = wait_of(thread, name, snapshot)
+        if process.parts and snapshot.heap.is_elsewhere(thread):
+            break_wait(process, ELSEWHERE, False)
         is_at_class = thread.state == "RUNNABLE" and process.parts and snapshot.locks.class_of(thread)
         own = {"BLOCKED": "synchronized", "RUNNABLE": "<clinit>" if is_at_class else ""}.get(thread.state, "")
         process.site, process.thread, process.frames = site, kernel_thread(thread, snapshot.dump), place.frames

@@ -70,11 +70,10 @@ class Heap:
     time: float = 0.0
     waits: Dict[Label, Wait] = field(default_factory=dict)
 
-    def wait_of(self, thread: Thread) -> Optional[Wait]:
-        """Returns what it shows of a thread, if that stood at the same place."""
+    def row_of(self, thread: Thread) -> Optional[Wait]:
+        """Returns what it shows of a thread, wherever that stood."""
         label = label_of(thread)
-        wait = self.waits.get(label) if label else None
-        return wait if wait and wait.frames == frames_of(thread)[:len(wait.frames)] else None
+        return self.waits.get(label) if label else None
 
 
 def read_heap(path: str, text: str) -> Optional[Heap]:
@@ -138,7 +137,13 @@ class HeapView:
         self.calling = [label_of(thread) for thread in threads if heap and waits_for_class(thread, locks)]
 
     def wait_of(self, thread: Thread) -> Optional[Wait]:
-        return self.heap.wait_of(thread) if self.heap else None
+        """Returns what the heap shows of a thread, if that stood at the same place."""
+        wait = self.heap.row_of(thread) if self.heap else None
+        return wait if wait and wait.frames == frames_of(thread)[:len(wait.frames)] else None
+
+    def is_elsewhere(self, thread: Thread) -> bool:
+        """Whether the heap shows a thread at another place, so that it has moved, or one of the texts isn't whole."""
+        return self.heap is not None and self.heap.row_of(thread) is not None and self.wait_of(thread) is None
 
     def names_of(self, labels: List[Label]) -> List[str]:
         return [self.names[self.there[label].key] for label in labels if label in self.there]
