@@ -215,7 +215,7 @@ class Cures:
         if STAYS_TAKEN.match(waits.processes[index].operation):
             return []
         others = [other for other in waits.without_hubs(waits.left_of(index)) if waits.kinds[other] != ENDED]
-        units = list(dict.fromkeys(map(self.unit_of, others)))
+        units = list(dict.fromkeys(map(self.units.__getitem__, others)))
         return [] if "" in units or self.units[index] in units else units
 
     # One thing that is enough
