@@ -156,7 +156,7 @@ def process_rows(found: Findings, lists: SharedLists) -> List[Tree]:
 def process_row(found: Findings, at: int, end: Optional[int]) -> Tree:
     """Returns the row of a process, but for its wakers. `end` is who may unblock it in the end, if it isn't stuck."""
     process, waits, root = found.process(at), found.waits, found.roots.root_of.get(at)
-    shared, kind = waits.list_of(at), process.kind
+    shared, kind = waits.list_of(at), waits.kinds[at] if process.kind == ALL else process.kind
     kept = set(waits.without_hubs(waits.left_of(at)))
     one_of = [it for it in waits.left[at] if it >= waits.number] if kind == ALL and shared is None else []
     nodes = [it for it in waits.left[at] if it < waits.number] if one_of else waits.all_left(at)

@@ -94,10 +94,10 @@ class Explanation(Findings):
 
     def wait(self, at: int, alone: bool = True) -> str:
         """Returns whom one waits for, in words; also of several that are alike."""
-        process = self.waits.processes[at]
+        process, left = self.waits.processes[at], self.waits.kinds[at]
         if process.kind == ANY:
             return self.wait_for_any(process, alone)
-        if process.kind == ALL:
+        if process.kind == ALL and left != UNKNOWN:
             return self.wait_for_all(at)
         if process.kind == ENDED:
             return self.answer(at)
@@ -117,13 +117,15 @@ class Explanation(Findings):
         return " (has ended)" if process.sign is Sign.ENDED else ""
 
     def wait_for_all(self, at: int) -> str:
-        """Returns whom one needs, of those that have not come, with what is known of each: stuck ones first."""
+        """Returns whom one needs, of those that have not come, with what is known of each: stuck ones first. Once all
+        others have come, any of several may be enough."""
         left = sorted(self.waits.all_left(at), key=lambda it: not self.low.inside[it])
         groups: Dict[str, List[str]] = {}
         for it in left:
             groups.setdefault(self.answer(it), []).append(self.name(it))
         words = [f"{self.some(names)} ({answer})" for answer, names in groups.items()]
-        return f"waits for all of {', '.join(words)}" if words else "waits for all of its list, and all have come"
+        which = "all" if self.waits.kinds[at] == ALL else "any"
+        return f"waits for {which} of {', '.join(words)}" if words else "waits for all of its list, and all have come"
 
     def lines(self, at: int, more: Sequence[int] = ()) -> List[str]:
         """Returns the line of one, or of it and more that are alike, and one of the note."""

@@ -86,11 +86,7 @@ class Process:
     @property
     def kind(self) -> str:
         """Which of KINDS it is where all wakers count: UNKNOWN if somebody may end its wait who isn't seen."""
-        if self.sign not in WAITING:
-            return KIND_OF.get(self.sign, RUNS)
-        if is_open(self.parts[0]) if len(self.parts) == 1 else are_open(self.parts):
-            return UNKNOWN
-        return ALL if self.is_for_all() else ANY
+        return kind_of(self.parts) if self.sign in WAITING else KIND_OF.get(self.sign, RUNS)
 
     @property
     def place(self) -> Tuple[List[str], str, List[str]]:
@@ -151,6 +147,19 @@ def whom_of(parts: Sequence[Part]) -> Sequence[str]:
     lists = [group.names() for part in parts for group in part if group.strength is not Strength.AGAINST]
     lists = [names for names in lists if names]
     return lists[0] if len(lists) == 1 else list(dict.fromkeys(name for names in lists for name in names))
+
+
+def kind_of(parts: Sequence[Part]) -> str:
+    """Returns of which of KINDS a wait is: UNKNOWN if somebody may end it who isn't seen."""
+    if len(parts) != 1:
+        return UNKNOWN if are_open(parts) else ALL
+    kind = ANY
+    for group in parts[0]:
+        if isinstance(group.who, Anybody):
+            return UNKNOWN
+        if group.how == COMES:
+            kind = ALL
+    return kind
 
 
 def is_open(part: Part) -> bool:

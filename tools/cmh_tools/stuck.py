@@ -20,8 +20,8 @@ from .files import Refusal
 from .model import COMES, Part, Sign, Strength, Wakers, once
 from .nearness import NEAR, Nearness
 from .rule import Decision, Subject
-from .sketch import ALL, ANY, DONE, ENDED, GOING, RUNS, UNKNOWN, Process, Sketch, lists_of_wakers, shared_lists, \
-    shared_waits
+from .sketch import ALL, ANY, DONE, ENDED, GOING, RUNS, UNKNOWN, Process, Sketch, is_open, kind_of, \
+    lists_of_wakers, shared_lists, shared_waits
 
 LONG = 65_536  # names in all lists; with more, equal lists are one
 MOST = 5_000_000  # names in all lists; more would take more memory than a machine may have
@@ -136,7 +136,7 @@ class Waits:
         self.shared = shared_lists(self.processes)
         self.alike = shared_waits([subject.parts for subject in self.subjects])
         for index, subject in enumerate(self.subjects):
-            self.left[index] = self.nodes_of(subject.parts) if self.kinds[index] in (ANY, ALL) else []
+            self.left[index] = self.nodes_of(self.kinds[index], subject.parts)
         self.senders = [senders & set(self.all_left(index)) if senders and self.kinds[index] == ANY else set()
                         for index, senders in enumerate(self.senders[:self.number])]
         self.senders += [set() for _ in self.left[self.number:]]
@@ -168,20 +168,24 @@ class Waits:
 
     def kind_of(self, index: int) -> str:
         """Returns which of KINDS is left of one."""
-        kind = self.processes[index].kind
-        return RUNS if self.subjects[index].sign is Sign.GOES_ON and kind not in (ANY, ALL) else kind
+        subject, kind = self.subjects[index], self.processes[index].kind
+        if subject.sign is Sign.GOES_ON:
+            return kind if kind in (ANY, ALL) else RUNS
+        return kind_of(subject.parts) if len(subject.parts) < len(self.processes[index].parts) else kind
 
-    def nodes_of(self, parts: Sequence[Part]) -> List[int]:
-        """Returns the nodes of a wait: those of its part, or one for each of several."""
-        if len(parts) == 1 and (not parts[0] or parts[0][0].how != COMES):
+    def nodes_of(self, kind: str, parts: Sequence[Part]) -> List[int]:
+        """Returns the nodes of a wait: those of the one part of one for any, or one for each part of one for all."""
+        if kind == ANY:
             return self.nodes_of_part(parts[0])
+        if kind != ALL:
+            return []
         if id(parts) not in self.alike:
             return self.nodes_of_parts(parts)
         return [self.hub(id(parts), lambda: self.nodes_of_parts(parts), ALL)]
 
     def nodes_of_parts(self, parts: Sequence[Part]) -> List[int]:
         """Returns a node for each part that nobody may end who isn't in the state."""
-        return [self.node_of_part(part) for part in parts if all(wakers.names() for wakers in part)]
+        return [self.node_of_part(part) for part in parts if not is_open(part)]
 
     def nodes_of_part(self, part: Part) -> List[int]:
         return list(dict.fromkeys(chain.from_iterable(map(self.nodes_of_wakers, part))))

@@ -8,7 +8,7 @@ from typing import Dict, FrozenSet, List, NamedTuple, Optional, Sequence, Set, T
 
 from plain import plain_roots
 
-from cmh_tools.model import ANYBODY, HOWS, Anybody, Part, Sign, Strength, Wakers, wakers
+from cmh_tools.model import ANYBODY, COMES, HOWS, Anybody, Part, Sign, Strength, Wakers, wakers
 from cmh_tools.rule import Headline, Subject
 
 GOES_ON, TICKS, SLEEPS, POLLS, RESTS, BLOCKED, UNKNOWN, ENDED = list(Sign)
@@ -166,6 +166,24 @@ def random_wakers(chance: random.Random, names: List[str], shared: List[List[str
     if HOWS[how][0] is UNSEEN or chance.random() < 0.05:
         return wakers(how, ANYBODY)
     return wakers(how, chance.choice(shared) if chance.random() < 0.3 else some_names(chance, names))
+
+
+def without_ghosts(subjects: List[Subject]) -> List[Subject]:
+    """Returns a system as a sketch has it, in which each name is that of one who is there."""
+    names = {subject.name for subject in subjects}
+    return [subject._replace(parts=[tuple(group if isinstance(group.who, Anybody) else group.of(
+        [name for name in group.who if name in names]) for group in part) for part in subject.parts]
+        if subject.sign in (BLOCKED, RESTS) else []) for subject in subjects]
+
+
+def what_is_left(subjects: List[Subject], pairs: Sequence[Tuple[str, str]], done: Set[str]) -> List[Subject]:
+    """Returns a system without those parts that are over: by a message in transit from a waker, or since one has ended
+    well who had to come. One who has no part left goes on."""
+    left = [subject._replace(parts=[part for part in subject.parts if not any(
+        (name, subject.name) in pairs or group.how == COMES and name in done
+        for group in part for name in group.names())]) for subject in subjects]
+    return [subject._replace(sign=GOES_ON) if before.parts and not subject.parts else subject
+            for before, subject in zip(subjects, left)]
 
 
 def change(subjects: List[Subject], number: int, place: int, part: Part) -> List[Subject]:
