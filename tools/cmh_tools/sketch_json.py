@@ -225,9 +225,10 @@ def set_texts(process: Process, row: Dict[str, Any]) -> None:
 
 def set_sign(process: Process, row: Dict[str, Any]) -> None:
     """Sets the sign of a process, and why it has it."""
-    if row["sign"] not in SIGNS:
+    sign = row["sign"]
+    if not isinstance(sign, str) or sign not in SIGNS:
         raise Refusal(f": 'sign' is none of {', '.join(SIGNS)}")
-    process.sign, process.reason = SIGNS[row["sign"]], text_of(row, "reason") or ""
+    process.sign, process.reason = SIGNS[sign], text_of(row, "reason") or ""
 
 
 def parts_of(wait: Any, lists: Dict[str, List[str]], who: str = "") -> List[Part]:
@@ -243,7 +244,7 @@ def wakers_of(row: Any, where: str, lists: Dict[str, List[str]]) -> Wakers:
     if type(row) is not dict or not row.keys() <= WAKER_KEYS:
         check_keys(row, WAKER_KEYS, where)
     how, strength, names = row.get("how"), row.get("strength"), row.get("who")
-    if how not in HOWS or strength not in STRENGTHS:
+    if not (isinstance(how, str) and isinstance(strength, str) and how in HOWS and strength in STRENGTHS):
         raise Refusal(f"{where}: {quote(str(how))} is no way to end a wait, or {quote(str(strength))} is no strength")
     who: Who = ANYBODY
     if isinstance(names, str) and names in lists:
