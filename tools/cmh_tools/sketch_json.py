@@ -21,7 +21,7 @@ from enum import Enum
 from typing import Any, Callable, Dict, List, Optional, Sequence, Set, Tuple
 
 from .files import Refusal, shown
-from .model import ANYBODY, COMES, HOWS, Anybody, Part, Sign, Strength, Wakers, Who, all_of, any_of, wakers
+from .model import ANYBODY, COMES, HOWS, Anybody, Part, Sign, Strength, Wakers, Who, all_of, wakers
 from .sketch import (ALL, ANY, BY_HAND, DONE, KINDS, LIMIT, NEEDED, RUNS, UNKNOWN, Process, Sketch, near_name,
                      premise, quote, read_json, shared_lists, shared_waits)
 
@@ -32,13 +32,15 @@ SIGNS = {sign.value: sign for sign in Sign}
 STRENGTHS = {strength.value: strength for strength in Strength}
 WORDS: Dict[Enum, str] = {one: word for word, one in (*SIGNS.items(), *STRENGTHS.items())}  # (faster than their values)
 WAKER_KEYS = {"who", "how", "strength", "because", "what"}
-TEXT = {str}  # (made once, as each list is looked at by it)
+TEXT, LIST = {str}, {list}  # (made once, as each list is looked at by them)
+UNLOOPED = json.JSONEncoder(check_circular=False)  # of what has no list within itself
 FLAGS = {"spoilt": "is_garbled", "collective": "is_collective"}
 KEYS = {"name", *KINDS, *TEXTS, *LISTS, *FLAGS, "count", "sign", "wait", "reason"}
 # Keys of older notes, which say nothing any more, but for who may end a wait besides, and that an unknown one is idle.
 OLD_KEYS = {"scope", "candidates", "spared", "besides", "proposal", "idle", "stays"}
 ALL_KEYS = KEYS | OLD_KEYS
-FORMS = (*KINDS, "sign")  # a row has just one of these keys
+FORMS = dict.fromkeys((*KINDS, "sign"))  # a row has just one of these keys
+TOLD_KEYS = {*TEXTS, *LISTS, *FLAGS, "count"}  # what is told of a process beside its wait
 
 
 # Reading
@@ -95,6 +97,10 @@ def texts_of(tree: Dict[str, Any], key: str, who: str = "") -> List[str]:
     if not is_texts(value):
         raise Refusal(f"{who}: {quote(key)} is no list of texts")
     return value
+
+
+def unique(names: List[str]) -> List[str]:
+    return names if len(names) < 2 else list(dict.fromkeys(names))
 
 
 def is_texts(value: object) -> bool:
@@ -184,15 +190,17 @@ def process_of(row: Any, number: int, lists: Dict[str, List[str]], waits: Dict[s
 
 def process_called(name: object, row: Any, lists: Dict[str, List[str]], waits: Dict[str, List[Part]]) -> Process:
     """Returns the process of a row. A fault has what is said behind its name."""
-    check_keys(row, ALL_KEYS, "")
+    if type(row) is not dict or not row.keys() <= ALL_KEYS:  # (as each call takes time)
+        check_keys(row, ALL_KEYS, "")
     if not isinstance(name, str):
         raise Refusal(" has no 'name', or one that is no text")
-    kinds = [kind for kind in FORMS if kind in row]
+    kinds = [*filter(FORMS.__contains__, row)]
     if len(kinds) != 1:
-        has = " and ".join(map(quote, kinds)) if kinds else "none"
+        has = " and ".join(map(quote, filter(kinds.__contains__, FORMS))) or "none"
         raise Refusal(f" has {has}: just one of {', '.join(map(quote, FORMS))} is needed")
     process = Process(name, Sign.UNKNOWN)
-    set_texts(process, row)
+    if not TOLD_KEYS.isdisjoint(row):
+        set_texts(process, row)
     if kinds == ["sign"]:
         set_sign(process, row)
         wait = row.get("wait", [])
@@ -209,16 +217,17 @@ def process_called(name: object, row: Any, lists: Dict[str, List[str]], waits: D
 def set_texts(process: Process, row: Dict[str, Any]) -> None:
     """Sets what is told of a process beside its wait."""
     about = vars(process)
-    for key, value in row.items():
+    for key in filter(TOLD_KEYS.__contains__, row):
+        value = row[key]
         if key in TEXTS:
             about[key] = value if type(value) is str else text_of(row, key) or ""
         elif key in LISTS:
             about[key] = texts_of(row, key)
         elif key == "count":
             process.count = count_of(value)
-        elif key in FLAGS:
-            if value is not True:
-                raise Refusal(f": '{key}' isn't true")
+        elif value is not True:
+            raise Refusal(f": '{key}' isn't true")
+        else:
             about[FLAGS[key]] = True
     process.site = process.site or None
 
@@ -233,7 +242,7 @@ def set_sign(process: Process, row: Dict[str, Any]) -> None:
 
 def parts_of(wait: Any, lists: Dict[str, List[str]], who: str = "") -> List[Part]:
     """Returns the parts of a wait: who may end each of them, and how."""
-    if not isinstance(wait, list) or not set(map(type, wait)) <= {list}:
+    if not isinstance(wait, list) or not LIST.issuperset(map(type, wait)):
         raise Refusal(f"{who}: 'wait' is no list of lists")
     where = f"{who}, 'wait'"
     return [tuple([wakers_of(group, where, lists) for group in part]) for part in wait]
@@ -250,9 +259,10 @@ def wakers_of(row: Any, where: str, lists: Dict[str, List[str]]) -> Wakers:
     if isinstance(names, str) and names in lists:
         who = lists[names]
     elif names is not None:
-        who = list(dict.fromkeys(texts_of(row, "who", where)))
+        who = unique(texts_of(row, "who", where))
     because = tuple(texts_of(row, "because", where)) if "because" in row else ()
-    return Wakers(who, STRENGTHS[strength], how, because, text_of(row, "what", where) or "")
+    what = text_of(row, "what", where) or "" if "what" in row else ""
+    return Wakers(who, STRENGTHS[strength], how, because, what)
 
 
 def count_of(value: object) -> Optional[str]:
@@ -265,9 +275,8 @@ def set_kind(process: Process, kind: str, row: Dict[str, Any], lists: Dict[str, 
     """Sets the sign, the wait and the reason of one that was written by hand, or by an older version."""
     value = row[kind]
     if kind in (ANY, ALL):
-        names = lists[value] if isinstance(value, str) and value in lists else \
-            list(dict.fromkeys(texts_of(row, kind)))
-        set_wait(process, kind, names, texts_of(row, "besides"))
+        names = lists[value] if isinstance(value, str) and value in lists else unique(texts_of(row, kind))
+        set_wait(process, kind, names, texts_of(row, "besides") if "besides" in row else [])
     elif kind == RUNS:
         if value is not True and not isinstance(value, str):
             raise Refusal(": 'runs' is neither true nor a text")
@@ -291,7 +300,7 @@ def set_wait(process: Process, kind: str, names: List[str], besides: List[str]) 
         raise Refusal(f": '{ALL}' is empty: a process that waits for nothing 'runs', and one with a wait that "
                       f"nothing can end has an empty '{ANY}'")
     process.sign = Sign.BLOCKED
-    process.parts = all_of(names, COMES, beside=more) if kind == ALL else any_of(*of_names(names), *more)
+    process.parts = all_of(names, COMES, beside=more) if kind == ALL else [(*of_names(names), *more)]
 
 
 def of_names(names: List[str]) -> List[Wakers]:
@@ -333,7 +342,7 @@ def text_of_sketch(sketch: Sketch) -> str:
 def text_of_rows(rows: List[Dict[str, Any]]) -> str:
     """Returns the JSON of rows whose first key is their name, and of which no value has such rows: each on a line. To
     write all at once takes half as long, and within a text no quote stands without a backslash."""
-    return json.dumps(rows)[1:-1].replace('}, {"name": ', '},\n  {"name": ')
+    return UNLOOPED.encode(rows)[1:-1].replace('}, {"name": ', '},\n  {"name": ')
 
 
 def row_of(process: Process, lists: Dict[int, str], waits: Dict[int, str]) -> Dict[str, object]:
@@ -342,8 +351,11 @@ def row_of(process: Process, lists: Dict[int, str], waits: Dict[int, str]) -> Di
     if process.parts:
         row["wait"] = waits.get(id(process.parts)) or rows_of(process.parts, lists)
     about = vars(process)
-    row.update({key: value for key in TOLD if (value := about[key])})
-    row.update({key: True for key, name in FLAGS.items() if about[name]})
+    for key in TOLD:
+        if about[key]:
+            row[key] = about[key]
+    if process.is_garbled or process.is_collective:
+        row.update({key: True for key, name in FLAGS.items() if about[name]})
     return row
 
 
