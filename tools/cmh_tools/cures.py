@@ -104,6 +104,8 @@ class Cures:
 
     def top_of(self, site: str) -> str:
         """Returns the highest process of the job above one, or that which something else begins again."""
+        if site not in self.begun_by:
+            return site
         seen = {site}
         while site in self.begun_by and self.begun_by[site] not in seen:
             above = self.begun_by[site]
@@ -164,7 +166,7 @@ class Cures:
         ended = self.units_to_end(members)
         if ended:
             return Cure(ended, [number])
-        units = list(dict.fromkeys(map(self.unit_of, members)))
+        units = list(dict.fromkeys(map(self.units.__getitem__, members)))
         if len(units) == 1 and units[0]:
             return Cure(units, [number])
         sets = [tuple(self.units_for(index)) for index in members[:MOST]]

@@ -2,6 +2,7 @@
 from __future__ import annotations
 
 import re
+from functools import lru_cache
 from typing import Dict, FrozenSet, Iterable, Iterator, List, NamedTuple, Optional, Tuple
 
 from .dump import Dump
@@ -36,6 +37,12 @@ class Waiters(NamedTuple):
     number: int
     is_whole: bool
     nearest: List[int]
+
+
+@lru_cache(maxsize=1024)
+def first_words(note: str) -> str:
+    """Returns what a note says first, which is at what one waits."""
+    return END_OF_WHAT.split(shown(note), 1)[0]
 
 
 class Verdicts:
@@ -139,10 +146,12 @@ class Findings(Verdicts):
     def what(self, at: int, has_address: bool = True) -> str:
         """Returns at what one waits."""
         process = self.waits.processes[at]
-        what = END_OF_WHAT.split(shown(process.note or process.operation), 1)[0]
+        what = first_words(process.note or process.operation)
+        if not has_address or not process.objects:
+            return what
         address = next((text for text in process.objects if ADDRESS.fullmatch(text)), "")
         short = ADDRESS.sub(r"0x\1", address)
-        return what + (f" {short}" if address and address not in what and has_address else "")
+        return what + (f" {short}" if address and address not in what else "")
 
     def goes_on(self, at: int) -> Optional[str]:
         """Returns why one goes on by itself, if it does whatever unknown ones do."""

@@ -8,8 +8,8 @@ import re
 import shlex
 import textwrap
 from collections import Counter
-from functools import cached_property
-from typing import Dict, Iterable, List, NamedTuple, Optional, Sequence, Set, Tuple
+from functools import cached_property, lru_cache
+from typing import Dict, Iterable, List, NamedTuple, Optional, Sequence, Set, Tuple, Union
 
 from .cures import unit_words, words_of
 from .doubts import STAND_INS, Doubt
@@ -45,6 +45,7 @@ LENGTH = re.compile(r"(?:it )?(sleeps for [^,]+)")
 COLOURS = {Headline.DEADLOCK: "stuck", Headline.LIKELY: "likely", Headline.NONE: "not_stuck"}
 UNSEEN = "somebody who wasn't looked at"
 SAME = "Nothing in a state tells one with nothing to do from one whose message was lost."
+Columns = Tuple[str, Union[int, str], str]  # at what one waits; for whom, or the only one; the frames
 
 
 class More(NamedTuple):
@@ -119,20 +120,17 @@ class Screen:
 
     def noun(self, index: int) -> str:
         """Returns what one is, by the word of its system."""
-        process, systems = self.waits.processes[index], self.system.split(" and ")
-        noun = next((noun for start, noun in SITES.items() if (process.site or "").startswith(start)), "")
-        if noun or self.system in NOUNS:
-            return noun or NOUNS[self.system]
-        is_thread = process.thread.partition("/")[2] and (systems == ["python"] or "/" in process.name)
-        return "thread" if is_thread else "task" if systems == ["python"] else "process"
+        process = self.waits.processes[index]
+        has_thread = bool(process.thread.partition("/")[2])
+        return noun_in(self.system, process.site or "", has_thread, "/" in process.name)
 
     def noun_of(self, members: Sequence[int]) -> str:
         """Returns how many some are, and what, if there is room. Processes of Linux are threads if one has several of
         them."""
         counts = Counter(map(self.noun, members))
-        owners = {self.waits.processes[index].thread.partition("/")[0] for index in members}
-        if self.system == "linux" and len(owners) < len(members) and "" not in owners:
-            counts = Counter(["thread"] * len(members))
+        if self.system == "linux":
+            owners = {self.waits.processes[index].thread.partition("/")[0] for index in members}
+            counts = Counter(["thread"] * len(members)) if len(owners) < len(members) and "" not in owners else counts
         return " and ".join(number_of(number, noun, many(noun)) for noun, number in counts.items()) \
             if len(counts) <= (KINDS if self.is_head_long else 1) else number_of(len(members))
 
@@ -284,11 +282,7 @@ class Screen:
     def member_lines(self, members: List[int], is_wide: bool = True) -> List[str]:
         """Returns a line for each member, or if there is room two; those that wait alike share one. Where any other one
         may free some, that is said once."""
-        groups: Dict[Tuple[str, str, str], List[int]] = {}
-        for index in sorted(members, key=self.is_of_others):
-            frames, whom = self.frames(index), self.whom(index)
-            is_alike = frames and whom.endswith(OTHERS)  # (they stand at one line, each at an object of its own)
-            groups.setdefault((self.this.what(index, not is_alike), whom, frames), []).append(index)
+        groups = self.member_groups(members)
         if len(members) == 2 and len({(what, frames) for what, _, frames in groups}) == 1:
             groups = {(what, "each other", frames): members for what, _, frames in groups}
         is_of_any = self.is_of_any([index for key, alike in groups.items() if key[1] == ANY_OTHER for index in alike])
@@ -296,19 +290,31 @@ class Screen:
             groups = {(what, "" if whom == ANY_OTHER else whom, frames): alike
                       for (what, whom, frames), alike in groups.items()}
         rows = list(groups.items())
-        if rows[MEMBERS:]:  # (whose locks others want, isn't left out)
-            rows.sort(key=lambda row: self.waits.nearness.wanting.keys().isdisjoint(row[1]))
+        wanting = self.waits.nearness.wanting if rows[MEMBERS:] else {}
+        if wanting:  # (whose locks others want, isn't left out)
+            rows.sort(key=lambda row: wanting.keys().isdisjoint(row[1]))
         shown_groups, left = rows[:MEMBERS], [alike for _, alike in rows[MEMBERS:]]
         names = [self.names_of(list(map(self.name, alike))) for _, alike in shown_groups]
         wide = max(map(len, names))
-        lines = [self.columns(f"  {name:<{wide}}  ", *columns, "" if is_wide else self.whom(alike[0], SHORT))
-                 for name, (columns, alike) in zip(names, shown_groups)]
+        lines = [self.columns(f"  {name:<{wide}}  ", what, whom if isinstance(whom, str) else self.name(whom), frames,
+                              "" if is_wide else self.whom(alike[0], SHORT))
+                 for name, ((what, whom, frames), alike) in zip(names, shown_groups)]
         lines += [f"  and {sum(map(len, left)):,} more"] if left else []
         are_all = all(whom == "" for _, whom, _ in groups)
         who = f"  {'Each' if are_all else 'The others'} can be freed only by another one of them"
         if self.this.roots.maybe_behind(self.this.roots.root_of[members[0]]):
             return [*lines, f"{who}; s{SOME_BEHIND}" if is_of_any else f"  S{SOME_BEHIND}"]
         return lines + ([who + FOR_WHICH] if is_of_any else [])
+
+    def member_groups(self, members: List[int]) -> Dict[Columns, List[int]]:
+        """Returns members by what stands in their line: those who only wait for others last."""
+        groups: Dict[Columns, List[int]] = {}
+        for index in sorted(members, key=self.is_of_others):
+            frames, whom = self.frames(index), self.one_or_words(index)
+            # They stand at one line, each at an object of its own.
+            is_alike = frames and isinstance(whom, str) and whom.endswith(OTHERS)
+            groups.setdefault((self.this.what(index, not is_alike), whom, frames), []).append(index)
+        return groups
 
     def is_of_any(self, waiting: List[int]) -> bool:
         """Whether the state doesn't show who has what some wait for."""
@@ -353,11 +359,16 @@ class Screen:
         return AsItIs(cut(f"{name}{first}  {fitting}".rstrip(), self.width))
 
     def whom(self, index: int, most: int = LONGEST) -> str:
+        whom = self.one_or_words(index, most)
+        return whom if isinstance(whom, str) else self.name(whom)
+
+    def one_or_words(self, index: int, most: int = LONGEST) -> Union[int, str]:
+        """Returns the only one for whom one waits, or else in words for whom."""
         if self.waits.kinds[index] not in (ANY, ALL):
             return "nobody"
         nodes = self.waits.left_of(index)
         if len(nodes) == 1 and nodes[0] < self.waits.number and self.waits.kinds[nodes[0]] != ENDED:
-            return self.name(nodes[0]) if nodes[0] != index else "itself"
+            return nodes[0] if nodes[0] != index else "itself"
         others, root = self.others_of(tuple(nodes))
         number, roots = len(others) - (index in others), self.this.roots
         is_same = root is not None and root == roots.root_of.get(index) and number + 1 == len(roots.roots[root])
@@ -390,6 +401,8 @@ class Screen:
     def frames(self, index: int) -> str:
         """Returns the innermost frames of the program's own, as many as fit: the first with its line."""
         process = self.waits.processes[index]
+        if not process.frames:
+            return ""
         frames = [text for text in process.frames if text not in (process.operation, process.name)
                   and not UNNAMED.fullmatch(text)]
         if not frames or process.name.startswith(frames[0]):  # (the name of a program or a service says no more)
@@ -629,6 +642,15 @@ class Screen:
         return list(map(AsItIs, [self.more.asks("--all"), *why]))
 
 
+@lru_cache(maxsize=None)
+def noun_in(system: str, site: str, has_thread: bool, is_inside: bool) -> str:
+    """Returns what one of a system is that stands at a site: whether it is a thread of the kernel, and by its name
+    inside of a process."""
+    noun = next((noun for start, noun in SITES.items() if site.startswith(start)), "") or NOUNS.get(system, "")
+    is_python = system == "python"
+    return noun or ("thread" if has_thread and (is_python or is_inside) else "task" if is_python else "process")
+
+
 def many(noun: str) -> str:
     return f"{noun}{'es' if noun.endswith('s') else 's'}"
 
@@ -637,7 +659,7 @@ def prefix_of(names: List[str]) -> str:
     """Returns what all names begin with, up to a slash: the name of one process of several threads says no more."""
     prefix = os.path.commonprefix(names)
     shared = prefix[:prefix.rfind("/") + 1] if len(names) > 1 else ""
-    return "" if any(name[len(shared):].isdigit() for name in names) else shared
+    return "" if not shared or any(name[len(shared):].isdigit() for name in names) else shared
 
 
 def cut_name(text: str, most: int) -> str:
