@@ -91,10 +91,11 @@ class Reduction:
 
     def width(self, at: int) -> int:
         """Returns how many dependents it takes."""
-        if self.waits.kinds[at] == ALL:
+        waits = self.waits
+        if waits.kinds[at] == ALL:
             return 1
-        names = len(self.whom(at) if self.over else self.waits.left_there(at))
-        return names + (bool(self.waits.senders[at]) and self.waits.has_hub(at))
+        names = len(self.whom(at) if self.over else waits.left_there(at))
+        return names + 1 if waits.senders[at] and waits.has_hub(at) else names
 
     def fits(self) -> bool:
         return self.processes <= ENTRIES and self.names <= DEPENDENTS
@@ -145,12 +146,18 @@ class Reduction:
                 receivers.setdefault(sender, []).append(at)
         there = list(self.there)
         for at in self.rest():
-            if at < self.number:
+            if at < self.number and self.may_have_twin(at):
                 one = first.setdefault(self.key(at, receivers.get(at, []), there), at)
                 if one != at:
                     self.over[at] = one
         self.twins = len(self.over)
-        self.count()
+        if self.over:
+            self.count()
+
+    def may_have_twin(self, at: int) -> bool:
+        """Whether another one may stand in just the same lists."""
+        waiters = self.waits.waiters[at]
+        return not waiters or not self.there[waiters[0]] or len(self.waits.left[waiters[0]]) > 1
 
     def key(self, at: int, receivers: List[int], there: List[bool]) -> object:
         """What twins have in common."""
@@ -161,10 +168,11 @@ class Reduction:
 
     def count(self) -> None:
         """Counts anew what is there, without those that were folded."""
-        for at in self.over:
+        for at in reversed(self.over):  # (whoever stands for one is folded after it, if at all)
+            self.over[at] = self.over.get(self.over[at], self.over[at])
             self.there[at] = False
-        tops = {self.stands_for(at) for at in self.over}
-        rest = [at for at in self.rest() if self.is_row(at) or at in tops]
+        tops = {*self.over.values()}.difference(self.over)
+        rest = [at for at in self.rest() if at < self.number or self.is_row(at) or at in tops]
         self.processes, self.names = len(rest), sum(map(self.width, rest))
 
     def fold(self) -> None:
@@ -190,10 +198,10 @@ class Reduction:
         whom = self.whom(at)
         if kind == ALL and (at in whom or any(waits.kinds[it] == ENDED for it in waits.left[at])):
             return None  # (it never goes on)
-        others = whom - {at}
-        if len(others) < 2:
-            return next(iter(others), None)
-        keys = [(kind, "others", frozenset(others)), (kind, "all", frozenset({*whom, at}))]
+        whom.discard(at)
+        if len(whom) < 2:
+            return next(iter(whom), None)
+        keys = [(kind, "others", frozenset(whom)), (kind, "all", frozenset({*whom, at}))]
         for key in keys if kind == ANY else keys[:1]:
             one = known.setdefault(key, at)
             if self.stands_for(one) != at:
@@ -202,7 +210,7 @@ class Reduction:
 
     def name_hubs(self) -> None:
         """Has a process stand for a hub into which some are folded."""
-        for at in range(self.number):
+        for at in range(self.number) if len(self.waits.left) > self.number else ():
             hub = self.stands_for(at)
             if hub >= self.number:
                 self.over[hub], self.source[at] = at, hub

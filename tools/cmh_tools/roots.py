@@ -71,7 +71,8 @@ class Roots:
         place = {number: position for position, number in enumerate(tops)}
         self.roots = [without_hubs(self.waits, along(self.edges, knots.knots[number])) for number in tops]
         self.behind = [behind[number] for number in tops]
-        self.above = {index: sorted(place[root] for root in knots.above[knots.of[index]]) for index in members}
+        above = {number: sorted(map(place.__getitem__, knots.above[number])) for number in {*knots.of.values()}}
+        self.above = {index: above[knots.of[index]] for index in members}
         self.root_of = {index: place[knots.of[index]] for index in members if knots.of[index] in place}
 
     def maybe_behind(self, number: int) -> List[int]:
@@ -137,8 +138,8 @@ def components(edges: Edges) -> List[List[int]]:
                 work.append((new, iter(edges[new])))
                 continue
             work.pop()
-            if work:
-                low[work[-1][0]] = min(low[work[-1][0]], low[at])
+            if work and low[at] < low[work[-1][0]]:
+                low[work[-1][0]] = low[at]
             if low[at] == order[at]:
                 found.append(cut_off(stack, on, at))
     return found
@@ -149,8 +150,8 @@ def step(rest: Iterator[int], at: int, order: Dict[int, int], low: Dict[int, int
     for other in rest:
         if other not in order:
             return other
-        if other in on:
-            low[at] = min(low[at], order[other])
+        if order[other] < low[at] and other in on:
+            low[at] = order[other]
     return None
 
 
