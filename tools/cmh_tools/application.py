@@ -21,10 +21,11 @@ Found = List[Tuple[Process, Optional[Fact]]]  # processes, each with the fact on
 
 
 def apply(facts: Facts, sketch: Sketch) -> None:
-    """Changes by facts who may end the waits of a sketch. Adds to its warnings which facts matched nothing, or name
-    nobody."""
+    """Changes by facts who may end the waits of a sketch, and checks what they made of it. Adds to its warnings which
+    facts matched nothing, or name nobody."""
     if facts.facts or facts.still is not None:
         Application(facts, sketch).run()
+        sketch.check()
     else:
         drop_missing(sketch)
 

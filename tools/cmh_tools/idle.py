@@ -15,16 +15,19 @@ from .sketch import FACT, REST, WORK, Process, Sketch, lists_of_wakers
 def leave_out(sketch: Sketch, what: str) -> None:
     """Leaves out those at rest that nobody waits for and no fact decides, and unknown stand-ins that nobody waits for.
     Says in one line how many of those at rest, as `what` in the plural."""
+    idle = [process for process in sketch.processes if process.sign is Sign.RESTS or is_stand_in(process)]
+    if not idle:
+        return
     wanted = {name for names in lists_of_wakers(sketch.processes) for name in names}.union(*sketch.in_transit)
     out: Counter[str] = Counter()
     gone: Set[str] = set()
-    for process in sketch.processes:
-        if process.sign is Sign.RESTS and process.name not in wanted and not has_fact(process):
+    for process in idle:
+        if process.name in wanted or process.sign is Sign.RESTS and has_fact(process):
+            continue
+        gone.add(process.name)
+        if process.sign is Sign.RESTS:
             out[process.reason or WORK] += 1
-            gone.add(process.name)
             sketch.idle += [process.thread] if process.thread else []
-        elif is_stand_in(process) and process.name not in wanted:
-            gone.add(process.name)
     sketch.processes = [process for process in sketch.processes if process.name not in gone]
     if out:
         ways = ", ".join(f"{number} {way if number == 1 else plural(way)}" for way, number in out.most_common())

@@ -25,29 +25,34 @@ def sketch_for(system: str, paths: Sequence[str], facts: Facts, read: Read = rea
     elif system == "both":
         first, second = map(read_any, paths)
         sketch = both(first, second)
+        sketch.check()
     elif system == "join":
         from .join import join_sketches
         sketch, what = join_sketches([read_any(path, read) for path in paths], paths), "threads"
+        sketch.check()
     else:
         sketch, what = record(system, [State(path, read(path)) for path in paths]), parser_of(system).IDLE
     return with_facts(sketch, facts, what)
 
 
 def with_facts(sketch: Sketch, facts: Facts, what: str = "processes") -> Sketch:
-    """Applies facts to a sketch, and leaves those out who have nothing to do. `what` is what these are called."""
+    """Applies facts to a sketch, which has been checked, and leaves those out who have nothing to do. `what` is what
+    these are called."""
     let_holders_work(sketch)
     apply(facts, sketch)
     leave_out(sketch, what)
-    sketch.check()
     return sketch
 
 
 def let_holders_work(sketch: Sketch) -> None:
     """Says of each one at rest that it is blocked, if it is wanted: whoever has something that another one wants is in
     the middle of work, wherever it waits. Who may have moved between the looks isn't in one wait."""
+    resting = [process for process in sketch.processes if process.sign is Sign.RESTS]
+    if not resting:
+        return
     wanted = wanted_ones({process.name: process for process in sketch.processes if process.sign is Sign.BLOCKED})
-    for process in sketch.processes:
-        if process.sign is Sign.RESTS and process.name in wanted and is_one_wait(process):
+    for process in resting:
+        if process.name in wanted and is_one_wait(process):
             process.sign = Sign.BLOCKED
 
 
@@ -71,7 +76,7 @@ def wanted_ones(blocked: Dict[str, Process]) -> Set[str]:
 
 
 def record(system: str, states: List[State]) -> Sketch:
-    """Returns the sketch that a parser makes. A text that takes it by surprise is refused too."""
+    """Returns the sketch that a parser makes, checked. A text that takes it by surprise is refused too."""
     try:
         sketch: Sketch = parser_of(system).record(states)
     except (ValueError, LookupError, TypeError, AttributeError, RecursionError) as error:
@@ -79,6 +84,7 @@ def record(system: str, states: List[State]) -> Sketch:
         raise Refusal(f"{where}: this isn't understood as a state of {system} ({type(error).__name__}: "
                       f"{shown(str(error))})") from error
     sketch.system = sketch.system or system
+    sketch.check()
     return sketch
 
 
