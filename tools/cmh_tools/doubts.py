@@ -71,9 +71,11 @@ class Likely:
 
     def __init__(self, waits: Waits, known: Sequence[str] = ()) -> None:
         self.waits, self.decision, self.keys = waits, waits.decision, list(known)
-        self.processes = {process.name: process for process in waits.processes}
         self.left: Dict[Tuple[int, int], List[Part]] = {}  # of waits, by the ids of their parts and of those that hold
         self.numbers = {waits.processes[at].name: at for at in sorted(self.decision.likely - self.decision.certain)}
+
+    def process(self, name: str) -> Process:
+        return self.waits.processes[self.waits.index[name]]
 
     # The sketch without doubts
 
@@ -128,7 +130,7 @@ class Likely:
 
     def sign_of(self, aside: rule.Doubt) -> Optional[Sign]:
         is_seen = aside.who is not None and aside.strength is not Strength.UNSEEN
-        return self.decision.signs.get(aside.who or "") if is_seen else None
+        return self.decision.sign_of(aside.who or "") if is_seen else None
 
     def key_of(self, aside: rule.Doubt) -> str:
         """Returns what those share of whom one sentence is said: processes of one family and sign, or a way to end a
@@ -144,7 +146,7 @@ class Likely:
             return how
         if sign not in (Sign.RESTS, Sign.TICKS):
             return key
-        reasons = {told_reason(self.processes[aside.who or ""].reason) for aside in asides if sign is Sign.RESTS}
+        reasons = {told_reason(self.process(aside.who or "").reason) for aside in asides if sign is Sign.RESTS}
         return " ".join([*sorted(reasons), sign.value])
 
     def place(self, aside: rule.Doubt) -> Tuple[bool, int]:
@@ -167,7 +169,7 @@ class Likely:
             return [f"{UNREADABLE}{HAS_ENDED}"]
         if doubt.how == "left-out":
             return [LEFT_OUT]
-        return list(dict.fromkeys(self.line_on(self.processes[name]) for name in doubt.waits))
+        return list(dict.fromkeys(self.line_on(self.process(name)) for name in doubt.waits))
 
     def line_on(self, process: Process) -> str:
         """Returns the line that those who are left of its wakers are all who may end the wait of a process."""

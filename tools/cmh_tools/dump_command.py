@@ -3,6 +3,7 @@ from __future__ import annotations
 
 from argparse import SUPPRESS
 from collections import Counter
+from itertools import chain
 from typing import Any, Dict, Iterator, List, Sequence, Tuple
 
 from .command import Parser, likely_path, notes_path, run
@@ -76,7 +77,7 @@ def add_system(systems: Any, name: str, summary: str, states: Dict[str, Any]) ->
 
 def summary(dump: Dump, path: str, asked: List[Proposal]) -> Iterator[str]:
     """Returns the lines for people on what was written. `asked` has the facts that are asked for."""
-    kind_of = [process.kind for process in dump.sketch.processes]
+    kind_of = dump.waits.kinds[:dump.waits.number]
     kinds = Counter(kind_of)
     words = [f"{kinds[kind]:,} {kind.replace('_', ' ')}" for kind in KINDS if kinds[kind]]
     total = len(dump.sketch.processes)
@@ -101,7 +102,7 @@ def summary(dump: Dump, path: str, asked: List[Proposal]) -> Iterator[str]:
 
 def number_decided(sketch: Sketch) -> List[int]:
     """Returns how many processes each fact has decided."""
-    counts = Counter(reason for process in sketch.processes for reason in process.because)
+    counts = Counter(chain.from_iterable(process.because for process in sketch.processes))
     return [counts[reason_of(row)] for row in sketch.facts]
 
 

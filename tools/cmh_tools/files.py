@@ -4,7 +4,6 @@ from __future__ import annotations
 
 import contextlib
 import os
-import secrets
 import stat
 import sys
 import unicodedata
@@ -155,7 +154,7 @@ def write_texts(texts: Sequence[Tuple[str, str]], folder: Optional[int] = None) 
         try:
             for path, text in texts:
                 target = os.path.realpath(path) if folder is None else path
-                made.append((os.path.join(os.path.dirname(target), f".cmh-{secrets.token_hex(8)}"), target))
+                made.append((os.path.join(os.path.dirname(target), f".cmh-{os.urandom(8).hex()}"), target))
                 write_new(*made[-1], text.encode(), folder)
             for name, path in made if not SIGNALS.number else ():
                 os.replace(name, path, src_dir_fd=folder, dst_dir_fd=folder)

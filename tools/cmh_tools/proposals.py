@@ -12,7 +12,7 @@ from .facts import FREES, OTHERS, STILL, word_of
 from .model import Sign, Strength
 from .places import FRAME, is_like
 from .rule import Doubt
-from .sketch import COMPLETE, REST, UNKNOWN, UNREADABLE, Process, has_how
+from .sketch import COMPLETE, REST, RUNS, UNKNOWN, UNREADABLE, Process, has_how
 from .stuck import Waits
 
 Line = Tuple[str, List[Process]]  # of facts, with those that it would decide
@@ -70,7 +70,8 @@ def propose(waits: Waits, quiet: Collection[str] = ()) -> List[Proposal]:
     settled = waits.decision.certain | waits.decision.likely | waits.decision.freed.keys()
     undecided = [process for number, process in enumerate(waits.processes)
                  if process.name not in quiet and process.sign is not Sign.RESTS
-                 and (process.kind == UNKNOWN or number not in settled and is_by_reach(process))]
+                 and (waits.kinds[number] in (UNKNOWN, RUNS) and process.kind == UNKNOWN
+                      or number not in settled and is_by_reach(process))]
     asked = [one for one in undecided
              if one.frames and one.frames not in ([REST], [UNREADABLE], [one.name]) and is_asked(one)]
     words = Words(waits.processes)

@@ -78,16 +78,15 @@ class Decision:
     once it is asked for."""
 
     def __init__(self, subjects: Sequence[Subject]) -> None:
-        self.subjects = [wake(subject) for subject in subjects]
+        self.subjects = [wake(subject) if not subject.parts else subject for subject in subjects]
         self.index = {subject.name: number for number, subject in enumerate(subjects)}
-        self.signs = {subject.name: subject.sign for subject in self.subjects}
-        numbers = numbers_by_sign(self.subjects)
+        numbers, names = by_sign(self.subjects)
         self.blocked, self.resting = numbers[Sign.BLOCKED], numbers[Sign.RESTS]
         self.moving = sorted([*numbers[Sign.GOES_ON], *numbers[Sign.SLEEPS]])  # (the first of them is named)
         self.kept: Dict[Tuple[int, FrozenSet[Sign]], Sequence[str]] = {}
         self.left: Dict[int, Tuple[Part, List[Sequence[str]]]] = {}  # of parts, by their ids
         self.waits = waits_of(self.subjects)
-        self.named = {signs: {subjects[number].name for sign in signs for number in numbers[sign]}
+        self.named = {signs: set().union(*map(names.__getitem__, signs))
                       for signs in (PRESENT, NOT_ASIDE, BESIDE_NAMED, IDLE, MOVING)}
         self.over: Set[int] = set()  # parts of which not all who are left are likely to be stuck, once that is known
         self.behind_idle = self.those_behind_idle()
@@ -143,7 +142,7 @@ class Decision:
             return Headline.DEADLOCK
         if self.likely:
             return Headline.LIKELY
-        signs = set(self.signs.values())
+        signs = {subject.sign for subject in self.subjects}
         if Sign.UNKNOWN in signs:
             return Headline.NOT_KNOWN
         goes_on = Sign.GOES_ON in signs
@@ -165,12 +164,14 @@ class Decision:
         """Whether somebody of a part isn't set aside, beside the waiter: it may stand in the list that all of its
         process share, and it wakes nobody while it waits."""
         for wakers, names in zip(part, self.left_of(part)):
-            if names and (len(names) > 1 or names[0] != owner or wakers.strength is Strength.NAMED):
+            if len(names) > 1 or names and (names[0] != owner or wakers.strength is Strength.NAMED):
                 return True
         return False
 
     def left_of(self, part: Part) -> List[Sequence[str]]:
         """Returns those of each wakers of a part who aren't set aside: lists that are made once."""
+        if len(part) == 1:  # (as most have)
+            return [self.those(part[0], LEFT[part[0].strength]) if part[0].strength in LEFT else ()]
         if id(part) not in self.left:
             ways = self.ways_of(part)
             self.left[id(part)] = part, [self.those(wakers, LEFT[way]) if way in LEFT else ()
@@ -251,15 +252,21 @@ class Decision:
         """Whether one who was set aside may free a member of a root. Nobody does who has ended or is stuck for certain,
         and no member does so as the first."""
         number = self.index.get(name)
-        return number is None or not (number in members or number in self.certain or self.signs[name] is Sign.ENDED)
+        return number is None or not (number in members or number in self.certain or self.sign_of(name) is Sign.ENDED)
+
+    def sign_of(self, name: str) -> Optional[Sign]:
+        """Returns the sign of one, if it is in the state."""
+        return self.subjects[self.index[name]].sign if name in self.index else None
 
 
-def numbers_by_sign(subjects: Iterable[Subject]) -> DefaultDict[Sign, Set[int]]:
-    """Returns the numbers of those who have each sign."""
-    numbers: DefaultDict[Sign, Set[int]] = defaultdict(set)
+def by_sign(subjects: Iterable[Subject]) -> Tuple[Dict[Sign, Set[int]], Dict[Sign, Set[str]]]:
+    """Returns the numbers of those who have each sign, and their names."""
+    numbers: Dict[Sign, Set[int]] = {sign: set() for sign in Sign}
+    names: Dict[Sign, Set[str]] = {sign: set() for sign in Sign}
     for number, subject in enumerate(subjects):
         numbers[subject.sign].add(number)
-    return numbers
+        names[subject.sign].add(subject.name)
+    return numbers, names
 
 
 def wake(subject: Subject) -> Subject:
@@ -296,8 +303,9 @@ class Graph:
     def __init__(self, decision: Decision) -> None:
         self.decision, self.subjects, self.waits = decision, decision.subjects, decision.waits
         self.nobody = len(self.subjects)
-        self.signs: List[Optional[Sign]] = [Sign.RESTS if subject.name in decision.behind_idle else subject.sign
-                                            for subject in self.subjects] + [None]
+        self.signs: List[Optional[Sign]] = [*(subject.sign for subject in self.subjects), None]
+        for name in decision.behind_idle:
+            self.signs[decision.index[name]] = Sign.RESTS
         self.wait = {owner: number for number, owners in enumerate(self.waits) for owner in owners}
         self.parts: List[Tuple[int, Part]] = []  # each with the number of its wait
         self.own: List[range] = []
@@ -324,6 +332,8 @@ class Graph:
         """Returns the numbers of a few, or that of a list of many."""
         if isinstance(who, Anybody):
             return [self.nobody]
+        if len(who) == 1:
+            return [self.decision.index.get(who[0], self.nobody)]
         if len(who) <= FEW:
             return [self.decision.index.get(name, self.nobody) for name in who]
         if (id(who), way) not in self.known:
@@ -332,10 +342,6 @@ class Graph:
             for name in who:
                 self.lists[self.decision.index.get(name, self.nobody)].append((way, number))
         return [self.known[id(who), way][0]]
-
-    def parts_of(self, number: int) -> range:
-        """Returns the places of the parts of the wait of one, if it has one."""
-        return self.own[self.wait[number]] if number in self.wait else range(0)
 
     def parts_left(self, number: int, over: AbstractSet[int]) -> List[Part]:
         """Returns the parts of a wait that aren't over."""
@@ -349,7 +355,9 @@ class Graph:
         """Returns the greatest set of candidates, and of those that are sure, in which each candidate has a part that
         isn't over with all of its wakers who count in the set. Who has ended frees nobody, and counts as one of the
         set. Adds the other parts to those that are over."""
-        inside = {number for number in candidates if not over.issuperset(self.parts_of(number))}.union(sure)
+        waiting = candidates & self.wait.keys()
+        left = [number for number in waiting if not over.issuperset(self.own[self.wait[number]])] if over else waiting
+        inside = {*left, *sure}
         outside = [number for number, subject in enumerate(self.subjects)
                    if number not in inside and subject.sign is not Sign.ENDED]
         return inside.difference(self.reach([self.nobody, *outside], inside - sure, counts, over))
@@ -374,9 +382,9 @@ class Graph:
             ways = ways_of[self.signs[node]] if node <= self.nobody else counts.keys()
             new = [number for way, number in self.lists[node] if way in ways and number not in causes] \
                 if node in self.lists else []
-            if node in self.ends:
-                new += [owner for owner in self.end_parts(node, ways, over, left) if owner in through
-                        and owner not in causes]
+            owners = self.end_parts(node, ways, over, left) if node in self.ends else ()
+            if owners:
+                new += [owner for owner in owners if owner in through and owner not in causes]
             if new:
                 cause = self.subjects[node].name if node < self.nobody else causes[node]
                 causes.update(dict.fromkeys(new, cause))
@@ -387,7 +395,7 @@ class Graph:
         """Ends the parts in which a node counts, and returns those of whose waits nothing is left."""
         owners: List[int] = []
         for way, place in self.ends[node]:
-            if way in ways and place not in over:
+            if place not in over and way in ways:
                 over.add(place)
                 wait = self.parts[place][0]
                 left[wait] -= 1

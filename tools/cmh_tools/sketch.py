@@ -263,11 +263,10 @@ class Sketch:
 
     def check(self) -> None:
         """Raises Refusal if a name stands twice or names nobody, or a reason is missing or is none."""
-        names: Set[str] = set()
-        for process in self.processes:
-            if process.name in names:
-                raise Refusal(f"two processes are called {quote(process.name)}")
-            names.add(process.name)
+        names = {process.name for process in self.processes}
+        if len(names) < len(self.processes):
+            (twice, _), = Counter(process.name for process in self.processes).most_common(1)
+            raise Refusal(f"two processes are called {quote(twice)}")
         is_whole = names.issuperset(itertools.chain.from_iterable(lists_of_wakers(self.processes)))
         sound: Set[str] = set()
         for process in self.processes:
@@ -287,33 +286,33 @@ class Sketch:
 
 def lists_of_wakers(processes: Iterable[Process]) -> Iterable[Sequence[str]]:
     """Returns each list of wakers once."""
-    waits = {id(process.parts): process.parts for process in processes}
-    return {id(group.who): group.who for parts in waits.values() for part in parts for group in part
-            if not isinstance(group.who, Anybody)}.values()
+    waits = [process.parts for process in processes]
+    return {id(group.who): group.who for parts in dict(zip(map(id, waits), waits)).values() for part in parts
+            for group in part if not isinstance(group.who, Anybody)}.values()
 
 
 def shared_waits(waits: Sequence[Sequence[Part]]) -> Dict[int, Sequence[Part]]:
     """Returns, by their ids, the waits for all that several have, if all together are long."""
-    if sum(map(len, waits)) <= MANY:
+    several = [parts for parts in waits if len(parts) > 1]
+    if not several or sum(map(len, waits)) <= MANY:
         return {}
-    counts = Counter(map(id, waits))
-    return {id(parts): parts for parts in waits if counts[id(parts)] > 1 and len(parts) > 1}
+    counts = Counter(map(id, several))
+    return {id(parts): parts for parts in several if counts[id(parts)] > 1}
 
 
 def shared_lists(processes: Sequence[Process]) -> Dict[int, Sequence[str]]:
     """Returns, by their ids, the lists of wakers that several waits share, if all lists together are long."""
-    users = Counter(id(process.parts) for process in processes)
-    waits = {id(process.parts): process.parts for process in processes}
+    all_waits = [process.parts for process in processes]
+    users, waits = Counter(map(id, all_waits)), dict(zip(map(id, all_waits), all_waits))
     lists = [(users[key], group.who) for key, parts in waits.items() for part in parts for group in part
              if not isinstance(group.who, Anybody)]
-    if sum(number * len(names) for number, names in lists) <= MANY:
+    several = [(number, names) for number, names in lists if len(names) > 1]
+    if not several or sum(number * len(names) for number, names in lists) <= MANY:
         return {}
-    several = {id(names): names for _, names in lists if len(names) > 1}
-    counts = Counter(dict.fromkeys(several, 0))
-    for number, names in lists:
-        if len(names) > 1:
-            counts[id(names)] += number
-    return {key: names for key, names in several.items() if counts[key] > 1}
+    counts: Counter[int] = Counter()
+    for number, names in several:
+        counts[id(names)] += number
+    return {id(names): names for _, names in several if counts[id(names)] > 1}
 
 
 def quote(text: str) -> str:

@@ -14,7 +14,7 @@ from __future__ import annotations
 from collections import Counter, deque
 from copy import copy
 from itertools import chain
-from typing import Callable, Container, Dict, Iterable, List, Optional, Sequence, Set, Tuple
+from typing import AbstractSet, Callable, Container, Dict, FrozenSet, Iterable, List, Optional, Sequence, Set, Tuple
 
 from .files import Refusal
 from .model import COMES, Part, Sign, Strength, Wakers, once
@@ -26,6 +26,8 @@ from .sketch import ALL, ANY, DONE, ENDED, GOING, RUNS, UNKNOWN, Process, Sketch
 LONG = 65_536  # names in all lists; with more, equal lists are one
 MOST = 5_000_000  # names in all lists; more would take more memory than a machine may have
 NAMED, ABLE = Strength.NAMED, Strength.ABLE
+CALM = (*GOING, Sign.RESTS)  # signs of those that nobody has to free
+NOBODY: FrozenSet[int] = frozenset()  # senders of one to whom no message is in transit
 Key = Tuple[int, int]  # of a list: its length, and the sum of its hashes
 
 
@@ -88,6 +90,14 @@ def use_one_list(users: List[Process], as_it_is: bool, known: Dict[Key, Tuple[Se
     return True
 
 
+def are_named(part: Part) -> bool:
+    """Whether the system names all wakers of a part."""
+    for wakers in part:  # (a loop takes half as long as `all`)
+        if wakers.strength is not Strength.NAMED:
+            return False
+    return True
+
+
 class Waits:
     """The processes by their indices, and behind these the hubs. `left[p]` are those that p still waits for, by one
     list where any of them is enough, `senders[p]` those whose message is in transit to it, and `waiters[p]` those that
@@ -100,16 +110,25 @@ class Waits:
             raise Refusal(f"too many dependents: the lists have {self.total:,} names in all, and {MOST:,} is the most")
         self.index = {process.name: index for index, process in enumerate(self.processes)}
         self.number = len(self.processes)
-        self.senders: List[Set[int]] = [set() for _ in self.processes]
-        for sender, receiver in sketch.in_transit:
-            self.senders[self.index[receiver]].add(self.index[sender])
+        self.senders: List[AbstractSet[int]] = self.senders_of(sketch.in_transit)
         self.done = {process.name for process in self.processes
                      if process.sign is Sign.ENDED and process.reason == DONE}
         self.not_done = once(lambda parts: [part for part in parts if not self.is_done(part)])
-        self.subjects = [self.subject(index) for index in range(self.number)]
+        if self.done or sketch.in_transit:
+            self.subjects = [self.subject(index) for index in range(self.number)]
+            self.kinds = [self.kind_of(index) for index in range(self.number)]
+        else:  # (nothing of a wait is over)
+            self.subjects = [Subject(process.name, process.sign, process.parts) for process in self.processes]
+            self.kinds = [process.kind for process in self.processes]
         self.decision = Decision(self.subjects)
-        self.kinds = [self.kind_of(index) for index in range(self.number)]
         self.number_nodes()
+
+    def senders_of(self, pairs: Iterable[Tuple[str, str]]) -> List[AbstractSet[int]]:
+        """Returns of each one those whose message is in transit to it."""
+        senders: Dict[str, Set[int]] = {}
+        for sender, receiver in pairs:
+            senders.setdefault(receiver, set()).add(self.index[sender])
+        return [senders.get(process.name, NOBODY) for process in self.processes]
 
     def without_doubts(self, sketch: Sketch, changed: Iterable[int]) -> Waits:
         """Returns the waits of the same sketch where some have only those wakers left by whom they are likely to be
@@ -131,19 +150,22 @@ class Waits:
         """Sets whom each one still waits for, with the hubs of lists, and who waits for each."""
         self.nearness = Nearness(self)
         self.has_ended = ENDED in self.kinds
-        self.left: List[List[int]] = [[] for _ in self.processes]
+        self.left: List[List[int]] = [[]] * self.number
         self.hubs: Dict[int, int] = {}
         self.shared = shared_lists(self.processes)
         self.alike = shared_waits([subject.parts for subject in self.subjects])
         for index, subject in enumerate(self.subjects):
             self.left[index] = self.nodes_of(self.kinds[index], subject.parts)
-        self.senders = [senders & set(self.all_left(index)) if senders and self.kinds[index] == ANY else set()
-                        for index, senders in enumerate(self.senders[:self.number])]
-        self.senders += [set() for _ in self.left[self.number:]]
+        self.senders = [senders and self.senders_in_list(index) for index, senders in
+                        enumerate(self.senders[:self.number])] + [NOBODY] * (len(self.left) - self.number)
         self.waiters: List[List[int]] = [[] for _ in self.left]
         for index, others in enumerate(self.left):
             for other in others:
                 self.waiters[other].append(index)
+
+    def senders_in_list(self, index: int) -> AbstractSet[int]:
+        """Returns those whose message ends the wait of one that waits for any."""
+        return self.senders[index] & set(self.all_left(index)) if self.kinds[index] == ANY else NOBODY
 
     # What is left of each wait
 
@@ -188,6 +210,9 @@ class Waits:
         return [self.node_of_part(part) for part in parts if not is_open(part)]
 
     def nodes_of_part(self, part: Part) -> List[int]:
+        names = part[0].names() if len(part) == 1 else ()
+        if len(names) == 1:
+            return [self.index[names[0]]]
         return list(dict.fromkeys(chain.from_iterable(map(self.nodes_of_wakers, part))))
 
     def nodes_of_wakers(self, group: Wakers) -> List[int]:
@@ -222,6 +247,8 @@ class Waits:
 
     def without_hubs(self, nodes: Iterable[int]) -> List[int]:
         """Returns some nodes, with those of a hub in its place."""
+        if len(self.left) == self.number:
+            return list(dict.fromkeys(nodes))
         others: Dict[int, None] = {}
         for node in nodes:
             others.update(dict.fromkeys(self.all_left(node) if node >= self.number else [node]))
@@ -234,7 +261,7 @@ class Waits:
         if index >= self.number or self.kinds[index] != ANY:
             return self.left[index]
         part = self.subjects[index].parts[0]
-        if all(wakers.strength is Strength.NAMED for wakers in part):
+        if are_named(part):
             return self.left[index]
         nodes, rows = self.left[index], [*zip(part, self.decision.left_of(part))]
         if any(len(names) < len(wakers.names()) for wakers, names in rows):
@@ -264,7 +291,7 @@ class Waits:
     def high(self, low: Answer) -> Answer:
         """Returns the answer in which those are in the set too of whom it isn't known, by the low one."""
         freed = self.decision.freed
-        calm = {index for index in range(self.number) if self.subjects[index].sign in (*GOING, Sign.RESTS)}
+        calm = {index for index, subject in enumerate(self.subjects) if subject.sign in CALM}
         inside = [index not in calm and index not in freed or low.inside[index] for index in range(self.number)]
         for node in range(self.number, len(self.left)):
             marks = [inside[other] for other in self.left[node]]
@@ -314,7 +341,8 @@ class Answer:
 
     def members(self) -> List[int]:
         """Returns the stuck ones in their order."""
-        return [index for index in range(self.waits.number) if self.is_stuck(index)]
+        kinds = self.waits.kinds
+        return [index for index, is_in in enumerate(self.inside[:self.waits.number]) if is_in and kinds[index] != ENDED]
 
     def dependents(self, index: int) -> Optional[List[int]]:
         """Returns whom the dump names for p, or None where it is active: of ALL one that is stuck, if there is one. Who
