@@ -19,13 +19,17 @@ HEAD = {"version": int, "pid": int, "by": str, "name": str, "seconds": (int, flo
         "threads": {str: {"state": str, "stops": int, "spent": int, "call?": str, "args?": [HEX] * 6}}}
 SPY_THREAD = re.compile(r'^Thread (\S+) \((active\+gil|active|idle)\)(?:: "(.*)")?$')
 SPY_FRAME = re.compile(r"^    (\S.*) \(([^()]*?)(?::(\d+))?\)$")
+# Lines of py-spy that are neither: heads, and below a frame its arguments and variables.
+SPY_OTHER = re.compile(r"$| {8}|(?:Parent )?Process \d+: |Python v")
 SPY_JSON = {"frames": [{"name": str, "filename": str, "line": int, ...: object}], "os_thread_id?": (int, type(None)),
             "thread_name?": (str, type(None)), "thread_id": int, ...: object}
 GDB_THREAD = re.compile(r'^Thread \d+ \(Thread 0x[0-9a-f]+ \(LWP (\d+)\)(?: ".*")?\):$')
 GDB_FRAME = re.compile(r'^  File "(.*)", line (\d+), in (.*)$')
 GDB_LOST = re.compile(r"^  \(unable to read python frame information\)|^  File .* in .*frame information optimized out")
 GDB_CALL = re.compile(r"^  <built-in method (\w+) of (?:module|(.*?)) object at remote (0x[0-9a-f]+)>$")
-MAIN = "MainThread"
+GDB_BEGIN = "Traceback (most recent call first):"
+MAIN, NOBODY = "MainThread", "?"
+ODD = "a line among its frames isn't understood, where another thread may begin"
 LIBRARY = re.compile(r"threading\.(?:Thread\.)?(_bootstrap|_bootstrap_inner|run)$")  # frames that begin a thread
 # What py-spy shortens: files of the library, by their path below it.
 SHORT = re.compile(r"(threading|queue|selectors|socket|socketserver|ssl|subprocess|runpy|sched|contextlib|functools"
@@ -75,7 +79,7 @@ def look_of_reader(path: str, at: int, head: Dict[str, Any], body: List[str]) ->
                 shown_by=head["by"])
     rows, lost = json_rows(body) if body[:1] and body[0].startswith("[") else ([], 0)
     rows = rows or list(spy_rows(body) if head["by"] == "py-spy" else gdb_rows(body))
-    if not any(frames for _, _, frames, _ in rows):
+    if not any(frames for _, _, frames, *_ in rows):
         said = next((line.strip() for line in reversed(body) if line.strip()), "nothing")
         raise Refusal(f"{shown(path)}:{at}: {shown(head['by'])} shows no frame of Python of process {head['pid']}: "
                       f"{shown(said)[:200]}")
@@ -87,18 +91,20 @@ def look_of_reader(path: str, at: int, head: Dict[str, Any], body: List[str]) ->
     return look
 
 
-Thread = Tuple[Any, str, List[Frame], Optional[Dict[str, Any]]]  # its number, its name, its frames, its call
+# Its number, its name, its frames, its call, and lines that aren't understood.
+Thread = Tuple[Any, str, List[Frame], Optional[Dict[str, Any]], List[str]]
 
 
 def add_threads(look: Look, rows: Any, counts: Dict[str, Dict[str, Any]]) -> None:
     """Adds the threads of a process. One whose frames couldn't be read has none."""
-    for tid, name, frames, call in rows:
+    for tid, name, frames, call, odd in rows:
         count = counts.get(str(tid), {})
         more: Dict[str, Any] = {"native": tid if isinstance(tid, int) else None, "main": tid == look.pid, **count}
         more.update({"new_stops": None} if count else {})
         if frames and call is not None:
             frames[0].call = call
-        row = look.threads[tid] = Row(tid, name or f"thread-{tid}", frames, more, fault_of(name, frames))
+        row = look.threads[tid] = Row(tid, name or f"thread-{tid}", frames, more,
+                                      ODD if odd else fault_of(name, frames))
         if row.fault:
             look.is_whole = False
             look.warnings.append(f"{shown(look.where)}: thread {shown(row.name)} of process {look.pid}: {row.fault}")
@@ -139,38 +145,51 @@ def json_rows(body: List[str]) -> Tuple[List[Thread], int]:
         return [], 0
     known = [row for row in rows if fits(row, SPY_JSON)]
     return [(row.get("os_thread_id") or hex(row["thread_id"]), row.get("thread_name") or "",
-             [frame_of(it["name"], it["filename"], str(it["line"])) for it in row["frames"]], None)
+             [frame_of(it["name"], it["filename"], str(it["line"])) for it in row["frames"]], None, [])
             for row in known], len(rows) - len(known)
 
 
 def spy_rows(lines: List[str]) -> Iterator[Thread]:
-    row: Optional[Thread] = None
-    for line in lines:
-        head, step = SPY_THREAD.match(line.rstrip()), SPY_FRAME.match(line.rstrip())
+    """What stands above the version is the command line of the process, of any number of lines."""
+    start = next((at for at, line in enumerate(lines) if line.startswith("Python v")), 0)
+    row: Thread = (NOBODY, "", [], None, [])
+    for line in map(str.rstrip, lines[start:]):
+        head, step = SPY_THREAD.match(line), SPY_FRAME.match(line)
         if head:
-            if row is not None:
+            if is_told(row):
                 yield row
-            row = (int(head[1]) if head[1].isdigit() else head[1], head[3] or "", [], None)
-        elif step and row is not None:
+            row = (int(head[1]) if head[1].isdigit() else head[1], head[3] or "", [], None, [])
+        elif step and row[0] != NOBODY:
             row[2].append(frame_of(step[1], step[2], step[3]))
-    if row is not None:
+        elif not SPY_OTHER.match(line):
+            row[4].append(line)
+    if is_told(row):
         yield row
+
+
+def is_told(row: Thread) -> bool:
+    """Whether it is a thread: what isn't understood above the first one may be another."""
+    return row[0] != NOBODY or bool(row[4])
 
 
 # What gdb prints
 
 
 def gdb_rows(lines: List[str]) -> Iterator[Thread]:
-    """Threads that run no Python have no frames of it, and are left out."""
+    """Threads that run no Python have no frames of it, and are left out. The frames of others begin with a line that no
+    thread has twice."""
     tid = 0
     frames: List[Frame] = []
     call: Optional[Dict[str, Any]] = None
+    begins: List[str] = []
     for line in [*lines, "Thread 0 (Thread 0x0 (LWP 0)):"]:
         head, step, built_in = GDB_THREAD.match(line), GDB_FRAME.match(line), GDB_CALL.match(line)
         if head:
             if frames:
-                yield tid, "", frames, call
-            tid, frames, call = int(head[1]), [], None
+                yield tid, "", frames, call, begins[1:]
+            tid, frames, call, begins = int(head[1]), [], None, []
+        elif line.rstrip() == GDB_BEGIN:
+            begins.append(line)
         elif GDB_LOST.match(line):
             frames.append(frame_of("?", "?", "0"))
         elif step:
