@@ -111,15 +111,26 @@ class Decision:
         return Graph(self)
 
     @cached_property
+    def uncertain(self) -> Dict[int, Optional[str]]:
+        """Who isn't stuck for certain, each that waits with the waker that may free it."""
+        return self.graph.outside(self.blocked | self.resting, frozenset(), EVERYBODY, set())
+
+    @cached_property
     def certain(self) -> Set[int]:
-        return self.graph.greatest(self.blocked | self.resting, frozenset(), EVERYBODY, set())
+        return (self.blocked | self.resting).difference(self.uncertain)
+
+    def certain_without(self, running: AbstractSet[int]) -> Set[int]:
+        """Returns who would be stuck for certain if some ran."""
+        waiting = (self.blocked | self.resting) - running
+        return waiting.difference(self.graph.outside(waiting, frozenset(), EVERYBODY, set()))
 
     @cached_property
     def likely(self) -> Set[int]:
         waiting = self.blocked - self.certain
         self.over = {place for place, (wait, part) in enumerate(self.graph.parts) if self.waits[wait][0] in waiting
                      and not self.is_left(self.subjects[self.waits[wait][0]].name, part)}
-        return self.graph.greatest(self.blocked, self.certain, LEFT, self.over)
+        return (self.blocked | self.certain).difference(
+            self.graph.outside(self.blocked, self.certain, LEFT, self.over))
 
     @cached_property
     def freed(self) -> Dict[int, Optional[str]]:
@@ -350,17 +361,18 @@ class Graph:
             self.whole[wait] = [self.parts[place][1] for place in self.own[wait] if place not in over]
         return self.whole[wait]
 
-    def greatest(self, candidates: AbstractSet[int], sure: AbstractSet[int], counts: Counts,
-                 over: Set[int]) -> Set[int]:
-        """Returns the greatest set of candidates, and of those that are sure, in which each candidate has a part that
-        isn't over with all of its wakers who count in the set. Who has ended frees nobody, and counts as one of the
-        set. Adds the other parts to those that are over."""
+    def outside(self, candidates: AbstractSet[int], sure: AbstractSet[int], counts: Counts,
+                over: Set[int]) -> Dict[int, Optional[str]]:
+        """Returns who is outside of the greatest set of candidates, and of those that are sure, in which each candidate
+        has a part that isn't over with all of its wakers who count in the set: each candidate with the waker by which
+        it is. Who has ended frees nobody, and counts as one of the set. Adds the other parts to those that are over.
+        """
         waiting = candidates & self.wait.keys()
         left = [number for number in waiting if not over.issuperset(self.own[self.wait[number]])] if over else waiting
         inside = {*left, *sure}
         outside = [number for number, subject in enumerate(self.subjects)
                    if number not in inside and subject.sign is not Sign.ENDED]
-        return inside.difference(self.reach([self.nobody, *outside], inside - sure, counts, over))
+        return self.reach([self.nobody, *outside], inside - sure, counts, over)
 
     def freed(self, moving: Iterable[int], waiting: AbstractSet[int], counts: Counts) -> Dict[int, Optional[str]]:
         """Returns those that move, and those that wait and are freed by them, each with the waker that did so."""

@@ -11,16 +11,16 @@ sends no more, so it counts here as one of the set, but is none of the stuck.
 """
 from __future__ import annotations
 
-from collections import Counter, deque
+from collections import Counter
 from copy import copy
 from itertools import chain
-from typing import AbstractSet, Callable, Container, Dict, FrozenSet, Iterable, List, Optional, Sequence, Set, Tuple
+from typing import AbstractSet, Callable, Dict, FrozenSet, Iterable, List, Optional, Sequence, Set, Tuple
 
 from .files import Refusal
 from .model import COMES, Part, Sign, Strength, Wakers, once
 from .nearness import NEAR, Nearness
 from .rule import Decision, Subject
-from .sketch import ALL, ANY, DONE, ENDED, GOING, RUNS, UNKNOWN, Process, Sketch, is_open, kind_of, \
+from .sketch import ALL, ANY, DONE, ENDED, GOING, RUNS, Process, Sketch, is_open, kind_of, \
     lists_of_wakers, shared_lists, shared_waits
 
 LONG = 65_536  # names in all lists; with more, equal lists are one
@@ -286,46 +286,37 @@ class Waits:
 
     def low(self) -> Answer:
         """Returns the answer in which those are stuck who are it for certain."""
-        return Answer(self, *self.spread(()))
+        uncertain = self.decision.uncertain
+        inside = self.with_hubs([index not in uncertain for index in range(self.number)])
+        causes = [self.index[name] if name is not None else None for name in map(uncertain.get, range(self.number))]
+        for hub in range(self.number, len(self.left)):
+            first = next((node for node in self.left[hub] if not inside[node]), None)
+            causes.append(first if first is None or first < self.number else causes[first])
+        return Answer(self, inside, causes)
+
+    def with_hubs(self, inside: List[bool]) -> List[bool]:
+        """Returns who is in a set, with the hubs that are in it too."""
+        for node in range(self.number, len(self.left)):
+            marks = [inside[other] for other in self.left[node]]
+            inside.append(any(marks) if self.kinds[node] == ALL else all(marks))
+        return inside
 
     def high(self, low: Answer) -> Answer:
         """Returns the answer in which those are in the set too of whom it isn't known, by the low one."""
         freed = self.decision.freed
         calm = {index for index, subject in enumerate(self.subjects) if subject.sign in CALM}
-        inside = [index not in calm and index not in freed or low.inside[index] for index in range(self.number)]
-        for node in range(self.number, len(self.left)):
-            marks = [inside[other] for other in self.left[node]]
-            inside.append(any(marks) if self.kinds[node] == ALL else all(marks))
+        inside = self.with_hubs([index not in calm and index not in freed or low.inside[index]
+                                 for index in range(self.number)])
         causes: List[Optional[int]] = [None] * len(self.left)
         for index, name in freed.items():
             causes[index] = None if name is None else self.index[name]
         return Answer(self, inside, causes)
 
-    def stuck_without(self, running: Container[int]) -> List[int]:
+    def stuck_without(self, running: Iterable[int]) -> List[int]:
         """Returns who would still be stuck if some ran. Where nobody waits for all, that is nobody behind a root."""
         if ALL not in self.kinds:
             return []
-        return Answer(self, *self.spread(running)).members()
-
-    def spread(self, running: Container[int]) -> Tuple[List[bool], List[Optional[int]]]:
-        """Returns who is in the greatest set if some run, and for each other one one that lets it go on."""
-        inside = [True] * len(self.left)
-        causes: List[Optional[int]] = [None] * len(self.left)
-        missing = [len(others) if self.kinds[index] == ALL else 1 for index, others in enumerate(self.left)]
-        out = deque(index for index in range(len(self.left)) if self.is_out(index, running))
-        for index in out:
-            inside[index] = False
-        while out:
-            other = out.popleft()
-            for index in self.waiters[other]:
-                missing[index] -= 1
-                if inside[index] and missing[index] <= 0:
-                    inside[index], causes[index] = False, other if other < self.number else causes[other]
-                    out.append(index)
-        return inside, causes
-
-    def is_out(self, index: int, running: Container[int]) -> bool:
-        return index in running or self.is_awake(index) or self.kinds[index] in (RUNS, UNKNOWN)
+        return sorted(self.decision.certain_without({*running}))
 
 
 class Answer:
