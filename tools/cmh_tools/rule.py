@@ -112,7 +112,7 @@ class Decision:
 
     @cached_property
     def uncertain(self) -> Dict[int, Optional[str]]:
-        """Who isn't stuck for certain, each that waits with the waker that may free it."""
+        """The nodes outside of those that are stuck for certain, each that waits with the waker that may free it."""
         return self.graph.outside(self.blocked | self.resting, frozenset(), EVERYBODY, set())
 
     @cached_property
@@ -363,10 +363,10 @@ class Graph:
 
     def outside(self, candidates: AbstractSet[int], sure: AbstractSet[int], counts: Counts,
                 over: Set[int]) -> Dict[int, Optional[str]]:
-        """Returns who is outside of the greatest set of candidates, and of those that are sure, in which each candidate
-        has a part that isn't over with all of its wakers who count in the set: each candidate with the waker by which
-        it is. Who has ended frees nobody, and counts as one of the set. Adds the other parts to those that are over.
-        """
+        """Returns the nodes outside of the greatest set of candidates, and of those that are sure, in which each
+        candidate has a part that isn't over with all of its wakers who count in the set: each candidate with the waker
+        by which it is outside. Who has ended frees nobody, and counts as one of the set. Adds the other parts to those
+        that are over."""
         waiting = candidates & self.wait.keys()
         left = [number for number in waiting if not over.issuperset(self.own[self.wait[number]])] if over else waiting
         inside = {*left, *sure}

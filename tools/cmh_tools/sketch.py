@@ -86,7 +86,7 @@ class Process:
     @property
     def kind(self) -> str:
         """Which of KINDS it is where all wakers count: UNKNOWN if somebody may end its wait who isn't seen."""
-        return kind_of(self.parts) if self.sign in WAITING else KIND_OF.get(self.sign, RUNS)
+        return kind_of_wait(self.parts) if self.sign in WAITING else KIND_OF.get(self.sign, RUNS)
 
     @property
     def place(self) -> Tuple[List[str], str, List[str]]:
@@ -149,8 +149,8 @@ def whom_of(parts: Sequence[Part]) -> Sequence[str]:
     return lists[0] if len(lists) == 1 else list(dict.fromkeys(name for names in lists for name in names))
 
 
-def kind_of(parts: Sequence[Part]) -> str:
-    """Returns of which of KINDS a wait is: UNKNOWN if somebody may end it who isn't seen."""
+def kind_of_wait(parts: Sequence[Part]) -> str:
+    """Returns which of KINDS a wait is: UNKNOWN if somebody may end it who isn't seen."""
     if len(parts) != 1:
         return UNKNOWN if are_open(parts) else ALL
     kind = ANY

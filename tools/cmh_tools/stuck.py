@@ -20,8 +20,8 @@ from .files import Refusal
 from .model import COMES, Part, Sign, Strength, Wakers, once
 from .nearness import NEAR, Nearness
 from .rule import Decision, Subject
-from .sketch import ALL, ANY, DONE, ENDED, GOING, RUNS, Process, Sketch, is_open, kind_of, \
-    lists_of_wakers, shared_lists, shared_waits
+from .sketch import ALL, ANY, DONE, ENDED, GOING, RUNS, Process, Sketch, is_open, kind_of_wait, lists_of_wakers, \
+    shared_lists, shared_waits
 
 LONG = 65_536  # names in all lists; with more, equal lists are one
 MOST = 5_000_000  # names in all lists; more would take more memory than a machine may have
@@ -193,7 +193,7 @@ class Waits:
         subject, kind = self.subjects[index], self.processes[index].kind
         if subject.sign is Sign.GOES_ON:
             return kind if kind in (ANY, ALL) else RUNS
-        return kind_of(subject.parts) if len(subject.parts) < len(self.processes[index].parts) else kind
+        return kind_of_wait(subject.parts) if len(subject.parts) < len(self.processes[index].parts) else kind
 
     def nodes_of(self, kind: str, parts: Sequence[Part]) -> List[int]:
         """Returns the nodes of a wait: those of the one part of one for any, or one for each part of one for all."""
