@@ -1,4 +1,5 @@
 pub mod Commands
 pub mod Examples
 pub mod Lists
+pub mod PlainTexts
 pub mod Requests

@@ -1,2 +1,3 @@
 pub mod List
 pub mod CommandLine
+pub mod Plain

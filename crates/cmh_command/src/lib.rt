@@ -3,6 +3,7 @@
 
 mod command;
 mod list;
+mod plain;
 mod request;
 #[cfg(test)]
 mod tests;

@@ -89,7 +89,7 @@ fn texts_of_clap(rt: HostRuntime) -> Result<(), Fail> {
 fn is_refused(alloc: Global, args: &[&str], named: &str) -> bool {
     match read_args(alloc, args) {
         Ok(Request::Refused(text)) => {
-            text.contains(named) && !text.bytes().any(|b| b < 32 && b != 10)
+            text.contains(named) && !text.chars().any(|c| c.is_control() && c != '\n')
         }
         _ => false,
     }
@@ -112,4 +112,20 @@ fn arguments_that_are_refused(rt: HostRuntime) {
     for (args, named) in rows {
         assert!(rt; is_refused(rt.alloc(), args, named), "{args:?}");
     }
+}
+
+/// Each control character of a word is written out, a line feed too.
+#[test]
+fn control_characters_of_words(rt: HostRuntime) -> Result<(), Fail> {
+    for code in 0..160u32 {
+        if (32..127).contains(&code) {
+            continue;
+        }
+        let c = char::from_u32(code).unwrap_or(' ');
+        let word = format!(in rt.alloc(); "a{c}b")?;
+        let named = format!(in rt.alloc(); "a\\u{{{code:x}}}b")?;
+        let words = ["cmh", word.as_str()];
+        assert!(rt; is_refused(rt.alloc(), &words, &named), "{named}");
+    }
+    Ok(())
 }

@@ -3,8 +3,8 @@ use Rattle.clap.specs.Words.{found_of, rows_of}
 use Rattle.cmh_command.proofs.Requests.{some_workers, text_is, value_is}
 use Rattle.cmh_command.proofs.request.analysis_in.Goals as goal
 
-pub returns : goal.returns
-returns c =
+pub returns-clause-analysis : goal.returns-clause-analysis
+returns-clause-analysis c =
     let found = found_of c.args.options.now in (
       some_workers (rows_of found) c.read_workers.result c.in-Some.workers c.read_workers.ensures (search rules),
       value_is found (codes "cuts") c.get_str.result c.get_str.ensures,

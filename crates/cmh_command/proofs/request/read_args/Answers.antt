@@ -13,14 +13,14 @@ request_in-requires g c =
           (subcommand_required c.in_ok-command.field-0 m c.in-Ok.ensures.parsed app.local app.required);
     }
 
-pub returns-in-Ok : goal.returns-in-Ok
-returns-in-Ok g c = IfOk-weaker c.request_in.result _ _
+pub returns-in-Ok-clause-request : goal.returns-in-Ok-clause-request
+returns-in-Ok-clause-request g c = IfOk-weaker c.request_in.result _ _
     (λ r h. commanded c.in_ok-command.field-0 (map g.T.AsStr.text c.args.args.now) c.in-Ok.matches r
     c.in_ok-command.ensures.app c.in-Ok.ensures.matches c.in-Ok.ensures.kinds h)
-    c.request_in.ensures
+    c.request_in.ensures.command
 
-pub returns-in-Err : goal.returns-in-Err
-returns-in-Err g c = IfOk-weaker c.request_of.result _ _
+pub returns-in-Err-clause-request : goal.returns-in-Err-clause-request
+returns-in-Err-clause-request g c = IfOk-weaker c.request_of.result _ _
     (λ r h. answer_of_args c.in_ok-command.field-0 (map g.T.AsStr.text c.args.args.now) c.in-Err.error r
     c.in_ok-command.ensures.app c.in-Err.ensures.kinds h.0 h.1)
-    c.request_of.ensures
+    c.request_of.ensures.kind
