@@ -1,7 +1,10 @@
-//! Readers and writers that fail.
+//! Readers and writers that fail, a source that counts, and a gate that does.
 
+use cmh_stream::{Source, Stopped};
+use cmh_work::Gate;
 use std::io;
 use std::io::{ErrorKind, Read, Write};
+use std::sync::atomic::{AtomicU64, Ordering};
 
 /// Gives its bytes, and then fails.
 #[derive(Drop)]
@@ -39,5 +42,47 @@ impl Write for Page {
             return Err(io::Error::from(ErrorKind::Other));
         }
         Ok(())
+    }
+}
+
+/// A source that counts how often it was asked after it had ended or failed.
+#[derive(Drop)]
+pub struct Asked<S> {
+    pub source: S,
+    pub is_over: bool,
+    pub again: u32,
+}
+
+impl<S: Source> Source for Asked<S> {
+    ghost state = { λ s. S.state s.source };
+
+    ghost remaining = { λ s. S.remaining s.source };
+
+    fn fill(&mut self, buf: &mut [u8]) -> Result<usize, Stopped> {
+        if self.is_over {
+            self.again = self.again.saturating_add(1);
+        }
+        let answer = self.source.fill(buf);
+        self.is_over = match answer {
+            Ok(count) => count == 0 && !buf.is_empty(),
+            Err(_) => true,
+        };
+        answer
+    }
+
+    fn failed(&self) -> bool {
+        self.source.failed()
+    }
+}
+
+/// A gate that counts how often it was passed.
+#[derive(Drop)]
+pub struct Passed {
+    pub times: AtomicU64,
+}
+
+impl Gate for Passed {
+    fn pass(&self, _initiator: u32) {
+        self.times.fetch_add(1, Ordering::SeqCst);
     }
 }
