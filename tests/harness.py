@@ -5,6 +5,7 @@ A script of tests is a file whose classes derive from Case, and that ends in `ma
 """
 from __future__ import annotations
 
+import contextlib
 import functools
 import glob
 import os
@@ -17,7 +18,7 @@ import tempfile
 import time
 import unittest
 from concurrent.futures import ThreadPoolExecutor
-from typing import Any, Iterable, NamedTuple, NoReturn, Sequence
+from typing import Any, Iterable, Iterator, NamedTuple, NoReturn, Sequence
 
 TOP = os.path.dirname(os.path.dirname(os.path.realpath(__file__)))
 PROGRAM = os.path.abspath(os.environ.get("CMH") or f"{TOP}/bin/cmh")
@@ -28,6 +29,11 @@ PYTHONS = [f"3.{minor}" for minor in range(8, 14)]  # by which the tools run
 DEAREST = 6  # tests of a script whose processor time is said
 JAVAC = ["javac", "-J-XX:TieredStopAtLevel=1", "-J-XX:+UseSerialGC"]  # in half the processor time
 CLOSING = re.compile(r"(\d+) passed, (\d+) failed(?:, (\d+) skipped)?\n?")
+# What is said of a fault of the tools: by themselves, and by Python where they haven't caught it.
+OWN_FAULT = re.compile(rb"this is a fault of cmh")
+TRACEBACK = re.compile(rb"^Traceback \(most recent call last\):", re.M)
+TOOL = re.compile(r"\b(?:cmh-(?:dump|explain|stall)|cmh_[a-z]+|take-[a-z]+)\b")
+MEANT: list[bool] = []  # has something while a test has the tools show a fault
 
 
 # Tests
@@ -55,7 +61,27 @@ def run_bytes(words: Sequence[Any], stdin: Any = b"", **more: Any) -> RanBytes:
     pipes = {"stdout": subprocess.PIPE, "stderr": subprocess.PIPE}
     how: dict[str, Any] = {"timeout": SECONDS, "check": False, **pipes, **given, **more}
     done = subprocess.run(words, **how)
+    check_faults(words, done.stdout or b"", done.stderr or b"")
     return RanBytes(done.returncode, done.stdout or b"", done.stderr or b"")
+
+
+def check_faults(words: Sequence[Any], *said: str | bytes) -> None:
+    """Raises AssertionError where a command of the tools says that something is a fault of their own, unless that is
+    meant. A program of a test may show a traceback."""
+    patterns = [OWN_FAULT, TRACEBACK] if TOOL.search(" ".join(map(str, words))) else [OWN_FAULT]
+    for text in map(encoded, () if MEANT else said):
+        if any(pattern.search(text) for pattern in patterns):
+            raise AssertionError(f"a fault of the tools, by {words}: {text[-2000:]!r}")
+
+
+@contextlib.contextmanager
+def faults_meant() -> Iterator[None]:
+    """Lets the tools show faults of their own within a block."""
+    MEANT.append(True)
+    try:
+        yield
+    finally:
+        MEANT.pop()
 
 
 def run(words: Sequence[Any], stdin: Any = b"", **more: Any) -> Ran:
