@@ -10,7 +10,11 @@ import struct
 import sys
 from typing import Counter, Dict, List, Optional
 
-from .proc import KCMP_EPOLL, LIBC, MOST, Memory, Row, int32, kcmp, pid_of, sysvipc_rows, try_lines, whole
+from cmh_proc.door import field, kernel_row, kernel_text
+from cmh_proc.memory import Memory
+
+from .proc import KCMP_EPOLL, LIBC, MOST_TEXT, Row, int32, kcmp, pid_of, sysvipc_row, try_lines
+from .sockets import in_words, key_of_connect
 
 # The numbers of the calls that may wait, by architecture.
 X86_64 = """read 0 write 1 open 2 poll 7 pread64 17 pwrite64 18 readv 19 writev 20 select 23 pause 34 nanosleep 35
@@ -30,6 +34,10 @@ READS, WRITES = 1, 4  # POLLIN and POLLOUT
 ONESHOT = 1 << 30  # of epoll: a file that is seen once
 IPC = {"semop": "sem", "semtimedop": "sem", "msgsnd": "msg", "msgrcv": "msg"}  # of System V
 GETPID = 11
+ENTRY_SIZE = 120  # bytes that a descriptor of a set takes here
+MOST_SEMAPHORES = 1 << 16
+NOT_EMPTY = re.compile(rb"[^\0]")
+LONGEST_NAME = 110  # bytes of the address of a Unix socket
 AT_FIRST = ("read", "write", "pread64", "pwrite64", "readv", "writev", "preadv", "pwritev", "recvfrom", "recvmsg",
             "recvmmsg", "sendto", "sendmsg", "sendmmsg", "vmsplice", "accept", "accept4", "connect", "flock", "fcntl",
             "mq_timedsend", "mq_timedreceive")
@@ -48,11 +56,11 @@ def calls_of(machine: str) -> Dict[int, str]:
 def set_of(call: str, args: List[int], memory: Memory) -> Optional[List[List[int]]]:
     """Returns each descriptor of a call with the events that it waits for, or None if its set can't be read."""
     if call in ("poll", "ppoll"):
-        return polled(memory.read(args[0], 8 * args[1]), args[1])
+        return polled(args, memory)
     if call in ("select", "pselect6"):
         return selected(args, memory)
     if call in EPOLLS:
-        return epolled(memory.folder, int32(args[0]))
+        return epolled(int32(args[0]), memory)
     if call in PAIRS:
         source, target = PAIRS[call]
         return [[int32(args[source]), READS], [int32(args[target]), WRITES]]
@@ -60,36 +68,46 @@ def set_of(call: str, args: List[int], memory: Memory) -> Optional[List[List[int
     return [[int32(args[0]), way]] if call in AT_FIRST else None
 
 
-def polled(data: bytes, number: int) -> Optional[List[List[int]]]:
-    if len(data) != 8 * number:
+def polled(args: List[int], memory: Memory) -> Optional[List[List[int]]]:
+    data = memory.read(args[0], 8 * args[1])
+    if len(data) != 8 * args[1]:
         return None
+    memory.budget.spend(ENTRY_SIZE * args[1])
     return [[fd, events & 0xFFFF] for fd, events, _ in struct.iter_unpack("=ihh", data) if fd >= 0]
 
 
 def selected(args: List[int], memory: Memory) -> Optional[List[List[int]]]:
-    number = int32(args[0])
+    """Returns the set of a `select`. The kernel looks at no more descriptors than a process has room for."""
+    number = min(int32(args[0]), int(field(kernel_row(f"{memory.folder}/status"), "FDSize")))
     size = (number + 63) // 64 * 8
     events: Dict[int, int] = {}
     for way, address in zip((READS, WRITES, READS), args[1:4]):
         data = memory.read(address, size) if address else b"\0" * size
         if len(data) != size:
             return None
-        for fd in range(number):
-            if data[fd // 8] >> fd % 8 & 1:
-                events[fd] = events.get(fd, 0) | way
+        memory.budget.spend(8 * ENTRY_SIZE * (size - data.count(0)))
+        for fd in bits_of(data, number):
+            events[fd] = events.get(fd, 0) | way
     return [[fd, way] for fd, way in events.items()]
 
 
-def epolled(folder: str, fd: int) -> Optional[List[List[int]]]:
+def bits_of(data: bytes, number: int) -> List[int]:
+    """Returns which of the first bits of some bytes are set."""
+    bits = (8 * match.start() + bit for match in NOT_EMPTY.finditer(data) for bit in range(8) if match[0][0] >> bit & 1)
+    return [bit for bit in bits if bit < number]
+
+
+def epolled(fd: int, memory: Memory) -> Optional[List[List[int]]]:
     """Returns the set of an epoll, each with the number of its file, which tells if the descriptor is another by now,
     or -1 if the kernel says that it is.
     """
     try:
-        text = whole(f"{folder}/fdinfo/{fd}")
-    except OSError:
+        text = kernel_text(f"{memory.folder}/fdinfo/{fd}", MOST_TEXT)
+    except FileNotFoundError:
         return None
+    memory.budget.spend(5 * len(text))
     rows = re.findall(r"^tfd: +(\d+) events: +([0-9a-f]+) .*?(?:ino:([0-9a-f]+))?(?: sdev:.*)?$", text, re.M)
-    pid, files = pid_of(folder), []
+    pid, files = pid_of(memory.folder), []
     times: Counter[str] = Counter()
     for target, events, number in rows:  # (one stands there twice if it is of two files)
         slot = (ctypes.c_uint32 * 3)(fd, int(target), times[target])
@@ -108,7 +126,7 @@ def besides(call: str, args: List[int], memory: Memory) -> Row:
         data = memory.read(args[2], 24)
         return {"range": list(struct.unpack("=hhxxxxqq", data))} if len(data) == 24 else {}
     if call in IPC:
-        return ipc_of(IPC[call], int32(args[0]), memory.folder)
+        return ipc_of(IPC[call], int32(args[0]), memory)
     if call == "rt_sigtimedwait":
         data = memory.read(args[0], 8)
         return {"mask": f"{int.from_bytes(data, sys.byteorder):x}"} if len(data) == 8 else {}
@@ -117,21 +135,28 @@ def besides(call: str, args: List[int], memory: Memory) -> Row:
     if call in ("open", "openat", "openat2"):
         return {"path": memory.text(args[0] if call == "open" else args[1])}
     if call == "connect":
-        family = int.from_bytes(memory.read(args[1], 2), sys.byteorder)
-        is_unix = family == socket.AF_UNIX
-        path = {"path": memory.text(args[1] + 2) or "@" + memory.text(args[1] + 3)} if is_unix else {}
-        return {"family": family, **path}
+        data = memory.read(args[1], min(args[2], LONGEST_NAME))
+        family = int.from_bytes(data[:2], sys.byteorder)
+        return {"family": family, **(asked_for(memory.folder, data[2:]) if family == socket.AF_UNIX else {})}
     return {}
 
 
-def ipc_of(kind: str, number: int, folder: str) -> Row:
+def asked_for(folder: str, name: bytes) -> Row:
+    """Returns what a connection to a Unix socket asks for: the name in words, and by what those are known that have it.
+    """
+    path = name if name.startswith(b"\0") else name.partition(b"\0")[0]
+    asks = key_of_connect(folder, path)
+    return {"path": in_words(path), **({"asks": asks} if asks else {})}
+
+
+def ipc_of(kind: str, number: int, memory: Memory) -> Row:
     """Returns the key of a set of semaphores, or of a queue of messages, who has used it last, and when it was made, or
     changed since."""
-    row = next((words for words in sysvipc_rows(kind, folder) if int(words[1]) == number), None)
+    row = sysvipc_row(kind, number, memory.folder, memory.budget)
     if row is None:
         return {}
     users = [int(user) for user in row[5:7]] if kind == "msg" else [
-        LIBC.semctl(number, place, GETPID) for place in range(min(int(row[3]), MOST))]
+        LIBC.semctl(number, place, GETPID) for place in range(min(int(row[3]), MOST_SEMAPHORES))]
     return {"key": int(row[0]), "users": sorted({*users} - {0, -1}), "changed": ticks_of(int(row[-1]))}
 
 

@@ -12,11 +12,20 @@ import time
 import traceback
 from typing import Iterable, List, Sequence, Set
 
+from cmh_proc.budget import BUDGET, UNTIL, Budget
+from cmh_proc.door import link
+
 from .debugger import debugger, stacks_of
 from .frames import add_frames
 from .limits import add_ages
 from .proc import Row, try_lines
 from .reading import Reading
+
+NO_THREAD = "can't start new thread"  # as Python says it
+OUT_OF_MEMORY = "out of memory: a higher limit, of ulimit -v or of the cgroup, may be enough"
+
+
+SECONDS_OF_ONE, LEAST = 60.0, 1 << 25  # seconds of one look at all processes, and bytes that each may take
 
 
 def collect(pids: Sequence[int], seconds: float = 5.0, stacks: bool = False, looks: int = 2) -> str:
@@ -27,7 +36,9 @@ def collect(pids: Sequence[int], seconds: float = 5.0, stacks: bool = False, loo
     if stacks and not debugger():
         raise LookupError("for --stacks eu-stack or gdb is needed, and neither is there (Debian: apt-get install "
                           "elfutils)")
-    readings = [Reading()]
+    if UNTIL not in os.environ:  # (each look has all of it)
+        BUDGET.give(seconds * (looks - 1) + looks * SECONDS_OF_ONE, BUDGET.size)
+    readings, begun = [Reading(pids, part_of(looks))], time.monotonic()
     for pid in pids:
         if pid not in readings[0].rows:
             raise LookupError(f"there is no process {pid}")
@@ -36,8 +47,9 @@ def collect(pids: Sequence[int], seconds: float = 5.0, stacks: bool = False, loo
     add_frames(near)
     add_ages(near)
     for _ in range(looks - 1):
-        time.sleep(seconds)
-        readings.append(Reading())
+        time.sleep(max(0.0, begun + seconds - time.monotonic()))
+        readings.append(Reading(pids, part_of(looks)))
+        begun = time.monotonic()
     kept = kept_of(readings, pids)
     rows: List[Row] = [{"version": 1, "machine": platform.machine(), "release": platform.release(),
                         "asked": list(pids), "seconds": seconds, "outside": outside(), "space": space(),
@@ -47,6 +59,11 @@ def collect(pids: Sequence[int], seconds: float = 5.0, stacks: bool = False, loo
     rows += stacks_of(sorted(kept_of(readings, pids, True)), readings[-1]) if stacks else []
     rows.append({"end": "state"})
     return "".join(f"cmh-linux {json.dumps(row)}\n" for row in rows)
+
+
+def part_of(looks: int) -> Budget:
+    """Returns what one of some looks may take, so that it leaves something to the later ones."""
+    return BUDGET.part(max(BUDGET.size // (looks + 2), LEAST), max(SECONDS_OF_ONE, BUDGET.seconds() / looks))
 
 
 def kept_of(readings: List[Reading], pids: Iterable[int], is_near: bool = False) -> Set[int]:
@@ -68,12 +85,12 @@ def outside() -> str:
     hidden = any(words[1:3] == ["/proc", "proc"] and re.search(r"hidepid=(?!0|off)", words[3]) for words in mounts)
     if hidden and os.geteuid():
         return "hidepid"
-    return "container" if os.readlink("/proc/self/ns/pid") != "pid:[4026531836]" else ""
+    return "container" if link("/proc/self/ns/pid") != "pid:[4026531836]" else ""
 
 
 def space() -> str:
     """Returns the machine and the container in which the numbers of processes are these."""
-    return f"{platform.node()} {os.readlink('/proc/self/ns/pid')}"
+    return f"{platform.node()} {link('/proc/self/ns/pid')}"
 
 
 def seconds(text: str) -> float:
@@ -105,16 +122,21 @@ def main() -> int:
     try:
         sys.stdout.write(collect(asked.pid, asked.seconds, asked.stacks, asked.looks))
         sys.stdout.flush()
+        return 0
+    except (MemoryError, SystemError):  # (Python gives the second one where it couldn't make the first)
+        status, text = 4, OUT_OF_MEMORY  # (said once all that was read is gone)
     except Exception as error:
         is_ours = type(error) is not LookupError and not isinstance(error, OSError)
-        print(f"cmh_linux: {fault_text(error) if is_ours else error}", file=sys.stderr)
-        sys.stdout = open(os.devnull, "w", encoding="utf-8")  # so that nothing is written again at the end
-        return 4 if is_ours else 1
-    return 0
+        status, text = (4, fault_text(error)) if is_ours else (1, str(error))
+    print(f"cmh_linux: {text}", file=sys.stderr)
+    sys.stdout = open(os.devnull, "w", encoding="utf-8")  # so that nothing is written again at the end
+    return status
 
 
 def fault_text(error: Exception) -> str:
-    """Returns what is said of a fault of this program, with its place."""
+    """Returns what is said of a fault of this program, with its place, or of what the machine lacks."""
+    if str(error) == NO_THREAD:
+        return "no further thread may begin (ulimit -u, pids.max of the cgroup, or too little memory)"
     place = traceback.extract_tb(error.__traceback__)[-1]
     where = f"{os.path.basename(place.filename)}:{place.lineno}"
     return f"this is a fault of cmh_linux: {type(error).__name__}: {error}, at {where}"

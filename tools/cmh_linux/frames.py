@@ -8,11 +8,15 @@ import platform
 import re
 import shutil
 import struct
-import subprocess
 import time
 from typing import Dict, Iterator, List, Optional, Sequence, Tuple
 
-from .proc import Row, field, slurp
+from cmh_proc import programs as others
+from cmh_proc.budget import BUDGET as LOOK
+from cmh_proc.budget import Budget
+from cmh_proc.door import field, kernel_row
+
+from .proc import Row
 from .programs import Image, Program
 from .readers import PATIENCE, Worker
 from .tables import FRAME_POINTER, RETURN, STACK_POINTER, Registers, Rule
@@ -21,13 +25,18 @@ from .words import Unclear
 OF_THE_SYSTEM = re.compile(r".*/(libc|libpthread|libstdc\+\+|libm|libgcc_s|librt|libdl|ld-linux-x86-64)[.-][^/]*")
 DEPTH, GUESSES = 200, 64  # calls on a stack, and places at which a frame is looked for, at most
 PIECE, FAR = 4096, 1 << 16  # bytes of a stack that are read at once, and searched at most
+MOST_BYTES, MOST_SECONDS = 1 << 27, 60.0  # of what is kept of all programs, their names and their tables
+MOST_OUTPUT, MOST_MEMORY = 1 << 24, 1 << 28  # of what makes names plain
 CALL, CALL_BY_TABLE = b"\xe8", b"\xff\x15"  # how calls begin
 STUB = re.compile(rb"(?:\xf3\x0f\x1e\xfa)?\xf2?\xff\x25(.{4})", re.S)  # by which one comes to a function of a library
 # A call of what a register or memory says, right behind which one is.
 BY_REGISTER = re.compile(rb".*\xff([\x10-\x13\x16\x17\xd0-\xd7]|\x14.|[\x50-\x53\x55-\x57].|\x54.."
                          rb"|[\x90-\x93\x95-\x97]....|\x94.....)", re.S)
+BUDGET = 3.0  # seconds of the processor for the stacks of all processes
+LATE: Row = {"late": True}  # what is known of a thread for whose stack there was no time
 MANGLED = ("_Z", "_R")  # how names begin that compilers of C++ and Rust have made
 Frame = Tuple[Program, int]
+Found = Tuple[Row, Dict[int, Row]]  # what was found of a process, and of each of its threads
 
 
 class Stack:
@@ -50,10 +59,10 @@ class Stack:
 
     def moment(self) -> Tuple[str, str]:
         """Returns the call of a thread that sleeps, with how often it has gone to sleep so far."""
-        call = slurp(f"{self.folder}/syscall")
+        call = kernel_row(f"{self.folder}/syscall")
         if call.startswith(("running", "-1")):
             raise Unclear
-        return call, field(slurp(f"{self.folder}/status"), "voluntary_ctxt_switches")
+        return call, field(kernel_row(f"{self.folder}/status"), "voluntary_ctxt_switches")
 
     def unwind(self, registers: Registers, is_exact: bool = True) -> None:
         """Finds the frames, as far as they are known. All but the innermost, and who was interrupted by a signal, stand
@@ -154,14 +163,16 @@ class Stack:
 
 
 def add_frames(rows: Sequence[Row]) -> None:
-    """Adds to each sleeping thread the functions on its stack, and in which call of a library its own code is. What
-    can't be read soon is left out."""
-    more: Dict[int, Tuple[Row, Dict[int, Row]]] = {}
+    """Adds to each sleeping thread the functions on its stack, and in which call of a library its own code is. One for
+    which there was no time is late."""
+    known: Dict[int, Found] = {}
     if platform.machine() == "x86_64":
-        Worker(lambda: find_frames(rows, more)).wait(2 * PATIENCE)
-    known = dict(more)
+        finder = Finder(rows)
+        finder.wait(lambda: finder.steps)
+        known = dict(finder.found)
+    nothing: Found = {}, {}
     for row in rows:
-        of_process, of_threads = known.get(row["pid"], ({}, {}))
+        of_process, of_threads = known.get(row["pid"], nothing)
         row.update(of_process)
         for thread in row.get("threads", ()):
             thread.update(of_threads.get(thread["tid"], {}))
@@ -169,26 +180,45 @@ def add_frames(rows: Sequence[Row]) -> None:
              + [thread["object"] for row in rows for thread in row.get("threads", ()) if "object" in thread])
 
 
-def find_frames(rows: Sequence[Row], more: Dict[int, Tuple[Row, Dict[int, Row]]]) -> None:
-    """Finds where the threads of some processes stand, as long as there is time."""
-    programs: Dict[str, Optional[Program]] = {}
-    last = time.monotonic() + 1.5 * PATIENCE
-    for row in rows:
-        if "living" in row and time.monotonic() < last:
-            with contextlib.suppress(OSError):
-                more[row["pid"]] = frames_of(row, programs, last)
+class Finder(Worker):
+    """Finds where the threads of some processes stand, as long as there is time: of the processor, for what else the
+    machine does isn't to change an answer. `found` has of each process its frames, each once, with its programs, and
+    which of them each thread has."""
+
+    def __init__(self, rows: Sequence[Row]) -> None:
+        self.rows, self.steps = [row for row in rows if "living" in row], 0
+        self.found: Dict[int, Found] = {
+            row["pid"]: ({}, {thread["tid"]: LATE for thread in sleepers(row)}) for row in self.rows}
+        super().__init__(self.find)
+
+    def find(self) -> None:
+        programs: Dict[str, Optional[Program]] = {}
+        last, budget = time.thread_time() + BUDGET, LOOK.part(MOST_BYTES, MOST_SECONDS)
+        for row in self.rows:
+            try:  # (each takes a half of what is left, so that it leaves something to the next)
+                own = budget.part(budget.left // 2, MOST_SECONDS)
+                self.found[row["pid"]] = self.frames_of(row, programs, last, own)
+            except OSError:
+                self.found[row["pid"]] = {}, {}
+
+    def frames_of(self, row: Row, programs: Dict[str, Optional[Program]], last: float, budget: Budget) -> Found:
+        """Returns what there is of a process, as long as there is time."""
+        of_threads: Dict[int, Row] = {}
+        image = Image(row, programs, budget)
+        table = FrameTable(image)
+        try:
+            for thread in sleepers(row):
+                self.steps += 1
+                is_late = time.thread_time() >= last or not budget.seconds()
+                of_threads.update((thread["tid"], more) for more in ([LATE] if is_late else
+                                                                     stacks_of(image, thread, table)))
+        finally:
+            image.memory.close()
+        return table.row(), of_threads
 
 
-def frames_of(row: Row, programs: Dict[str, Optional[Program]], last: float) -> Tuple[Row, Dict[int, Row]]:
-    """Returns the frames of a process, each once, with its programs, and which of them each thread has."""
-    image = Image(row, programs)
-    table = FrameTable(image)
-    try:
-        asleep = (thread for thread in row["threads"] if thread["state"] == "S" and time.monotonic() < last)
-        of_threads = {thread["tid"]: more for thread in asleep for more in stacks_of(image, thread, table)}
-    finally:
-        image.memory.close()
-    return table.row(), of_threads
+def sleepers(row: Row) -> Iterator[Row]:
+    return (thread for thread in row.get("threads", ()) if thread["state"] == "S")
 
 
 def stacks_of(image: Image, thread: Row, table: "FrameTable") -> Iterator[Row]:
@@ -235,11 +265,11 @@ def demangle(frames: List[List[object]]) -> None:
     if not names or shutil.which("c++filt") is None:
         return
     try:
-        ran = subprocess.run(["c++filt", "-p"], input="\n".join(names), capture_output=True, timeout=PATIENCE,
-                             check=False, encoding="utf-8", errors="replace")
-    except (OSError, subprocess.TimeoutExpired):
+        ran = others.run(["c++filt", "-p"], stdin="\n".join(names).encode(), most=MOST_OUTPUT, resident=MOST_MEMORY,
+                         seconds=PATIENCE, space=MOST_MEMORY)
+    except OSError:
         return
-    lines = ran.stdout.split("\n")
+    lines = ran.output.decode("utf-8", "replace").split("\n") if not ran.why else []
     plain = dict(zip(names, lines)) if len(lines) in (len(names), len(names) + 1) else {}
     for frame in frames:
         frame[0] = plain.get(str(frame[0])) or frame[0]

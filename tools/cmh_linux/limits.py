@@ -9,8 +9,11 @@ import struct
 import time
 from typing import Dict, Iterable, List, Optional, Tuple
 
+from cmh_proc.door import field, names
+from cmh_proc.memory import Memory
+
 from .calls import QUEUES, calls_of
-from .proc import Memory, Row, field, int32, try_slurp
+from .proc import Row, int32, try_slurp
 
 IN_MILLISECONDS = {"poll": 2, "epoll_wait": 3, "epoll_pwait": 3}  # calls with their limit's argument, as a number
 AS_TIMES = {"ppoll": 2, "pselect6": 4, "select": 4, "epoll_pwait2": 3, "rt_sigtimedwait": 2, "semtimedop": 3,
@@ -20,6 +23,7 @@ OPERATION, BY_CLOCK = 127, 256  # of a futex: what it does, and that its limit i
 WAIT, LOCK = 0, 6  # of these a limit is how long, or a time of the clock; of others when it ends
 IS_A_TIME = 1  # TIMER_ABSTIME
 FAR = 3600.0  # seconds
+MOST_THREADS = 1 << 20
 RAN_AT = re.compile(r"^se\.exec_start *: *([0-9.]+)", re.M)
 PROCESSOR = 36  # its place in `stat`, behind the name: the one where a thread has last run
 
@@ -51,7 +55,7 @@ def far_limits(pid: str) -> Dict[str, float]:
     the number that the process itself has for it."""
     limits: Dict[str, float] = {}
     memory, calls = Memory(f"/proc/{pid}"), calls_of(platform.machine())
-    for tid in os.listdir(f"/proc/{pid}/task"):
+    for tid in names(f"/proc/{pid}/task", MOST_THREADS):
         words = try_slurp(f"/proc/{pid}/task/{tid}/syscall").split()
         numbers = [int(word, 16) for word in words[1:]]
         is_known = len(numbers) > 6 and numbers[6] >> 32

@@ -2,11 +2,14 @@
 from __future__ import annotations
 
 import contextlib
-import os
 import re
+import time
 from typing import Dict, Iterator, List, Optional, Tuple
 
-from .proc import DELETED, KCMP_VM, Row, kcmp, sysvipc_rows, whole
+from cmh_proc import door
+from cmh_proc.budget import OF_ONE, Budget
+
+from .proc import DELETED, KCMP_VM, Row, kcmp, sysvipc_row, try_text
 
 FILE = "file"
 MAPPING = re.compile(r"^([0-9a-f]+)-([0-9a-f]+) ...([ps]) [0-9a-f]+ ([0-9a-f]+:[0-9a-f]+) (\d+) *(.*)$", re.M)
@@ -14,6 +17,8 @@ NAMELESS = re.compile(r"/(dev/zero|memfd:.*) \(deleted\)")  # memory that never 
 SEGMENT = re.compile(r"/SYSV[0-9a-f]{8} \(deleted\)")  # memory of System V
 DESTROYED = 0o1000  # SHM_DEST: a segment that goes with the last one who has it
 PRIVATE = 128  # the flag of a futex of one process alone
+MOST_OF_ONE, SECONDS_OF_ONE = 1 << 27, 5.0  # of what is read of the memory of one process, and isn't kept
+MAPPING_SIZE = 600  # bytes that a row takes here
 
 
 def names_of_memory(row: Row) -> Iterator[str]:
@@ -31,42 +36,48 @@ def names_of_memory(row: Row) -> Iterator[str]:
 
 def mappings(pid: int) -> List[Tuple[int, int, str]]:
     """Returns where memory of a process begins and ends, with a name of what other processes may have too. Who has a
-    file isn't known, as anybody may open it, and pages of it are shared too where a process has it for itself."""
-    try:
-        rows = MAPPING.findall(whole(f"/proc/{pid}/maps"))
-    except OSError:
-        return []
-    return [(int(first, 16), int(last, 16), "" if (way, number) == ("p", "0") else
-             f"memory {device} {number}" if way == "s" and is_nameless(pid, f"{first}-{last}", path, int(number))
-             else FILE) for first, last, way, device, number, path in rows]
+    file isn't known, as anybody may open it, and pages of it are shared too where a process has it for itself. Raises
+    Refused if there is too much of it."""
+    budget, found = Budget(MOST_OF_ONE, SECONDS_OF_ONE, OF_ONE), []
+    text = try_text(f"/proc/{pid}/maps")
+    for first, last, way, device, number, path in (match.groups() for match in MAPPING.finditer(text)):
+        budget.spend(MAPPING_SIZE)
+        is_shared = way == "s" and is_nameless(pid, f"{first}-{last}", path, int(number), budget)
+        found.append((int(first, 16), int(last, 16), "" if (way, number) == ("p", "0") else
+                      f"memory {device} {number}" if is_shared else FILE))
+    return found
 
 
-def is_nameless(pid: int, place: str, path: str, number: int) -> bool:
+def is_nameless(pid: int, place: str, path: str, number: int, budget: Budget) -> bool:
     """Whether nobody can open what a process has mapped by a name. One name may be gone and another one still be there:
     so it is with a semaphore that `sem_open` has made. Memory of System V anybody may attach by its number or key until
     it is destroyed."""
     if SEGMENT.fullmatch(path):
-        return is_destroyed(pid, number)
+        return is_destroyed(pid, number, budget)
     with contextlib.suppress(OSError):
         return bool(NAMELESS.fullmatch(path)) or (
-            path.endswith(DELETED) and os.stat(f"/proc/{pid}/map_files/{place}").st_nlink == 0)
+            path.endswith(DELETED) and door.status(f"/proc/{pid}/map_files/{place}").st_nlink == 0)
     return False
 
 
-def is_destroyed(pid: int, number: int) -> bool:
+def is_destroyed(pid: int, number: int, budget: Budget) -> bool:
     """Whether a segment of System V that a process has is destroyed. The number of its file is that of the segment."""
-    return any(int(words[1]) == number and int(words[2], 8) & DESTROYED
-               for words in sysvipc_rows("shm", f"/proc/{pid}"))
+    row = sysvipc_row("shm", number, f"/proc/{pid}", budget)
+    return row is not None and bool(int(row[2], 8) & DESTROYED)
 
 
 def add_kin(rows: List[Row]) -> None:
     """Adds to each process with a thread at a futex those that have all its memory, as one that was made by vfork. They
-    run the same program. Where the kernel doesn't say so, nothing is known of any."""
+    run the same program. Where the kernel doesn't say so, nothing is known of any. One with so many that might that it
+    takes too long can't be read."""
+    last = time.monotonic() + SECONDS_OF_ONE
     programs: Dict[str, List[Row]] = {}
     for row in rows:
         programs.setdefault(row.get("exe", ""), []).append(row)
     for row in rows:
         pid = row.get("living", 0)
         if any("memory" in one for one in row.get("threads", ())) and kcmp(pid, pid, KCMP_VM) == 0:
-            row["kin"] = [one["pid"] for one in programs[row["exe"]]
-                          if one is not row and kcmp(pid, one.get("living", 0), KCMP_VM) == 0]
+            row["kin"] = [one["pid"] for one in programs[row["exe"]] if one is not row and time.monotonic() < last
+                          and kcmp(pid, one.get("living", 0), KCMP_VM) == 0]
+            if time.monotonic() > last:
+                row["unreadable"] = "who has its memory wasn't found in time"

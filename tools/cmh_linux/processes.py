@@ -10,40 +10,61 @@ import re
 import stat
 from typing import Dict, Iterator, List, Optional, Tuple
 
+from cmh_proc import door
+from cmh_proc.budget import BUDGET, OF_ONE, Budget, Refused
+from cmh_proc.door import field, kernel_row, kernel_text
+from cmh_proc.memory import Memory
+
 from .calls import QUEUES, besides, calls_of, set_of
 from .limits import limit_of
 from .memory import mappings, names_of_memory
-from .proc import (KCMP_FILE, KCMP_FILES, Memory, Row, field, kcmp, lines_of, pid_of, slurp, try_lines, try_link,
-                   try_slurp, whole)
+from .proc import KCMP_FILE, KCMP_FILES, MOST_TEXT, Row, kcmp, lines_of, pid_of, try_lines, try_link, try_slurp
 
 KERNEL_THREAD = 0x00200000
 CARRIES, RING = "scm_fds:", "UserFiles:"  # how many files are on their way through a socket, or kept by an io_uring
 SIGNALS = "sigmask:"  # which signals a descriptor of them takes
 NO_KEYS = ("lock:", CARRIES, RING, SIGNALS)  # what of a descriptor doesn't tell its file from others
+SECONDS_OF_ONE = 15.0  # that one process may take, and a half of the bytes for all
+# The bytes that each row counts.
+PROCESS_SIZE, THREAD_SIZE, DESCRIPTOR_SIZE, FILE_SIZE = 3000, 2500, 600, 600
+MOST_DESCRIPTORS = 1 << 20
+HEAD = ("pid", "ppid", "group", "session", "start", "state", "comm")  # what of one is known that is too large
 
 
 class Machine:
     """Reads the processes of a machine, as its kernel shows them at one time."""
 
-    def __init__(self) -> None:
+    def __init__(self, budget: Budget = BUDGET) -> None:
+        self.budget = budget
         self.calls = calls_of(platform.machine())
         self.files: Dict[Tuple[int, int], List[Descriptor]] = {}  # who has which file open
         self.epolls: List[Descriptor] = []
         self.steps = 0  # how much was read, by which one that is read shows that it goes on
+        self.refused: Dict[int, str] = {}  # the processes of which something isn't read, and why
+        self.warnings: List[str] = []
 
     def process(self, pid: int) -> Optional[Row]:
-        """Returns a process, or None if it has ended or is a thread of the kernel."""
+        """Returns a process, or None if it has ended or is a thread of the kernel. One that is too large, or takes too
+        long, can't be read."""
         row = self.base(pid)
         if row is None:
             return row
-        if row["state"] in "ZX" and len(os.listdir(f"/proc/{pid}/task")) == 1:
+        try:
+            return self.whole_process(pid, row, self.budget.part(self.budget.size // 2, SECONDS_OF_ONE, OF_ONE))
+        except Refused as error:
+            return {**{key: row[key] for key in HEAD}, "unreadable": str(error)}
+
+    def whole_process(self, pid: int, row: Row, budget: Budget) -> Row:
+        """Returns all of a process. Raises Refused where that is too much."""
+        budget.spend(PROCESS_SIZE)
+        if row["state"] in "ZX" and len(threads_of(pid)) == 1:
             return {**row, "fds": {}, "threads": [{"tid": pid, "state": row["state"]}]}
         row["living"] = pid if row["state"] not in "ZX" else living_thread(pid)
         living = f"/proc/{pid}" if row["living"] == pid else f"/proc/{pid}/task/{row['living']}"
-        memory = Memory(living)
+        memory = Memory(living, budget)
         try:
             row["net"], row["exe"] = try_link(f"{living}/ns/net")[5:-1], try_link(f"{living}/exe")
-            row["fds"] = dict(self.descriptors(living))
+            row["fds"] = dict(self.descriptors(living, budget))
             row["timers"] = bool(try_slurp(f"/proc/{pid}/timers"))
             row["threads"] = list(self.threads(pid, memory))
             row.update(runtime_of(living, row))
@@ -58,7 +79,7 @@ class Machine:
 
     def base(self, pid: int) -> Optional[Row]:
         """Returns what everybody may know of a process."""
-        head, _, rest = slurp(f"/proc/{pid}/stat").rpartition(")")
+        head, _, rest = kernel_row(f"/proc/{pid}/stat").rpartition(")")
         words = rest.split()
         if int(words[6]) & KERNEL_THREAD:
             return None
@@ -66,7 +87,7 @@ class Machine:
         row: Row = {"pid": pid, "ppid": int(words[1]), "group": int(words[2]), "session": int(words[3]),
                     "start": int(words[19]), "state": words[0], "comm": head.partition("(")[2],
                     "command": command[:500]}
-        status = slurp(f"/proc/{pid}/status")
+        status = kernel_row(f"/proc/{pid}/status")
         row.update({name: field(status, name) for name in ("TracerPid", "SigCgt", "SigIgn")})
         row.update({name: field(status, name) for name in ("NSpid", "NSpgid") if "\t" in field(status, name)})
         return row
@@ -76,16 +97,20 @@ class Machine:
         others, which it closes unused."""
         row = self.base(os.getpid())
         assert row is not None
-        files = {fd: words for fd, words in self.descriptors("/proc/self") if fd in "012"}
+        budget = Budget(self.budget.size, SECONDS_OF_ONE)  # (the look goes on where there is no more for others)
+        files = {fd: words for fd, words in self.descriptors("/proc/self", budget) if fd in "012"}
         return {**row, "fds": files, "threads": [{"tid": os.getpid(), "state": "R"}], "collects": True}
 
-    def descriptors(self, folder: str) -> Iterator[Tuple[str, List[str]]]:
+    def descriptors(self, folder: str, budget: Budget) -> Iterator[Tuple[str, List[str]]]:
         """Yields each descriptor: what it is, how it is open, and what more tells its file from others."""
-        for fd in os.listdir(f"{folder}/fd"):
+        fds = door.names(f"{folder}/fd", MOST_DESCRIPTORS)
+        budget.spend(DESCRIPTOR_SIZE * len(fds))
+        for fd in fds:
             self.steps += 1
+            budget.check()
             with contextlib.suppress(FileNotFoundError):
                 path = f"{folder}/fd/{fd}"
-                target, mode = os.readlink(path), os.lstat(path).st_mode
+                target, mode = door.link(path), door.mode_of_link(path)
                 words = [target, "r" * bool(mode & 0o400) + "w" * bool(mode & 0o200)]
                 if target == "anon_inode:[eventpoll]":
                     self.epolls.append(Descriptor(folder, int(fd), words))
@@ -95,7 +120,8 @@ class Machine:
                 elif target.startswith("socket:["):
                     words += [line for line in lines_of(f"{folder}/fdinfo/{fd}", (CARRIES,)) if line != f"{CARRIES} 0"]
                 elif target.startswith("/") and not target.startswith(("/proc/", "/sys/")):
-                    self.add_file(Descriptor(folder, int(fd), words), os.stat(path))
+                    budget.spend(FILE_SIZE)
+                    self.add_file(Descriptor(folder, int(fd), words), door.status(path))
                 yield fd, words
 
     def add_file(self, descriptor: "Descriptor", status: os.stat_result) -> None:
@@ -110,20 +136,35 @@ class Machine:
         and may poll for that, to all that have it open."""
         for them in [*self.waited(rows, ("flock", "fcntl"), "file"), *self.locked()]:
             for descriptor in them:
-                with contextlib.suppress(OSError):
-                    descriptor.words += lines_of(f"{descriptor.folder}/fdinfo/{descriptor.fd}", ("lock:",))
+                self.add_locks_of(descriptor)
             name_open_files(them)
+
+    def add_locks_of(self, descriptor: "Descriptor") -> None:
+        """Adds the locks of an open file, if its process is still there."""
+        try:
+            descriptor.words += lines_of(f"{descriptor.folder}/fdinfo/{descriptor.fd}", ("lock:",))
+        except Refused as error:
+            self.refused[descriptor.pid] = f"the locks of a file can't be read: {error}"
+        except OSError:
+            pass
 
     def locked(self) -> Iterator[List["Descriptor"]]:
         """Yields the descriptors of each file that is locked and that several processes have open, once these are told.
         """
-        for device, number in locked_files():
+        for device, number in self.try_locked_files():
             them = self.files.get((device, number), [])
             name = f"file {device:x}:{number}"
             if len({descriptor.pid for descriptor in them}) > 1 and name not in them[0].words:
                 for descriptor in them:
                     descriptor.words.append(name)
                 yield them
+
+    def try_locked_files(self) -> List[Tuple[int, int]]:
+        try:
+            return locked_files()
+        except Refused as error:
+            self.warnings.append(f"which files are locked can't be read: {error}")
+        return []
 
     def add_queues(self, rows: List[Row]) -> None:
         """Tells the queues of messages at which threads wait from others, for all that have them open."""
@@ -143,10 +184,9 @@ class Machine:
     def add_memory(self, rows: List[Row]) -> None:
         """Adds of each thread at a futex which memory that is of, and who has this too: it alone may wake the thread.
         """
-        names = {row["pid"]: {*names_of_memory(row)} for row in rows if "threads" in row}
-        wanted = {name for of_process in names.values() for name in of_process}
+        wanted = {name for row in rows if "threads" in row for name in self.try_names(row)}
         for row in rows if wanted else ():
-            for name in wanted.intersection(name for _, _, name in mappings(row.get("living", row["pid"]))):
+            for name in wanted.intersection(self.try_names(row, True)):
                 row.get("fds", {})[name] = ["memory", "rw", name]
         for (device, number), them in self.files.items():
             name = f"memory {os.major(device):02x}:{os.minor(device):02x} {number}"
@@ -154,15 +194,33 @@ class Machine:
                 for descriptor in them:
                     descriptor.words.append(name)
 
+    def try_names(self, row: Row, is_all: bool = False) -> List[str]:
+        """Returns the names of memory of a process which others may have too: all of them, or that of its futexes."""
+        try:
+            rows = mappings(row.get("living", row["pid"])) if is_all else ()
+            return [name for _, _, name in rows] if is_all else [*names_of_memory(row)]
+        except Refused as error:
+            self.refused[row["pid"]] = f"its memory can't be read: {error}"
+        return []
+
+    def add_refused(self, rows: List[Row]) -> None:
+        """Has those count as processes that can't be read of which something wasn't."""
+        for row in rows:
+            if row["pid"] in self.refused:
+                row["unreadable"] = self.refused[row["pid"]]
+
     def threads(self, pid: int, memory: Memory) -> Iterator[Row]:
-        for tid in os.listdir(f"/proc/{pid}/task"):
+        tids = threads_of(pid)
+        memory.budget.spend(THREAD_SIZE * len(tids))
+        for tid in tids:
             self.steps += 1
+            memory.budget.check()
             with contextlib.suppress(FileNotFoundError, ProcessLookupError):
                 yield self.thread(f"/proc/{pid}/task/{tid}", int(tid), memory)
 
     def thread(self, folder: str, tid: int, memory: Memory) -> Row:
         """Returns a thread. Its count is read before and after the call that it is to vouch for."""
-        status = slurp(f"{folder}/status")
+        status = kernel_row(f"{folder}/status")
         row: Row = {"tid": tid, "state": field(status, "State")[:1]}
         pending = int(field(status, "SigPnd"), 16) | int(field(status, "ShdPnd"), 16)
         row["pending"] = bool(pending & ~int(field(status, "SigBlk"), 16)) or field(status, "CoreDumping") == "1"
@@ -173,7 +231,7 @@ class Machine:
             row["comm"] = field(f"\n{status}", "Name")
         if row["state"] in "ZXR":
             return row
-        words = slurp(f"{folder}/syscall").split()
+        words = kernel_row(f"{folder}/syscall").split()
         if words[0] in ("running", "-1"):  # (one that is stopped while it computes is in none, as "-1" says)
             row["call"] = words[0]
         else:
@@ -181,7 +239,8 @@ class Machine:
         if words[0] == "running":
             return row
         row["wchan"] = try_slurp(f"{folder}/wchan")
-        row["counts"] = [int(field(text, "voluntary_ctxt_switches")) for text in (status, slurp(f"{folder}/status"))]
+        after = kernel_row(f"{folder}/status")
+        row["counts"] = [int(field(text, "voluntary_ctxt_switches")) for text in (status, after)]
         return row
 
     def call_of(self, words: List[str], memory: Memory) -> Row:
@@ -196,16 +255,19 @@ class Machine:
 
 def locked_files() -> List[Tuple[int, int]]:
     """Returns the device and the number of each file that is locked."""
-    lines = "\n".join(try_lines("/proc/locks"))
-    rows = re.findall(r"^\d+: (?!->).* ([0-9a-f]+):([0-9a-f]+):(\d+) \S+ \S+$", lines, re.M)
-    return list(dict.fromkeys((os.makedev(int(major, 16), int(minor, 16)), int(number))
-                              for major, minor, number in rows))
+    rows = (re.fullmatch(r"\d+: (?!->).* ([0-9a-f]+):([0-9a-f]+):(\d+) \S+ \S+", line)
+            for line in try_lines("/proc/locks"))
+    return list(dict.fromkeys((os.makedev(int(row[1], 16), int(row[2], 16)), int(row[3])) for row in rows if row))
+
+
+def threads_of(pid: int) -> List[str]:
+    return door.names(f"/proc/{pid}/task", MOST_DESCRIPTORS)
 
 
 def why_unreadable(pid: int) -> str:
     """Returns why a process can't be read."""
     try:
-        user = os.stat(f"/proc/{pid}").st_uid
+        user = door.status(f"/proc/{pid}").st_uid
     except OSError:
         return "it may not be traced"
     if user == os.geteuid():
@@ -222,7 +284,7 @@ def name_of_user(number: int) -> str:
 
 def living_thread(pid: int) -> int:
     """Returns a thread of a process whose first thread has ended."""
-    tids = list(map(int, os.listdir(f"/proc/{pid}/task")))
+    tids = list(map(int, threads_of(pid)))
     states = {tid: field(try_slurp(f"/proc/{pid}/task/{tid}/status"), "State")[:1] for tid in tids}
     return next((tid for tid, state in states.items() if state and state not in "ZX"), pid)
 
@@ -258,18 +320,17 @@ def aio_of(folder: str, row: Row) -> Row:
     """Returns whether requests of a process (io_submit) may make the kernel write to an eventfd that it has."""
     if not any(words[0] == "anon_inode:[eventfd]" for words in row["fds"].values()):
         return {}
-    return {"aio": True} if "/[aio]" in whole(f"{folder}/maps") else {}
+    return {"aio": True} if "/[aio]" in kernel_text(f"{folder}/maps", MOST_TEXT) else {}
 
 
 def runtime_of(folder: str, row: Row) -> Row:
     """Returns the runtime that a process shows by its program, as a Go program does, or a rank of MPI that doesn't
     sleep by its libraries."""
     if any(thread["state"] == "R" or re.search("running|poll", thread.get("call", "")) for thread in row["threads"]):
-        if re.search(r"/libmpi\w*\.so", whole(f"{folder}/maps")):
+        if re.search(r"/libmpi\w*\.so", kernel_text(f"{folder}/maps", MOST_TEXT)):
             return {"runtime": "mpi"}
     if len(row["threads"]) == 1 or not any(thread.get("call") == "futex" for thread in row["threads"]):
         return {}
     with contextlib.suppress(OSError):
-        with open(f"{folder}/exe", "rb") as file:
-            return {"runtime": "go"} if b"\0Go\0\0" in file.read(8192) else {}
+        return {"runtime": "go"} if b"\0Go\0\0" in door.head(f"{folder}/exe", 8192) else {}
     return {}

@@ -7,11 +7,16 @@ import re
 import struct
 from typing import Dict, List, NamedTuple, Optional, Tuple
 
-from .proc import DELETED, Memory, Row, whole
+from cmh_proc.budget import Budget
+from cmh_proc.door import kernel_text
+from cmh_proc.memory import Memory
+
+from .proc import DELETED, MOST_TEXT, Row
 from .symbols import EH_FRAME, Head, Read, Symbols, symbols_of
 from .tables import Rule, Tables
 from .words import Unclear
 
+REGION_SIZE, FUNCTION_SIZE = 500, 100  # bytes that a piece of memory takes here, and an entry of tables for stacks
 MAPPED_CODE = re.compile(r"^([0-9a-f]+)-([0-9a-f]+) ..(.). ([0-9a-f]+) (\S+ \d+) *(/.*)$", re.M)
 
 
@@ -19,8 +24,8 @@ class Program:
     """A program or a library, which several processes may have. All places count from where it begins in memory.
     `files` has where its file may be."""
 
-    def __init__(self, path: str, files: List[str], read: Read) -> None:
-        self.path, self.files = path, files
+    def __init__(self, path: str, files: List[str], read: Read, budget: Budget) -> None:
+        self.path, self.files, self.budget = path, files, budget
         self.head = Head(read)
         self.build_id = self.head.build_id(read)
         self.names: Dict[int, str] = {}
@@ -28,6 +33,7 @@ class Program:
         heads = self.head.places_of(EH_FRAME)
         self.tables = Tables.at_head(read, heads[0][0]) if heads else \
             Tables.in_section(read, *self.find_symbols().tables)
+        budget.spend(FUNCTION_SIZE * len(self.tables.places))
 
     def rule(self, read: Read, place: int) -> Rule:
         return self.tables.rule(read, place)
@@ -42,9 +48,9 @@ class Program:
         """Returns what its file says, or nothing where that is gone, or replaced, or can't be read."""
         for path in self.files if self.symbols is None else ():
             with contextlib.suppress(OSError, Unclear, ValueError, struct.error, IndexError):
-                self.symbols = symbols_of(path, self.head.text)
+                self.symbols = symbols_of(path, self.head.text, self.budget)
                 break
-        self.symbols = self.symbols or Symbols(lambda place, size: b"", self.head)
+        self.symbols = self.symbols or Symbols(lambda place, size: b"", self.head, self.budget)
         return self.symbols
 
 
@@ -62,12 +68,14 @@ class Region(NamedTuple):
 class Image:
     """The memory of a process, with the programs and libraries in it. `programs` has those of all processes."""
 
-    def __init__(self, row: Row, programs: Dict[str, Optional[Program]]) -> None:
+    def __init__(self, row: Row, programs: Dict[str, Optional[Program]], budget: Budget) -> None:
         self.row, self.programs = row, programs
-        self.memory = Memory(f"/proc/{row['living']}")
+        self.memory = Memory(f"/proc/{row['living']}", budget)
         self.regions: List[Region] = []
         bases: Dict[str, int] = {}
-        for first, last, code, offset, number, path in MAPPED_CODE.findall(whole(f"{self.memory.folder}/maps")):
+        text = kernel_text(f"{self.memory.folder}/maps", MOST_TEXT)
+        for first, last, code, offset, number, path in (match.groups() for match in MAPPED_CODE.finditer(text)):
+            budget.spend(REGION_SIZE)
             key = f"{number} {path}"
             begin = int(first, 16)
             if not int(offset, 16):
@@ -110,7 +118,7 @@ class Image:
         first = next(other for other in self.regions if other.base == region.base)
         files.append(f"{folder}/map_files/{first.first:x}-{first.last:x}")
         try:
-            return Program(path, files, self.reader(region.base))
+            return Program(path, files, self.reader(region.base), self.memory.budget)
         except (Unclear, struct.error, IndexError):
             return None
 

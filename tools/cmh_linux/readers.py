@@ -1,14 +1,19 @@
 """Readers of processes, which are left behind where one takes too long."""
 from __future__ import annotations
 
+import errno
 import queue
 import threading
 from typing import Callable, List, Optional
+
+from cmh_proc.budget import Refused
 
 from .processes import Machine, why_unreadable
 from .proc import Row, try_slurp
 
 PATIENCE = 2.0  # seconds for one process: then it counts as one that can't be read
+LACKS = {errno.EMFILE: "too many files are open here (ulimit -n)", errno.ENOMEM: "there was no memory for that",
+         errno.ENFILE: "too many files are open on the machine (fs.file-max)"}
 
 
 class Worker:
@@ -26,9 +31,12 @@ class Worker:
         except BaseException as error:
             self.fault = error
 
-    def wait(self, seconds: float) -> None:
-        """Waits until it has ended, or for some seconds."""
-        self.thread.join(seconds)
+    def wait(self, steps: Callable[[], int]) -> None:
+        """Waits until it has ended, or has taken no step for some time."""
+        before = -1
+        while self.thread.is_alive() and before != (now := steps()):
+            before = now
+            self.thread.join(2 * PATIENCE)
         self.check()
 
     def check(self) -> None:
@@ -51,8 +59,10 @@ class Reader(Worker):
                 row = self.machine.process(self.at)
             except (FileNotFoundError, ProcessLookupError):
                 pass  # (it has ended)
-            except OSError:
-                row = unread_row(self.at, why_unreadable(self.at))
+            except Refused as error:
+                row = unread_row(self.at, str(error))
+            except OSError as error:
+                row = unread_row(self.at, LACKS.get(error.errno or 0) or why_unreadable(self.at))
             self.answers.put(row)
 
     def answer(self) -> Optional[Row]:

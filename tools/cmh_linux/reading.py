@@ -6,6 +6,10 @@ import sys
 import time
 from typing import Dict, Iterable, Iterator, List, Sequence, Set
 
+from cmh_proc.budget import BUDGET, Budget
+from cmh_proc.door import names
+from cmh_proc.programs import below
+
 from .calls import EPOLLS, SLEEPS
 from .memory import PRIVATE, add_kin
 from .proc import Row, int32
@@ -13,6 +17,7 @@ from .processes import CARRIES, NO_KEYS, RING, Machine, name_open_files
 from .readers import read_all
 from .sockets import Sockets
 
+MOST_PROCESSES = 1 << 22
 NO_KEY = 0  # what has no key in System V
 TID = 0x3FFFFFFF  # the bits of an owner in the word of a futex
 
@@ -20,18 +25,19 @@ TID = 0x3FFFFFFF  # the bits of an owner in the word of a futex
 class Reading:
     """All processes of the machine, as they were read one after the other."""
 
-    def __init__(self) -> None:
+    def __init__(self, asked: Iterable[int] = (), budget: Budget = BUDGET) -> None:
         self.began, start = time.time(), time.monotonic()
-        pids = [int(name) for name in os.listdir("/proc") if name.isdigit() and int(name) != os.getpid()]
-        machine = Machine()
-        rows = [*read_all(machine, pids), machine.itself()]
+        machine = Machine(budget)
+        rows = [*read_all(machine, processes(asked)), machine.itself()]
         machine.add_locks(rows)
         machine.add_queues(rows)
         machine.add_memory(rows)
+        machine.add_refused(rows)
         add_kin(rows)
         name_open_files(machine.epolls)
         self.rows = {row["pid"]: row for row in rows}
         self.sockets = Sockets(rows)
+        self.warnings = machine.warnings + self.sockets.warnings
         self.seconds = time.monotonic() - start
         self.holders: Dict[str, Set[int]] = {}
         self.children: Dict[int, Set[int]] = {}
@@ -111,8 +117,9 @@ class Reading:
         if thread.get("memory"):
             yield thread["memory"]
         if thread.get("call") == "connect":
-            for inode in self.sockets.names.get((row["net"], thread.get("path", "")), ()):
-                yield f"socket:[{inode}]"
+            asks = thread.get("asks", "")
+            for key in (asks, f"{row['net']} {asks}"):
+                yield from (f"socket:[{inode}]" for inode in self.sockets.listening.get(key, ()))
 
     def parents(self, pids: Set[int]) -> Dict[int, List[int]]:
         """Returns the parent of each process above some, and when it began."""
@@ -132,7 +139,7 @@ class Reading:
         missing = [row for pid, row in sorted(self.rows.items()) if pid not in kept and "unreadable" in row]
         numbers = {inode_of(words[0]) for row in rows for words in row.get("fds", {}).values()} - {0}
         yield {"reading": number, "began": self.began, "seconds": round(self.seconds, 2),
-               "warnings": self.sockets.warnings}
+               "warnings": self.warnings}
         yield from ({**row, "command": "", "apart": True} for row in missing)
         for row in rows:
             wanted = {fd for thread in row.get("threads", ()) for fd, *_ in thread.get("set", ())}
@@ -140,10 +147,18 @@ class Reading:
             yield {**row, "fds": files} if "fds" in row else row
         for inode in sorted(numbers & self.sockets.rows.keys()):
             yield {"socket": inode, **self.sockets.rows[inode]}
-        listening = {f"{net} {path}": them for (net, path), them in self.sockets.names.items() if numbers & {*them}}
-        yield {"listening": listening}
+        yield {"listening": {key: them for key, them in self.sockets.listening.items() if numbers & {*them}}}
         yield {"parents": self.parents({row["pid"] for row in (*rows, *missing)})}
         yield {"end": number, "processes": len(rows) + len(missing)}
+
+
+def processes(asked: Iterable[int]) -> List[int]:
+    """Returns all other processes. Those that are asked for, and those below them, come last, and so are read first:
+    what others take of the budget takes nothing away from them."""
+    own, near = os.getpid(), [pid for one in asked for pid in below(one)]
+    pids = [int(name) for name in names("/proc", MOST_PROCESSES) if name.isdigit() and int(name) != own]
+    there = {*pids}
+    return [pid for pid in pids if pid not in {*near}] + [pid for pid in dict.fromkeys(reversed(near)) if pid in there]
 
 
 def keys_of(row: Row) -> Iterator[str]:

@@ -1,120 +1,175 @@
 """The sockets of a machine, each with its other ends."""
 from __future__ import annotations
 
-import os
-import shutil
+import re
 import socket
-import subprocess
-from typing import Dict, List, Tuple
+import struct
+from typing import Dict, Iterator, List, Tuple
 
-from .proc import Row, try_lines
+from cmh_proc.budget import BUDGET
+from cmh_proc.door import kernel_text, link, status, status_within
+from cmh_proc.netlink import TcpSocket, UnixSocket, tcp_sockets, unix_sockets
 
-MAPPED = "0" * 16 + "FFFF0000"  # how an address of IPv4 begins among those of IPv6
+from .proc import Row
+
+MAPPED = bytes(10) + b"\xff\xff"  # how an address of IPv4 begins among those of IPv6
+LISTENS, CONNECTED = 10, 1
+KINDS = {1: "u_str", 2: "u_dgr", 5: "u_seq"}  # of Unix sockets
+STATES = {CONNECTED: "ESTAB", 7: "UNCONN", LISTENS: "LISTEN"}
+NAMELESS = "*"
+ROW_SIZE = 1000  # bytes that a socket takes here
+MOST_TEXT = 1 << 26
+TCP_ROW = re.compile(r" *\d+: ([0-9A-F]+):([0-9A-F]{4}) ([0-9A-F]+):([0-9A-F]{4}) ([0-9A-F]{2}) [0-9A-F]+:([0-9A-F]+)"
+                     r" ([0-9A-F]{2}):[0-9A-F]+ [0-9A-F]+ +\d+ +\d+ (\d+)")
+End = Tuple[bytes, int]
 
 
 class Sockets:
-    """The sockets of all network namespaces: each with its other ends. A number of a file is that of one socket."""
+    """The sockets of all network namespaces: each with its other ends. A number of a file is that of one socket.
+    `listening` has those that listen by what is asked for: a name, or the file that has it."""
 
     def __init__(self, processes: List[Row]) -> None:
         self.rows: Dict[int, Row] = {}
         self.warnings: List[str] = []
-        self.names: Dict[Tuple[str, str], List[int]] = {}
+        self.listening: Dict[str, List[int]] = {}
         spaces: Dict[str, List[int]] = {}
         for row in processes:
             if row.get("net"):
                 spaces.setdefault(row["net"], []).append(row["pid"])
-        own = os.readlink("/proc/self/ns/net")[5:-1]
+        own = link("/proc/self/ns/net")[5:-1]
         for net, pids in spaces.items():
             # One of the processes may have ended by now.
-            others = (str(pid) for pid in pids if net != own and os.path.exists(f"/proc/{pid}/ns/net"))
-            there = ["self"] if net == own else list(others)
-            for pid in there[:1]:
-                prefix = [] if net == own else ["nsenter", f"--net=/proc/{pid}/ns/net"]
-                self.add_unix(net, unix_rows(prefix, self.warnings))
-                lines = [line for name in ("tcp", "tcp6") for line in try_lines(f"/proc/{pid}/net/{name}")[1:]]
-                self.add_tcp([TcpRow(line) for line in lines])
+            there = (str(pid) for pid in pids if is_of(pid, net))
+            pid = "self" if net == own else next(there, "")
+            if pid:
+                self.add_space(net, pid)
 
-    def add_unix(self, net: str, rows: List[List[str]]) -> None:
+    def add_space(self, net: str, pid: str) -> None:
+        """Adds the sockets of a network namespace that a process has. If those of one kind can't be read, none of that
+        kind is known."""
+        try:
+            self.add_unix(net, unix_sockets(net, pid))
+        except OSError as error:
+            self.warnings.append(f"Unix sockets can't be read: {error}")
+        try:
+            self.add_tcp(tcp_of(net, pid))
+        except OSError as error:
+            self.warnings.append(f"TCP sockets can't be read: {error}")
+
+    def add_unix(self, net: str, sockets: List[UnixSocket]) -> None:
+        BUDGET.spend(ROW_SIZE * len(sockets))
         busy: List[int] = []
-        for words in rows:
-            kind, state, pending, inode = words[0], words[1], words[2], int(words[-3])
-            path, peer = " ".join(words[4:-3]), int(words[-1])
-            self.rows[inode] = {"kind": kind, "state": state, "at": path, "to": "", "peers": [peer] if peer else []}
-            if state == "LISTEN":
-                self.names.setdefault((net, path), []).append(inode)
-                busy += [inode] if pending != "0" else []
-        for words in rows:  # (one whose connection isn't accepted yet belongs to all that listen and have such a one)
-            row = self.rows[int(words[-3])]
-            if row["state"] == "ESTAB" and not row["peers"]:
-                row["peers"] = busy
+        for one in sockets:
+            self.rows[one.inode] = {"kind": KINDS.get(one.kind, "u_str"), "at": in_words(one.name),
+                                    "state": STATES.get(one.state, f"{one.state:02X}"), "to": "",
+                                    "peers": [one.peer] if one.peer else []}
+            for key in keys_of(net, one) if one.state == LISTENS else ():
+                self.listening.setdefault(key, []).append(one.inode)
+            busy += [one.inode] if one.state == LISTENS and one.queue else []
+        for one in sockets:  # (one whose connection isn't accepted yet belongs to all that listen and have such a one)
+            if one.state == CONNECTED and not one.peer:
+                self.rows[one.inode]["peers"] = busy
 
-    def add_tcp(self, rows: List["TcpRow"]) -> None:
-        ends = {(row.at, row.to): row.inode for row in rows}
-        unread = {(row.at, row.to): row.unread for row in rows}
-        listeners = [row for row in rows if row.state == "LISTEN"]
-        local = {row.at[0] for row in rows}
-        for row in rows:
-            other = ends.get((row.to, row.at))
-            takers = (listener.inode for listener in listeners if listener.takes(row.to))
-            peers = [other] if other else [] if other is None else list(takers)
-            here = row.to[0] in local or is_loopback(row.to[0])
-            if row.inode:
-                self.rows[row.inode] = {"kind": "tcp", "state": row.state, "at": address(row.at),
-                                        "to": address(row.to), "peers": peers, "away": not here, "timer": row.timer,
-                                        "unread": unread.get((row.to, row.at), 0)}
+    def add_tcp(self, sockets: List[TcpSocket]) -> None:
+        BUDGET.spend(ROW_SIZE * len(sockets))
+        ends = {(plain(one.here), plain(one.there)): one for one in sockets}
+        listeners: Dict[int, List[TcpSocket]] = {}
+        for one in sockets:
+            if one.state == LISTENS:
+                listeners.setdefault(one.here[1], []).append(one)
+        local = {here[0] for here, _ in ends}
+        for one in sockets:
+            here, there = plain(one.here), plain(one.there)
+            other = ends.get((there, here))
+            peers = [taker.inode for taker in listeners.get(there[1], ()) if takes(taker, there)] \
+                if other and not other.inode else [other.inode] if other else []
+            if one.inode:
+                self.rows[one.inode] = {
+                    "kind": "tcp", "state": "LISTEN" if one.state == LISTENS else f"{one.state:02X}",
+                    "at": address(here), "to": address(there), "peers": peers, "timer": bool(one.timer),
+                    "away": not (there[0] in local or is_loopback(there[0])), "unread": other.queue if other else 0}
 
 
-def unix_rows(prefix: List[str], warnings: List[str]) -> List[List[str]]:
-    """Returns the words of each line that `ss` has on Unix sockets."""
-    for command, package in (("ss", "iproute2"), *((word, "util-linux") for word in prefix[:1])):
-        if shutil.which(command) is None:
-            warnings.append(f"Unix sockets can't be read: {command} isn't there (Debian: apt-get install {package})")
-            return []
+def is_of(pid: int, net: str) -> bool:
+    """Whether a process is there, in a network namespace."""
     try:
-        ran = subprocess.run([*prefix, "ss", "-xnaH"], stdin=subprocess.DEVNULL, capture_output=True, timeout=30,
-                             check=False)
-    except (OSError, subprocess.TimeoutExpired) as error:
-        warnings.append(f"Unix sockets can't be read: {error}")
-        return []
-    if ran.returncode:
-        warnings.append(f"Unix sockets can't be read: {ran.stderr.decode(errors='replace').strip()[:200]}")
-    rows = [line.split() for line in ran.stdout.decode("utf-8", "backslashreplace").split("\n") if line]
-    return [words for words in rows if len(words) > 6 and words[-1].isdigit() and words[-3].isdigit()]
+        return str(status(f"/proc/{pid}/ns/net").st_ino) == net
+    except OSError:
+        return False
 
 
-class TcpRow:
-    """A line of /proc/net/tcp. Its two ends are pairs of address and port, as the kernel writes them. `timer` says
-    whether the kernel has one for it, without which no limit of a connection comes, and `unread` how many bytes have
-    come and weren't read."""
-
-    def __init__(self, line: str) -> None:
-        words = line.split()
-        self.at, self.to = end_of(words[1]), end_of(words[2])
-        self.state, self.inode = "LISTEN" if words[3] == "0A" else words[3], int(words[9])
-        self.timer = not words[5].startswith("00:")
-        self.unread = int(words[4].partition(":")[2], 16)  # (of one that listens: how many it hasn't accepted)
-
-    def takes(self, to: Tuple[str, str]) -> bool:
-        """Whether one that listens takes connections to an end. One of all addresses of IPv6 takes those of IPv4 too.
-        """
-        return self.at[1] == to[1] and (self.at[0] == to[0] or not self.at[0].strip("0"))
+def tcp_of(net: str, pid: str) -> List[TcpSocket]:
+    """Returns the sockets of TCP of a network namespace. Where this user may not go there they stand in /proc too, by
+    numbers alone."""
+    try:
+        return tcp_sockets(net, pid)
+    except OSError:
+        return [row for name in ("tcp", "tcp6") for row in tcp_rows(kernel_text(f"/proc/{pid}/net/{name}", MOST_TEXT))]
 
 
-def end_of(text: str) -> Tuple[str, str]:
-    """Returns the address and the port of an end. An address of IPv4 within IPv6 is that of IPv4."""
-    digits, _, port = text.partition(":")
-    return digits[24:] if len(digits) == 32 and digits.startswith(MAPPED) else digits, port
+def tcp_rows(text: str) -> Iterator[TcpSocket]:
+    for words in TCP_ROW.findall(text):
+        here, there = ((bytes_of(digits), int(port, 16)) for digits, port in (words[:2], words[2:4]))
+        yield TcpSocket(int(words[7]), int(words[4], 16), here, there, int(words[6], 16), int(words[5], 16))
 
 
-def is_loopback(digits: str) -> bool:
-    return len(digits) == 8 and digits.endswith("7F") or digits == "0" * 24 + "01000000"
+def bytes_of(digits: str) -> bytes:
+    """Returns an address of the kernel's words of it, each of which is a number."""
+    return b"".join(struct.pack("=I", int(digits[start:start + 8], 16)) for start in range(0, len(digits), 8))
 
 
-def address(end: Tuple[str, str]) -> str:
-    """Returns '127.0.0.1:80' of the kernel's '0100007F' and '0050'."""
-    digits, port = end[0], int(end[1], 16)
-    words = (digits[start:start + 8] for start in range(0, len(digits), 8))
-    numbers = [byte for word in words for byte in reversed(bytes.fromhex(word))]
-    if len(numbers) == 4:
-        return f"{'.'.join(map(str, numbers))}:{port}"
-    return f"[{socket.inet_ntop(socket.AF_INET6, bytes(numbers))}]:{port}"
+def in_words(name: bytes) -> str:
+    """Returns the name of a Unix socket in one line, with an @ for what begins a name that is no path."""
+    text = (b"@" + name[1:] if name[:1] == b"\0" else name).decode("utf-8", "backslashreplace")
+    plain_text = "".join(sign if sign.isprintable() else sign.encode("unicode_escape").decode() for sign in text)
+    return NAMELESS if not name else "./*" if plain_text == NAMELESS else plain_text
+
+
+def keys_of(net: str, one: UnixSocket) -> Iterator[str]:
+    """Yields by what one that listens is asked for: the file that it was bound to, as the kernel knows that, or a name
+    that is no path. What a path is called says nothing: somebody may call another file the same."""
+    if one.name.startswith(b"\0"):
+        yield f"{net} {key_of_name(one.name)}"
+    elif one.file is not None:
+        yield key_of_file(*one.file)
+
+
+def key_of_name(name: bytes) -> str:
+    return f"name {name.hex()}"
+
+
+def key_of_file(device: int, number: int) -> str:
+    return f"file {device:x}:{number & 0xFFFFFFFF}"
+
+
+def key_of_connect(folder: str, name: bytes) -> str:
+    """Returns by what a process with a folder in /proc asks for one that listens, or nothing where that isn't known."""
+    if name.startswith(b"\0"):
+        return key_of_name(name)
+    try:
+        there = status_within(folder, name.partition(b"\0")[0])
+    except OSError:
+        return ""
+    return key_of_file(there.st_dev, there.st_ino)
+
+
+def plain(end: End) -> End:
+    """Returns an end with the address of IPv4 that it has within IPv6."""
+    return (end[0][12:], end[1]) if len(end[0]) == 16 and end[0].startswith(MAPPED) else end
+
+
+def takes(listener: TcpSocket, end: End) -> bool:
+    """Whether one that listens takes connections to an end. One of all addresses of IPv6 takes those of IPv4 too."""
+    here = plain(listener.here)
+    return here[1] == end[1] and (here[0] == end[0] or not any(here[0]))
+
+
+def is_loopback(where: bytes) -> bool:
+    return len(where) == 4 and where[0] == 127 or where == bytes(15) + b"\1"
+
+
+def address(end: End) -> str:
+    """Returns '127.0.0.1:80' of an end."""
+    if len(end[0]) == 4:
+        return f"{socket.inet_ntop(socket.AF_INET, end[0])}:{end[1]}"
+    return f"[{socket.inet_ntop(socket.AF_INET6, end[0])}]:{end[1]}"

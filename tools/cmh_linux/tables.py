@@ -12,6 +12,7 @@ from .words import Unclear, Words, result_of
 FRAME_POINTER, STACK_POINTER, RETURN = 6, 7, 16  # numbers of registers in these tables
 PLAIN_TABLE = b"\x01\x1b\x03\x3b"  # the head of one of the kind that linkers write
 MOST_FUNCTIONS = 1 << 20
+LONGEST_ENTRY, MOST_REGISTERS, DEEPEST = 1 << 16, 256, 32  # what compilers write is far below
 SIZES = {0: 8, 2: 2, 3: 4, 4: 8, 10: 2, 11: 4, 12: 8}  # of pointers, by the low bits of how they are written
 IS_NEAR, IS_SIGNED = 0x10, 8  # bits of that: a pointer counts from its own place; it may be below
 Registers = Dict[int, Optional[int]]
@@ -102,7 +103,10 @@ class Entry:
     def __init__(self, read: Read, place: int) -> None:
         size, back = struct.unpack("=Ii", read(place, 8))
         common_at = place + 4 - back
-        common = read(common_at + 8, struct.unpack("=I", read(common_at, 4))[0] - 4)
+        common_size = struct.unpack("=I", read(common_at, 4))[0]
+        if max(size, common_size) > LONGEST_ENTRY:
+            raise Unclear
+        common = read(common_at + 8, common_size - 4)
         letters, _, rest = common[1:].partition(b"\0")
         if common[:1] not in (b"\x01", b"\x03") or letters[:1] not in (b"z", b""):
             raise Unclear
@@ -173,6 +177,8 @@ class State:
                 self.note(code, words)
 
     def save(self, register: int, place: int) -> None:
+        if register >= MOST_REGISTERS:
+            raise Unclear
         self.rule.saved[register] = place
         self.rule.is_last = self.rule.is_last and register != RETURN
 
@@ -202,12 +208,12 @@ class State:
             self.restore(words.number())
         elif code in (0x07, 0x08):
             self.lose(words.number(), code == 0x07)
-        elif code == 0x0A:
+        elif code == 0x0A and len(self.kept) < DEEPEST:
             self.kept.append((rule.frame, dict(rule.saved), rule.is_last))
         elif code == 0x0B:
             rule.frame, rule.saved, rule.is_last = self.kept.pop()
         elif code == 0x10:
-            register = words.number()
+            register = words.number() % MOST_REGISTERS
             rule.computed[register] = words.take(words.number())
         elif code == 0x2E:
             words.number()  # (the size of arguments)

@@ -5,6 +5,7 @@ import sys
 from typing import Callable, Dict, List, Optional
 
 OF_64_BITS = (1 << 64) - 1
+WIDEST, LONGEST = 70, 256  # bits of a number, and bytes of what is to be computed
 
 
 class Unclear(Exception):
@@ -34,6 +35,8 @@ class Words:
             byte = self.byte()
             number |= (byte & 0x7F) << shift
             shift += 7
+            if shift > WIDEST:
+                raise Unclear
             if byte < 0x80:
                 return number
 
@@ -46,6 +49,8 @@ class Words:
 def result_of(text: bytes, registers: Dict[int, Optional[int]], word: Callable[[int], int],
               first: Optional[int] = None) -> int:
     """Returns what an expression of the tables comes to. Raises Unclear for what compilers don't write there."""
+    if len(text) > LONGEST:
+        raise Unclear
     words = Words(text)
     stack: List[int] = [] if first is None else [first]
     while words.place < len(text):
