@@ -19,16 +19,21 @@ import platform
 import re
 import shutil
 import struct
-import subprocess
 import sys
 import time
-from typing import Any, BinaryIO, Dict, Iterator, List, Optional, Sequence, Set, Tuple
+from typing import Any, Dict, Iterator, List, Optional, Sequence, Set, Tuple
+
+from cmh_proc.budget import BUDGET
+from cmh_proc.door import at, head, kernel_bytes, open_kernel, plain
+from cmh_proc.process import (bytes_of, environment_of, files_in_memory, files_of, inner_number, link_of, name_of,
+                              parent_of, pids, stat_of, status_of, text_of, threads_of, user_of)
+from cmh_proc.programs import run
 
 Row = Dict[str, Any]
 
 # What cmh_mpi.c writes, in its order: a head, communicators, the records of threads, requests that have been begun, and
 # for each communicator its ranks of the world.
-MAGIC, LINK = b"cmh_mpi3", "/memfd:cmh_mpi (deleted)"
+MAGIC = b"cmh_mpi3"
 COMMS, THREADS, OPEN, PLACES, WORDS, OWN = 128, 32, 128, 4096, 24, 64
 NUMBERS = ("pid", "rank", "size", "level", "asked", "standard", "any_source", "any_tag", "opened", "lost")
 HEAD = struct.Struct(f"@8s{2 * WORDS}Q{len(NUMBERS)}i{2 * OWN}i0Q")
@@ -54,19 +59,15 @@ FUTEX, WAITS = {"x86_64": 202, "aarch64": 98}, {0x80: "private", 0x89: "private"
 CLOCK_REALTIME = 0x100  # of an operation
 ALARMS = sum(1 << number - 1 for number in (14, 26, 27, 29))  # SIGALRM, SIGVTALRM, SIGPROF, SIGIO
 TRIES = 50  # to read a record that is being written
-RANK = re.compile(rb"(?:OMPI_COMM_WORLD_RANK|PMIX?_RANK|MV2_COMM_WORLD_RANK|SLURM_PROCID)=(\d{1,9})(?:\0|$)")
+MOST_RANKS = 1 << 22  # of all communicators of a rank together
+MOST_MAPS, MOST_LINES = 16 << 20, 1 << 20  # bytes of what is mapped in a rank, and of its lines of source
+SWITCHES = ("voluntary_ctxt_switches", "nonvoluntary_ctxt_switches")
+RANK = re.compile(rb"OMPI_COMM_WORLD_RANK|PMIX?_RANK|MV2_COMM_WORLD_RANK|SLURM_PROCID")
 FORTRAN = re.compile(r"/lib(mpi_mpifh|mpi_usempi\w*|mpifort|fmpich)\b[^/]*$", re.M)
 NEEDS_RIGHTS = "it is of another user, or may not be traced" if os.geteuid() else "not even root may read it"
 
 
-def slurp(path: str) -> bytes:
-    """Returns what a file has, or nothing if it can't be read."""
-    with contextlib.suppress(OSError), open(path, "rb") as file:
-        return file.read()
-    return b""
-
-
-def text_of(data: bytes) -> str:
+def name_in(data: bytes) -> str:
     return data.split(b"\0")[0].decode("ascii", "replace")
 
 
@@ -76,55 +77,40 @@ def text_of(data: bytes) -> str:
 def processes_of(words: Sequence[str]) -> List[int]:
     """Returns the processes that are named by their number, or by the name of their executable file, but no children
     of such, which aren't ranks."""
-    pids = sorted(map(int, filter(str.isdigit, os.listdir("/proc"))))
+    there = pids()
     names = {word for word in words if not word.isdigit()}
-    ranks = [pid for pid in pids if names and name_of(pid) in names and is_rank(pid)]
-    ranks = [pid for pid in ranks if int((stat_of(f"/proc/{pid}/stat")[1:2] or ["0"])[0]) not in ranks]
-    return [*ranks, *(int(word) for word in words if word.isdigit() and int(word) in pids and int(word) not in ranks)]
-
-
-def name_of(pid: int) -> str:
-    return os.path.basename(link_of(f"/proc/{pid}/exe"))
+    ranks = [pid for pid in there if names and name_of(pid) in names and is_rank(pid)]
+    ranks = [pid for pid in ranks if parent_of(pid) not in ranks]
+    return [*ranks, *(int(word) for word in words if word.isdigit() and int(word) in there and int(word) not in ranks)]
 
 
 def is_rank(pid: int) -> bool:
-    return RANK.search(slurp(f"/proc/{pid}/environ")) is not None or record_of(pid)[0] != ""
+    return rank_of(pid) is not None or record_of(pid)[0] != ""
 
 
-def stat_of(path: str) -> List[str]:
-    """Returns the fields of a file called stat behind the name of the command: the state is the first."""
-    return slurp(path).decode("utf-8", "replace").rpartition(")")[2].split()
+def rank_of(pid: int) -> Optional[int]:
+    """Returns the rank of a process by its environment."""
+    values = [value for name, value in environment_of(pid).items() if RANK.fullmatch(name)]
+    return next((int(value) for value in values if re.fullmatch(rb"\d{1,9}", value)), None)
 
 
 def record_of(pid: int) -> Tuple[str, str]:
     """Returns where the record of a process can be opened, or why there is none."""
-    folder = f"/proc/{pid}/fd"
-    try:
-        paths = [f"{folder}/{number}" for number in os.listdir(folder)]
-    except OSError:
+    if not files_of(pid):
         return "", f"its record can't be read: {NEEDS_RIGHTS}"
-    of_record = next((path for path in paths if link_of(path) == LINK), "")
-    return of_record, "" if of_record else "cmh_mpi.so keeps no record of it"
-
-
-def link_of(path: str) -> str:
-    with contextlib.suppress(OSError):
-        return os.readlink(path)
-    return ""
-
-
-def inner_number(path: str, number: int) -> int:
-    """Returns the number of a process or a thread as it sees it itself, which is another one in a container."""
-    numbers = re.search(rb"^NSpid:.*?(\d+)$", slurp(f"{path}/status"), re.M)
-    return int(numbers[1]) if numbers else number
+    paths = files_in_memory(pid, "cmh_mpi")
+    return (paths[0], "") if paths else ("", "cmh_mpi.so keeps no record of it")
 
 
 def has_alarms(pid: int) -> bool:
     """Whether a process has a timer, or takes signals that one of its own or a file may send, as SIGALRM, or whether
     that can't be read."""
-    path, caught = f"/proc/{pid}/timers", re.search(rb"^SigCgt:\s*([0-9a-f]+)$", slurp(f"/proc/{pid}/status"), re.M)
-    has_timer = not os.access(path, os.R_OK) or slurp(path) != b""
-    return has_timer or caught is None or int(caught[1], 16) & ALARMS != 0
+    try:
+        has_timer = kernel_bytes(f"/proc/{pid}/timers") != b""
+    except OSError:
+        has_timer = True
+    caught = status_of(f"/proc/{pid}", "SigCgt")
+    return has_timer or not caught or int(caught[0], 16) & ALARMS != 0
 
 
 # One rank
@@ -133,8 +119,8 @@ def has_alarms(pid: int) -> bool:
 class Rank:
     """The record of a rank, as it is when this is made. `fault` says why it isn't one to be trusted."""
 
-    def __init__(self, pid: int, file: BinaryIO) -> None:
-        self.pid, self.file = pid, file
+    def __init__(self, pid: int, handle: int) -> None:
+        self.pid, self.handle, self.left = pid, handle, MOST_RANKS
         self.data = self.again(0, RANKS_AT)
         self.fault = self.find_fault()
         if self.fault:
@@ -146,8 +132,7 @@ class Rank:
         self.own = set(after) - set(before) if not before[-1] else set()  # (the threads that MPI_Init has begun)
 
     def find_fault(self) -> str:
-        status = os.fstat(self.file.fileno())
-        if status.st_uid != os.stat(f"/proc/{self.pid}").st_uid:
+        if os.fstat(self.handle).st_uid != user_of(self.pid):
             return "its record may have been written by another user"
         if len(self.data) < RANKS_AT or self.data[:8] != MAGIC:
             return "its record isn't whole, or of another version of cmh_mpi.so"
@@ -158,27 +143,29 @@ class Rank:
     def again(self, start: int, size: int) -> bytes:
         """Returns a part of the file as it is now."""
         with contextlib.suppress(OSError):
-            return os.pread(self.file.fileno(), size, start)
+            return at(self.handle, size, start)
         return b""
 
     def comms(self) -> List[Row]:
         """Returns its communicators and files by their places, up to the last one that has been taken."""
         rows = [self.comm(place) for place in range(COMMS)]
         used = [place for place, row in enumerate(rows) if row.pop("is_used")]
-        return rows[:used[-1] + 1]
+        return rows[:used[-1] + 1] if used else []
 
     def comm(self, place: int) -> Row:
         handle, own_id, number, parent, made, size, rank, is_inter, root, *rest = COMM.unpack_from(
             self.data, HEAD.size + place * COMM.size)
-        locks, names = rest[:3], [text_of(rest[-LAST:][(number - back) % LAST]) for back in range(LAST)]
+        locks, names = rest[:3], [name_in(rest[-LAST:][(number - back) % LAST]) for back in range(LAST)]
         row: Row = {"id": f"{own_id:x}" if handle else "0", "number": number, "size": size, "rank": rank,
                     "inter": is_inter, "root": root, "name": names[0], "parent": f"{parent:x}", "made": made,
                     "is_used": handle or made or size}
         row.update({"past": names[1:number]} if number > 1 else {})
         row.update(zip(("held", "target", "alone"), locks) if locks[0] else {})
-        ranks = self.again(RANKS_AT + 4 * place * self.numbers["size"], 4 * size) if handle and size else b""
-        numbers = [word[0] for word in struct.iter_unpack("=i", ranks)] or None
-        return row if numbers == list(range(size)) else {**row, "ranks": numbers}
+        self.left -= max(0, size)
+        is_known = handle and 0 < size and self.left >= 0
+        ranks = self.again(RANKS_AT + 4 * place * self.numbers["size"], 4 * size) if is_known else b""
+        numbers = [word[0] for word in struct.iter_unpack("=i", ranks[:len(ranks) & ~3])] or None
+        return row if numbers and numbers == list(range(size)) else {**row, "ranks": numbers}
 
     def begun(self) -> List[List[Any]]:
         """Returns the messages that have been begun and aren't complete, as far as that is known: kind, communicator,
@@ -210,7 +197,7 @@ class Rank:
     def row_of(self, data: bytes) -> Row:
         sequence, calls, polls, caller, name, thread, _, requests, _ = RECORD.unpack_from(data)
         _, number, kind, comm, partner, tag = OPERATION.unpack_from(data, RECORD.size)
-        row: Row = {"thread": thread, "calls": calls, "polls": polls, "name": text_of(name), "kind": kind,
+        row: Row = {"thread": thread, "calls": calls, "polls": polls, "name": name_in(name), "kind": kind,
                     "caller": caller, "entered": sequence // 2}
         if kind in (ALL_OF, ANY_OF, POLL):
             row["requests"] = [self.request(data, place) for place in range(min(requests, OPEN))]
@@ -236,8 +223,12 @@ class Rank:
         """Whether a request is complete, as the library keeps it in its memory: 1 if it is."""
         if len(self.complete_at) != 1 or not handle:
             return None
-        with contextlib.suppress(OSError, OverflowError), open(f"/proc/{self.pid}/mem", "rb", buffering=0) as memory:
-            word = os.pread(memory.fileno(), 8, handle + self.complete_at[0])
+        with contextlib.suppress(OSError, OverflowError):
+            memory = open_kernel(f"/proc/{self.pid}/mem")
+            try:
+                word = os.pread(memory, 8, handle + self.complete_at[0])
+            finally:
+                os.close(memory)
             return int(int.from_bytes(word, sys.byteorder) == 1) if len(word) == 8 else None
         return None
 
@@ -245,15 +236,15 @@ class Rank:
 def row_of_rank(pid: int) -> Row:
     """Returns what is known of a rank at this moment."""
     path, fault = record_of(pid)
-    with contextlib.suppress(OSError), open(path, "rb", buffering=0) as file:
-        rank = Rank(pid, file)
+    with contextlib.suppress(OSError, struct.error), plain(path) as handle:  # (it may be cut off meanwhile)
+        rank = Rank(pid, handle)
         if not rank.fault:
             return row_of_record(rank)
         fault = rank.fault
-    if not os.path.exists(f"/proc/{pid}/stat"):
+    if not stat_of(f"/proc/{pid}"):
         return {"pid": pid, "ended": True}
-    match = RANK.search(slurp(f"/proc/{pid}/environ"))
-    return {"pid": pid, "fault": fault or "it has ended its record", **({"rank": int(match[1])} if match else {})}
+    number = rank_of(pid)
+    return {"pid": pid, "fault": fault or "it has ended its record", **({} if number is None else {"rank": number})}
 
 
 def row_of_record(rank: Rank) -> Row:
@@ -274,22 +265,16 @@ def row_of_record(rank: Rank) -> Row:
 
 def is_fortran(pid: int) -> Optional[bool]:
     """Whether a rank has loaded the Fortran part of its library, or None if that can't be read."""
-    maps = slurp(f"/proc/{pid}/maps").decode("utf-8", "replace")
+    maps = text_of(f"/proc/{pid}/maps", MOST_MAPS)
     return FORTRAN.search(maps) is not None if maps else None
-
-
-def threads_of(pid: int) -> List[int]:
-    with contextlib.suppress(OSError):
-        return sorted(map(int, os.listdir(f"/proc/{pid}/task")))
-    return []
 
 
 def stat_of_thread(pid: int, tid: int) -> Row:
     """Returns a thread: its number as it sees itself, its state, and the call of the kernel that it is in."""
     folder = f"/proc/{pid}/task/{tid}"
-    fields, call = stat_of(f"{folder}/stat"), slurp(f"{folder}/syscall").split()
+    fields, call = stat_of(folder), text_of(f"{folder}/syscall").split()
     row: Row = {"tid": tid, "inner": inner_number(folder, tid), "state": fields[0] if fields else "X",
-                "called": text_of(slurp(f"{folder}/comm").strip()), "switches": switches_of(folder)}
+                "called": name_in(bytes_of(f"{folder}/comm").strip()), "switches": switches_of(folder)}
     if len(fields) > 12:
         row["used"] = sum(map(int, fields[11:13])) / os.sysconf("SC_CLK_TCK")  # seconds of processor time
     if len(call) > 6 and call[0].isdigit():
@@ -299,7 +284,7 @@ def stat_of_thread(pid: int, tid: int) -> Row:
 
 def switches_of(folder: str) -> int:
     """Returns how often a thread has given up its processor, or lost it: not at all during one wait."""
-    return sum(map(int, re.findall(rb"^(?:non)?voluntary_ctxt_switches:\s*(\d+)$", slurp(f"{folder}/status"), re.M)))
+    return sum(int(word) for key in SWITCHES for word in status_of(folder, key))
 
 
 def name_of_call(number: int, words: Sequence[int]) -> str:
@@ -325,7 +310,7 @@ def add_places(rows: Sequence[Row]) -> None:
     places: Dict[Tuple[int, int], Tuple[str, int]] = {}
     for row in rows:
         callers = {thread["caller"] for thread in row.get("threads", ()) if thread.get("caller")}
-        for caller, place in zip(callers, files_of(row["pid"], callers) if callers else ()):
+        for caller, place in zip(callers, mapped_files(row["pid"], callers) if callers else ()):
             places[row["pid"], caller] = place
             wanted.setdefault(place[0], set()).add(place[1])
     names = {path: lines_of(path, sorted(addresses)) for path, addresses in wanted.items() if path}
@@ -336,10 +321,10 @@ def add_places(rows: Sequence[Row]) -> None:
                 thread["place"] = names[path].get(offset) or [f"{os.path.basename(path)}+{offset:#x}"]
 
 
-def files_of(pid: int, addresses: Set[int]) -> Iterator[Tuple[str, int]]:
+def mapped_files(pid: int, addresses: Set[int]) -> Iterator[Tuple[str, int]]:
     """Yields for each address of a process the file that is mapped there, and the address within that file."""
     rows = re.findall(r"^([0-9a-f]+)-([0-9a-f]+) \S+ ([0-9a-f]+) \S+ \d+ +(/.*)$",
-                      slurp(f"/proc/{pid}/maps").decode("utf-8", "replace"), re.M)
+                      text_of(f"/proc/{pid}/maps", MOST_MAPS), re.M)
     bases = {path: int(start, 16) for start, _, offset, path in reversed(rows) if not int(offset, 16)}
     for address in addresses:
         path = next((row[3] for row in rows if int(row[0], 16) <= address < int(row[1], 16)), "")
@@ -348,8 +333,8 @@ def files_of(pid: int, addresses: Set[int]) -> Iterator[Tuple[str, int]]:
 
 def is_moved(path: str) -> bool:
     """Whether a file of code may lie anywhere in memory."""
-    with contextlib.suppress(OSError), open(path, "rb") as file:
-        return file.read(18)[16:17] == b"\3"
+    with contextlib.suppress(OSError):
+        return head(path, 18)[16:17] == b"\3"
     return False
 
 
@@ -364,10 +349,10 @@ def lines_of(path: str, addresses: Sequence[int]) -> Dict[int, List[Any]]:
     if command is None:
         return {}
     words = [command, "-f", "-C", "-e", path, *map(hex, addresses)]
-    with contextlib.suppress(OSError, subprocess.TimeoutExpired):
-        ran = subprocess.run(words, stdin=subprocess.DEVNULL, capture_output=True, timeout=20, check=False)
-        lines = ran.stdout.decode("utf-8", "replace").split("\n")
-        return dict(zip(addresses, map(place_of, lines[::2], lines[1::2])))
+    with contextlib.suppress(OSError), plain(path):
+        ran = run(words, most=MOST_LINES, resident=BUDGET.size * 3 // 4, seconds=20)
+        lines = ran.output.decode("utf-8", "replace").split("\n")
+        return {} if ran.why else dict(zip(addresses, map(place_of, lines[::2], lines[1::2])))
     return {}
 
 
@@ -400,7 +385,7 @@ def state(words: Sequence[str], seconds: float, looks: int) -> str:
     if not pids:
         raise LookupError(f"no process of {' '.join(words)} here has a rank that this user can see")
     rows: List[Row] = [{"version": 1, "host": os.uname().nodename,
-                        "space": f"{os.uname().nodename} {os.readlink('/proc/self/ns/pid')}"}]
+                        "space": f"{os.uname().nodename} {link_of('/proc/self/ns/pid')}"}]
     rows += reading(pids, 1)
     for number in range(2, looks + 1):
         time.sleep(seconds)

@@ -12,25 +12,26 @@ it.
 from __future__ import annotations
 
 import argparse
-import contextlib
-import itertools
 import json
 import os
 import platform
 import re
 import shutil
-import subprocess
 import sys
-import threading
 import time
-from typing import Any, Dict, Iterator, List, Sequence, Tuple, Type, Union
+from typing import Any, Dict, List, Sequence, Tuple, Type, Union
 
 from cmh_linux.calls import calls_of
+from cmh_proc.budget import BUDGET
+from cmh_proc.process import link_of, stat_of, text_of, threads_of
+from cmh_proc.programs import Limits, Session, heed_signals, run
 
 Row = Dict[str, Any]
 
 LOOK = 0.25  # seconds in which it is measured who computes
 PATIENCE = 120  # seconds for one process
+MOST, MEMORY = 32 << 20, BUDGET.size * 3 // 4  # bytes of its stacks, and of the memory of what reads them
+BOTH = ["sh", "-c", 'exec "$@" 2>&1', "sh"]  # what gdb says of faults stands where it says it
 PY_SPY = ["py-spy", "dump", "--nonblocking", "--json", "--pid"]
 GDB = ["gdb", "-nx", "-q", *(word for setting in ("width 0", "height 0", "confirm off", "prompt")
                              for word in ("-iex", f"set {setting}"))]
@@ -85,26 +86,17 @@ Walk()
 NEEDS = {"py-spy": "pip install py-spy, or take gdb", "gdb": "apt-get install gdb python3-dbg, or take py-spy"}
 
 
-def slurp(path: str) -> str:
-    """Returns what a file has, or nothing if it can't be read."""
-    try:
-        with open(path, encoding="utf-8", errors="replace") as file:
-            return file.read()
-    except OSError:
-        return ""
-
-
 def counts_of(pid: int) -> Dict[str, Row]:
     """Returns for each thread how often it has stopped to wait, its nanoseconds of processor time, its state and its
     call of the kernel."""
     counts: Dict[str, Row] = {}
-    for tid in os.listdir(f"/proc/{pid}/task") if os.path.isdir(f"/proc/{pid}/task") else []:
+    for tid in threads_of(pid):
         folder = f"/proc/{pid}/task/{tid}"
-        status, spent, call = (slurp(f"{folder}/{name}") for name in ("status", "schedstat", "syscall"))
+        status, spent, call = (text_of(f"{folder}/{name}") for name in ("status", "schedstat", "syscall"))
         stops = re.search(r"^State:\s*(\w)(?:.*\n)*?voluntary_ctxt_switches:\s*(\d+)", status, re.M)
         if stops and spent:
-            counts[tid] = {"state": stops[1], "stops": int(stops[2]), "spent": int(spent.split()[0]),
-                          **named(call.split())}
+            counts[str(tid)] = {"state": stops[1], "stops": int(stops[2]), "spent": int(spent.split()[0]),
+                                **named(call.split())}
     return counts
 
 
@@ -127,13 +119,13 @@ class PySpy:
     def body_of(self, pid: int) -> str:
         """Returns what it prints of a process, also if it fails."""
         try:
-            ran = subprocess.run([*PY_SPY, str(pid)], stdin=subprocess.DEVNULL, capture_output=True, timeout=PATIENCE,
-                                 check=False)
-        except subprocess.TimeoutExpired:
-            return f"py-spy hasn't ended within {PATIENCE} s"
+            ran = run([*PY_SPY, str(pid)], most=MOST, resident=MEMORY, seconds=PATIENCE)
         except OSError as error:
-            return f"py-spy: {error.strerror}"
-        return (ran.stdout or ran.stderr).decode("utf-8", "replace")
+            return f"py-spy: {error.strerror or error}"
+        return f"py-spy: {ran.why}" if ran.why else (ran.output or ran.errors).decode("utf-8", "replace")
+
+    def close(self) -> None:
+        """None is left."""
 
 
 class Gdb:
@@ -144,36 +136,24 @@ class Gdb:
 
     def __init__(self) -> None:
         self.program = ""
-        self.gdb = subprocess.Popen(GDB, stdin=subprocess.PIPE, stdout=subprocess.PIPE, stderr=subprocess.STDOUT)
+        self.gdb = Session([*BOTH, *GDB], Limits(MOST, MEMORY, PATIENCE))
 
     def load(self, pid: int) -> None:
         """Begins to read the symbols of a process's program."""
-        program = os.path.realpath(f"/proc/{pid}/exe")
-        if program != self.program:
-            self.tell(f"file {program}", f"python exec({WALK!r})")
+        program = link_of(f"/proc/{pid}/exe")
+        if program != self.program and program.isprintable():
+            self.gdb.tell(f"file {program}\npython exec({WALK!r})\n".encode())
             self.program = program
-
-    def tell(self, *commands: str) -> None:
-        assert self.gdb.stdin
-        with contextlib.suppress(BrokenPipeError):
-            self.gdb.stdin.write("".join(f"{command}\n" for command in commands).encode())
-            self.gdb.stdin.flush()
 
     def body_of(self, pid: int) -> str:
         """Returns what it prints of a process, also if it fails."""
-        self.tell(f"with debug-file-directory /nonexistent -- attach {pid}", "python LINES.clear()",
-                  "thread apply all cmh-bt", "detach", f"echo \\n{END}\\n")
-        timer = threading.Timer(PATIENCE, self.gdb.kill)
-        timer.start()
-        body = "".join(self.lines())
-        timer.cancel()
-        return body or f"gdb has ended, or hasn't done it within {PATIENCE} s"
+        commands = [f"with debug-file-directory /nonexistent -- attach {pid}", "python LINES.clear()",
+                    "thread apply all cmh-bt", "detach", f"echo \\n{END}\\n", ""]
+        body = self.gdb.ask("\n".join(commands).encode(), f"\n{END}\n".encode(), pid)
+        return f"gdb: {self.gdb.why}" if self.gdb.why else body.decode("utf-8", "replace") or "gdb has ended"
 
-    def lines(self) -> Iterator[str]:
-        """Yields what it prints until it has done all."""
-        assert self.gdb.stdout
-        lines = (line.decode("utf-8", "replace") for line in self.gdb.stdout)
-        return itertools.takewhile(lambda line: line != f"{END}\n", lines)
+    def close(self) -> None:
+        self.gdb.close()
 
 
 Tool = Union[PySpy, Gdb]
@@ -192,8 +172,9 @@ def state_of(tool: Tool, pid: int, first: Dict[str, Row]) -> Tuple[str, Dict[str
     threads = {tid: {**with_call(later[tid], first.get(tid, {})), "stops": count["stops"],
                      "spent": later[tid]["spent"] - before[tid]["spent"]}
                for tid, count in counts.items() if tid in before and tid in later}
-    head: Row = {"version": 1, "pid": pid, "by": tool.name, "name": slurp(f"/proc/{pid}/comm").strip(), "seconds": LOOK,
-                 "host": os.uname().nodename, "space": f"{os.uname().nodename} {os.readlink('/proc/self/ns/pid')}",
+    name = text_of(f"/proc/{pid}/comm").strip()
+    head: Row = {"version": 1, "pid": pid, "by": tool.name, "name": name, "seconds": LOOK,
+                 "host": os.uname().nodename, "space": f"{os.uname().nodename} {link_of('/proc/self/ns/pid')}",
                  "began": began, "ended": time.time(), "threads": threads}
     text = body if body.endswith("\n") else f"{body}\n"
     return f"cmh-python {json.dumps(head)}\n{text}cmh-python {json.dumps({'end': pid})}\n", later
@@ -209,12 +190,15 @@ def with_call(row: Row, first: Row) -> Row:
 def state(way: str, pids: Sequence[int], seconds: float) -> str:
     """Returns both states of some processes. Raises LookupError if one isn't there."""
     for pid in pids:
-        if not os.path.isdir(f"/proc/{pid}"):
+        if not stat_of(f"/proc/{pid}"):
             raise LookupError(f"there is no process {pid}")
     tool = TOOLS[way]()
-    states = [state_of(tool, pid, {}) for pid in pids]
-    time.sleep(max(0.0, seconds - LOOK))
-    states += [state_of(tool, pid, counts) for pid, (_, counts) in zip(pids, tuple(states))]
+    try:
+        states = [state_of(tool, pid, {}) for pid in pids]
+        time.sleep(max(0.0, seconds - LOOK))
+        states += [state_of(tool, pid, counts) for pid, (_, counts) in zip(pids, tuple(states))]
+    finally:
+        tool.close()
     return "".join(text for text, _ in states)
 
 
@@ -238,4 +222,5 @@ def main() -> int:
 
 
 if __name__ == "__main__":
+    heed_signals()
     sys.exit(main())

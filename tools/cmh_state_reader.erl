@@ -3,9 +3,12 @@
 -module(cmh_state_reader).
 -export([print/2, print/3, read/4]).
 
-%% Messages are copied to be read. So a mailbox of as many isn't read, nor one of a process with as many bytes.
--define(MESSAGES, 1000).
+%% Messages are copied to be read, which holds their process. So those of one with as many bytes aren't read, nor of one
+%% with more than a few messages and as many bytes, nor as many messages.
 -define(MEMORY, 128 * 1024 * 1024).
+-define(FEW, 1000).
+-define(MEMORY_OF_MANY, 16 * 1024 * 1024).
+-define(MESSAGES, 50000).
 %% So many characters of a message are printed, references before anything long.
 -define(CHARACTERS, 2000).
 %% A process stands still while its stack is printed. Each word of it may print as many terms, and ten million of these
@@ -13,8 +16,11 @@
 -define(WORDS, 1000).
 -define(TERMS_OF_WORD, 100000).
 -define(TERMS, 10000000).
-%% So many terms of a mailbox and a dictionary are searched for references, and so many references and pids are printed.
--define(SEARCHED, 100000).
+%% So many terms of a mailbox and a dictionary are searched for references, and so many of these are printed, as many
+%% as its messages may have.
+-define(SEARCHED, 2000000).
+-define(REFERENCES, 100000).
+%% So many references and pids on a stack, and rows of a table, are printed.
 -define(FOUND, 1000).
 %% Of so many modules the code is looked at for the limits of their receives, and of none with as many bytes.
 -define(MODULES, 100).
@@ -468,7 +474,7 @@ info(P) ->
         undefined -> undefined;
         [{_, Messages}, {_, Memory}, {_, Words}] ->
             Long = [dictionary || Memory >= ?MEMORY]
-                ++ [messages || Memory >= ?MEMORY orelse Messages >= ?MESSAGES]
+                ++ [messages || not is_short_mail(Messages, Memory)]
                 ++ [backtrace || not is_short(Words, Memory)],
             process_info(P, ?ITEMS -- Long)
     end.
@@ -476,6 +482,9 @@ info(P) ->
 %% A server that waits for requests has its state alone on its stack. Of that the references and pids are printed.
 is_loop({Module, Function, _}) ->
     lists:member({Module, Function}, [{gen_server, loop}, {gen_statem, loop_receive}, {gen_event, fetch_msg}]).
+
+is_short_mail(Messages, Memory) when Messages < ?FEW -> Memory < ?MEMORY;
+is_short_mail(Messages, Memory) -> Messages < ?MESSAGES andalso Memory < ?MEMORY_OF_MANY.
 
 is_short(Words, Memory) -> Words < ?WORDS andalso Words * min(Memory div 8, ?TERMS_OF_WORD) < ?TERMS.
 
@@ -563,7 +572,7 @@ kept(Info) ->
 kept_lines(nomatch, _) -> "";
 kept_lines(_, Stack) ->
     case re:run(Stack, ?SIGNS, [global, {capture, first, binary}]) of
-        {match, Found} when length(Found) < ?SEARCHED ->
+        {match, Found} when length(Found) < ?REFERENCES ->
             Text = without_empty(iolist_to_binary([Sign || [Sign] <- Found, not is_text(Sign)])),
             [io_lib:format("{kept,~ts}~n", [Text]) || byte_size(Text) < ?CHARACTERS * 10];
         _ -> ""
@@ -770,7 +779,7 @@ on_stack(Info, Form) ->
     end.
 
 %% The references in some terms, or cut if they are too large or too many.
-search([], _, Found) when map_size(Found) =< ?FOUND -> maps:keys(Found);
+search([], _, Found) when map_size(Found) =< ?REFERENCES -> maps:keys(Found);
 search(Terms, Left, _) when Terms =:= []; Left =< 0 -> cut;
 search([Term | Terms], Left, Found) when is_reference(Term) -> search(Terms, Left - 1, Found#{Term => true});
 search([[Head | Tail] | Terms], Left, Found) -> search([Head, Tail | Terms], Left - 1, Found);

@@ -6,7 +6,7 @@ import types
 
 from .ends import CANCELLING, CANCELS, CODES, WAKES, from_step, reached
 from .handles import factory_of, foreign_name, handles_by_kind, protocol_of, readers_of, timers_of
-from .objects import CALLED, LIBRARIES, functions_of, is_a, is_library_module, plain_name, unwrapped
+from .objects import CALLED, functions_of, is_a, is_library_module, is_looked_into, plain_name, unwrapped
 from .reach import NEAR, attributes_in, inside_function, spread
 
 TYPE_CHECKING = False
@@ -21,7 +21,7 @@ def called_for(handle: Thing) -> List[Thing]:
     values = [handle._callback, *(handle._args or ())]
     kinds = [type(getattr(getattr(value, "__self__", None), "_protocol", None)) for value in values]
     inner = [part for value in values if type(value) is types.FunctionType for part in inside_function(value)]
-    return spread([*values, *kinds, *inner])
+    return [*values, *kinds, *inner]
 
 
 def callers_of(loop: Thing) -> Dict[str, bool]:
@@ -55,7 +55,7 @@ def caller_name(kind: str, handle: Thing) -> Optional[str]:
         return f"server {name_of_factory(factory)}"
     if kind and (foreign_name(callback, kind == "timer") or kind == "signal"):
         return f"{kind} {plain_name(callback)}"
-    is_own = protocol is not None and not LIBRARIES.match(type(protocol).__module__)
+    is_own = protocol is not None and not is_looked_into(type(protocol).__module__)
     return f"connection {plain_name(type(protocol))}" if kind == "reader" and is_own else None
 
 

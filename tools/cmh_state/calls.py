@@ -7,12 +7,13 @@ import types
 
 from .bytecode import arguments_of, is_block, is_call, is_subscript, loads_in, names_of, start_of_call
 from .objects import Method, item_of, step_into
+from .pace import once_each
 from .values import describe
 
 TYPE_CHECKING = False
 if TYPE_CHECKING:
     from typing import List, Optional, Tuple
-    from .objects import Frame, Row, Step, Steps, Thing
+    from .objects import Code, Frame, Row, Step, Steps, Thing
     Called = Tuple[List[str], Thing, Thing]  # the words of what is called, its object, and itself
 
 
@@ -50,10 +51,15 @@ def called_at(frame: Frame, steps: Steps) -> Called:
     return words, owner, value
 
 
+@once_each
+def steps_of(code: Code) -> Steps:
+    return list(dis.get_instructions(code))
+
+
 def place_of_call(frame: Frame) -> Tuple[Steps, Optional[int], Optional[int], Optional[Called]]:
     """The steps of a frame, and of the call that it is in: its place, that of its arguments, and what it calls. None if
     it is in no call, and without a place if its last step isn't known."""
-    steps = list(dis.get_instructions(frame.f_code))
+    steps = steps_of(frame.f_code)
     here = next((place for place, step in enumerate(steps) if step.offset == frame.f_lasti), None)
     if here is None or not is_call(steps[here].opname):
         return steps, here, None, None

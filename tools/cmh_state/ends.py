@@ -11,9 +11,9 @@ import weakref
 from .bytecode import ATTRIBUTES, all_names, is_in_loop, names_ahead, shared_names
 from .frames import is_own
 from .locks import inside, kept_in, taken_in
-from .objects import (CALLED, PACKAGES, attributes_of, cells_in, coroutines_of, is_foreign, is_library,
-                      is_library_module, wrapped_in)
-from .reach import NEAR, add_owners, called_later, named_by, spread
+from .objects import PACKAGES, attributes_of, cells_in, coroutines_of, is_library, is_library_module, wrapped_in
+from .pace import PACE
+from .reach import MEANT, NEAR, Found, called_later
 
 TYPE_CHECKING = False
 if TYPE_CHECKING:
@@ -21,7 +21,8 @@ if TYPE_CHECKING:
     from .objects import Attributes, Frame, Row, Stack, Thing
     from .locks import Taken
     from .reach import Owners
-    Ways = List[Tuple[FrozenSet[str], Tuple[Attributes, ...]]]  # names in code, and where they are looked up
+    # Names in code, and where they are looked up: in variables, as globals, and in what methods may find in `self`.
+    Ways = List[Tuple[FrozenSet[str], Attributes, Attributes, Iterable[Tuple[Thing, Attributes]]]]
 
 # Names by which a task or a future ends, or by which somebody else may begin the work that a pool keeps.
 CANCELS = {"cancel", "all_tasks", "set_result", "set_exception", "shutdown", "_work_queue", "_threads_queues",
@@ -58,34 +59,32 @@ def reached(words: Set[str], frames: Stack, start_of: Callable[[Frame], int], ca
             methods: AbstractSet[str] = frozenset(), far: int = NEAR + 1) -> Iterator[str]:
     """Yields those of some names that the code of frames of the program from a step on has, or functions that this
     names, so many steps far, or that will be called. Yields too those of some methods that this code names."""
-    ways: Ways = [(names_ahead(frame.f_code, start_of(frame)), (dict(frame.f_locals), frame.f_globals))
+    ways: Ways = [(names_ahead(frame.f_code, start_of(frame)), dict(frame.f_locals), frame.f_globals, ())
                   for frame, _ in frames if is_own(frame)]
     own = [names_ahead(frame.f_code, start_of(frame), ATTRIBUTES) for frame, _ in frames if is_own(frame)]
-    values = [*called, *called_later(frames)]
+    found = Found()
+    found.spread([*called, *called_later(frames)])
     seen: Set[types.FunctionType] = set()
-    owners: Owners = {}
     for _ in range(far):
-        values += [value for names, places in ways for value in named_by(names, places)]
-        add_owners(owners, values)
-        names = {value.__name__ for value in values if type(value) in CALLED}
-        yield from words.intersection(names.union(*(names for names, _ in ways)))
+        for way in ways:
+            MEANT.add(found, *way)
+        yield from words.intersection(found.names.union(*(way[0] for way in ways)))
         yield from methods & frozenset().union(*own)
-        new = {value for value in values if type(value) is types.FunctionType and is_foreign(value)} - seen
+        new = found.functions - seen
         seen |= new
         LEFT["codes"] -= len(new)
         if LEFT["codes"] < 0:
             yield from words
-        if LEFT["codes"] < 0 or not (new or values):
+        if LEFT["codes"] < 0 or not new:
             return
-        ways = [(names_ahead(function.__code__, 0),
-                 (cells_in(function), function.__globals__, *objects_of(function, owners))) for function in new]
+        ways = [(names_ahead(function.__code__, 0), cells_in(function), function.__globals__,
+                 objects_of(function, found.owners)) for function in new]
         own = [shared_names(function.__code__) for function in new]
-        values = []
 
 
-def objects_of(function: types.FunctionType, owners: Owners) -> Iterable[Attributes]:
-    """The attributes of the objects of which a function is a method."""
-    return owners.get(function.__qualname__.rpartition(".")[0], {}).values()
+def objects_of(function: types.FunctionType, owners: Owners) -> List[Tuple[Thing, Attributes]]:
+    """The objects of which a function is a method, with their attributes."""
+    return list(owners.get(function.__qualname__.rpartition(".")[0], {}).values())
 
 
 def from_step(frame: Frame) -> int:
@@ -99,7 +98,7 @@ def from_start(frame: Frame) -> int:
 
 def may_cancel(frames: Stack, called: Iterable[Thing] = ()) -> bool:
     """Whether these frames may still come to what ends the wait for a task or a future of others."""
-    return any(reached(CANCELS, frames, from_step, [*called, *spread(finalized())], CANCELLING))
+    return any(reached(CANCELS, frames, from_step, [*called, *finalized()], CANCELLING))
 
 
 def find_cancelling() -> None:
@@ -144,6 +143,7 @@ def functions_by_name() -> Dict[str, List[Thing]]:
             if not is_library_module(name)]
     kinds = set()
     while left:
+        PACE.give_way()
         name, value = left.pop()
         for part in (value, *wrapped_in(value)):
             if type(part) is types.FunctionType:

@@ -3,12 +3,12 @@ from __future__ import annotations
 
 import os
 
-from .objects import DEEP, LIBRARIES, classes_of, coroutines_of, letters_of
+from .objects import DEEP, classes_of, coroutines_of, is_looked_into, letters_of
 from .values import describe
 
 TYPE_CHECKING = False
 if TYPE_CHECKING:
-    from typing import Optional
+    from typing import List, Optional
     from .objects import Code, Frame, Row, Stack, Thing
 
 # The names of what a frame of the library waits for, and for how long.
@@ -55,14 +55,19 @@ def frame_row(frame: Frame, line: int) -> Row:
     return row
 
 
-def stack_of(frame: Optional[Frame]) -> Stack:
-    """The frames from the innermost on, each with its line. What stands outside of the first one of a child that was
-    forked is its parent's, such as an event loop: nobody comes back to it."""
-    frames: Stack = []
+def frames_from(frame: Optional[Frame]) -> List[Frame]:
+    """The frames from the innermost on. What stands outside of the first one of a child that was forked is its
+    parent's, such as an event loop: nobody comes back to it."""
+    frames: List[Frame] = []
     while frame is not None and len(frames) < DEEP:
-        frames.append((frame, frame.f_lineno))
+        frames.append(frame)
         frame = frame.f_back if not is_first_of_child(frame) else None
     return frames
+
+
+def stack_of(frame: Optional[Frame]) -> Stack:
+    """The frames from the innermost on, each with its line."""
+    return [(each, each.f_lineno) for each in frames_from(frame)]
 
 
 def is_first_of_child(frame: Frame) -> bool:
@@ -76,4 +81,4 @@ def chain_of(coroutine: Thing) -> Stack:
 
 
 def is_own(frame: Frame) -> bool:
-    return not LIBRARIES.match(frame.f_globals.get("__name__") or "")
+    return not is_looked_into(frame.f_globals.get("__name__") or "")

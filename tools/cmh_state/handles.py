@@ -3,12 +3,13 @@ from __future__ import annotations
 
 import contextlib
 import functools
+import sys
 
 from .objects import callback_name, callbacks_of, is_a, is_work
 
 TYPE_CHECKING = False
 if TYPE_CHECKING:
-    from typing import List, Set, Tuple
+    from typing import List, Optional, Set, Tuple
     from .objects import Stack, Thing
 
 
@@ -18,6 +19,12 @@ def running_loop(frames: Stack) -> Thing:
         if frame.f_code.co_name == "run_forever" and frame.f_globals.get("__name__") == "asyncio.base_events":
             return frame.f_locals.get("self")
     return None
+
+
+def current_of(loop: Thing) -> Optional[str]:
+    """The task that has a loop's thread now, or None."""
+    task = sys.modules["asyncio"].current_task(loop) if "asyncio" in sys.modules else None
+    return hex(id(task)) if task is not None else None
 
 
 def timers_of(loop: Thing) -> List[Thing]:

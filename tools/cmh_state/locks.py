@@ -11,19 +11,34 @@ from .bytecode import blocks_at, stored_in
 from .calls import called_at, first_in
 from .frames import is_own
 from .objects import CALLED, Method, functions_of, is_a, is_library_module, is_semaphore
+from .pace import once_each
 from .values import LOCK
 
 TYPE_CHECKING = False
 if TYPE_CHECKING:
-    from typing import FrozenSet, Iterable, List, Set, Tuple
-    from .objects import Frame, Steps, Thing
+    from typing import FrozenSet, Iterable, List, Tuple
+    from .objects import Attributes, Frame, Steps, Thing
     Taken = List[Tuple[Thing, bool]]
 
 
-def stored_elsewhere(names: Set[str], functions: Iterable[Thing]) -> bool:
-    """Whether one of some functions but `__init__` stores another one's variable or an attribute of such a name."""
-    return any(not names.isdisjoint(stored_in(function.__code__, -1, True)) for function in functions
-               if type(function) is types.FunctionType and function.__name__ != "__init__")
+def stored_by(functions: Iterable[Thing]) -> FrozenSet[str]:
+    """The names by which some functions but `__init__` store another one's variable or an attribute."""
+    return frozenset().union(*(stored_in(function.__code__, -1, True) for function in functions
+                               if type(function) is types.FunctionType and function.__name__ != "__init__"))
+
+
+@once_each
+def stored_by_module(names: Attributes) -> FrozenSet[str]:
+    """The same of the functions of a module that has these names, and of its classes."""
+    others = [other for other in list(names.values())
+              if issubclass(type(other), (type, types.FunctionType)) and other.__module__ == names.get("__name__")]
+    return stored_by(other for other in functions_of(others)
+                     if not is_library_module(str(getattr(other, "__module__", ""))))
+
+
+@once_each
+def stored_by_class(kind: type) -> FrozenSet[str]:
+    return stored_by(functions_of([kind]))
 
 
 def taken_in(frame: Frame) -> Taken:
@@ -40,12 +55,8 @@ def taken_by(frame: Frame, steps: Steps, stored: FrozenSet[str]) -> Tuple[Thing,
     loads = [step for step in steps if step.opname.startswith("LOAD_") and type(step.argval) is str]
     names = {step.argval for step in loads}
     shared = {step.argval for step in loads if not step.opname.startswith("LOAD_FAST")}
-    module = frame.f_globals.get("__name__")
-    others = [other for other in list(frame.f_globals.values())
-              if issubclass(type(other), (type, types.FunctionType)) and other.__module__ == module]
-    others = [other for other in functions_of(others) if not is_library_module(str(getattr(other, "__module__", "")))]
-    others = [*others, *functions_of([type(owner)])] if is_own(frame) else []
-    return value, names.isdisjoint(stored) and not stored_elsewhere(shared, others)
+    others = stored_by_module(frame.f_globals) | stored_by_class(type(owner)) if is_own(frame) else frozenset()
+    return value, names.isdisjoint(stored) and shared.isdisjoint(others)
 
 
 def is_harmless(value: Thing) -> bool:

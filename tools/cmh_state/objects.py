@@ -12,6 +12,8 @@ import sys
 import threading
 import types
 
+from .pace import once_each
+
 TYPE_CHECKING = False
 if TYPE_CHECKING:
     import dis
@@ -34,6 +36,9 @@ CALLED = (types.FunctionType, types.BuiltinFunctionType, types.MethodType)
 ROWS = (list, tuple, set, frozenset, collections.deque)
 PACKAGES = re.compile(r"[/\\](site|dist)-packages[/\\]")
 DEEP = 2000  # frames of a stack at most
+WORDS = {"work": [("asyncio.tasks", "Task"), ("asyncio.futures", "Future"), ("concurrent.futures._base", "Future")],
+         "child": [("multiprocessing.process", "BaseProcess"), ("subprocess", "Popen")],
+         "pool": [("concurrent.futures.thread", "ThreadPoolExecutor")]}
 HEAP_TYPE = 1 << 9  # the flag of a class that code has made
 MRO = vars(type)["__mro__"]  # what has the classes of a class without code of its own metaclass
 
@@ -48,10 +53,23 @@ def classes_of(kind: type) -> Tuple[type, ...]:
     return classes
 
 
+@once_each
+def known_classes(_: type) -> Dict[Tuple[str, str], bool]:
+    """Which classes of modules a class derives from, as far as that has been asked."""
+    return {}
+
+
 def is_a(value: object, module: str, name: str) -> bool:
     """Whether a value is of a class of a module, if that module is loaded. No code of the job is run for it."""
-    kind = getattr(sys.modules.get(module), name, None)
-    return isinstance(kind, type) and issubclass(type(value), kind)
+    known, key = known_classes(type(value)), (module, name)
+    if key not in known:
+        known[key] = is_kind(type(value), module, name)
+    return known[key]
+
+
+def is_kind(kind: type, module: str, name: str) -> bool:
+    wanted = getattr(sys.modules.get(module), name, None)
+    return isinstance(wanted, type) and issubclass(kind, wanted)
 
 
 def is_semaphore(value: object) -> bool:
@@ -135,7 +153,12 @@ def functions_of(values: Iterable[Thing]) -> List[Thing]:
 
 def letters_of(coroutine: object) -> str:
     """How the attributes of a coroutine, a generator or an asynchronous generator begin, or nothing of others."""
-    kinds = classes_of(type(coroutine))
+    return letters_in(type(coroutine))
+
+
+@once_each
+def letters_in(kind: type) -> str:
+    kinds = classes_of(kind)
     names = {name for kind in kinds for name in ("cr_frame", "gi_frame", "ag_frame") if name in kind.__dict__}
     return min(names)[:2] if names else ""
 
@@ -153,12 +176,17 @@ def coroutines_of(coroutine: Thing) -> List[Thing]:
 
 
 def is_work(value: object) -> bool:
-    return is_a(value, "asyncio.tasks", "Task") or is_a(value, "asyncio.futures", "Future") or \
-        is_a(value, "concurrent.futures._base", "Future")
+    return word_of(type(value)) == "work"
 
 
 def is_child(value: object) -> bool:
-    return is_a(value, "multiprocessing.process", "BaseProcess") or is_a(value, "subprocess", "Popen")
+    return word_of(type(value)) == "child"
+
+
+@once_each
+def word_of(kind: type) -> str:
+    """What the objects of a class are, of what somebody waits for or ends: work, children, pools of threads."""
+    return next((word for word, names in WORDS.items() if any(is_kind(kind, *name) for name in names)), "")
 
 
 def kinds_of(values: Iterable[Thing]) -> List[Attributes]:
@@ -180,7 +208,13 @@ def attributes_of(value: object) -> Attributes:
 
 
 def is_foreign(function: Thing) -> bool:
-    return not LIBRARIES.match(function.__module__ or "")
+    return not is_looked_into(function.__module__ or "")
+
+
+@functools.lru_cache(maxsize=20000)
+def is_looked_into(module: str) -> bool:
+    """Whether the frames of a module are looked into."""
+    return LIBRARIES.match(module) is not None
 
 
 def cells_in(function: types.FunctionType) -> Dict[str, Thing]:

@@ -12,15 +12,16 @@ import time
 from . import say
 from .ends import CODES, LEFT, find_cancelling
 from .objects import callback_name, guarded, is_a, plain_name
-from .reach import Holders
+from .pace import PACE, forget
 from .tasks import forget_numbers, task_places, task_rows
-from .threads import counts_of, foreign_threads, has_foreign_timer, native_of, places, thread_rows
+from .threads import Threads, counts_of_all, foreign_threads, has_foreign_timer, places
 from .values import maps_of_semaphores, semaphore_of
 
 TYPE_CHECKING = False
 if TYPE_CHECKING:
-    from typing import Dict, List, Optional
+    from typing import Dict, List, Optional, Tuple
     from .objects import Row, Thing
+    from .tasks import Places as TaskPlaces
 
 MARK = "cmh-state "
 VERSION = 1
@@ -100,31 +101,44 @@ def process_name() -> str:
     return str(module.current_process().name) if module else "MainProcess"
 
 
+def line_of(row: Row) -> str:
+    return f"{MARK}{json.dumps(row)}\n"
+
+
+def second_look(threads: Threads, tasks_before: TaskPlaces) -> Tuple[List[str], Optional[int]]:
+    """The lines of all rows of a state, and how many queues these have, if that could be seen. Rows are made into text
+    one by one, as that holds nothing for the collector to look at."""
+    own, holders = {"of": os.getpid()}, threads.holders
+    lines = [line_of({**own, **row}) for row in threads.rows()]
+    tasks = guarded(lambda: [line_of({**own, **row}) for row in task_rows(threads.loops, tasks_before, holders)])
+    lines += tasks if isinstance(tasks, list) else [line_of({**own, **tasks})]
+    parts = [guarded(look) for look in (children_rows, taken_rows, queue_rows)]
+    lines += [line_of({**own, **row}) for part in parts for row in (part if isinstance(part, list) else [part])]
+    return lines, len(parts[-1]) if isinstance(parts[-1], list) else None
+
+
 def state(number: int = 0) -> str:
-    """The lines of a state, of this moment, which the signal of this number asked for. It takes two looks, between
-    which it sleeps."""
-    seconds = seconds_of("CMH_STATE_SECONDS", 0.25)
-    began = time.time()
+    """The lines of a state, which the signal of this number asked for. It takes two looks, between which it sleeps.
+
+    Each of them is taken in slices, between which the program runs. All first looks come before all second ones, so
+    there is a moment between the two at which each one stood at its wait that stood there at both: the state is of that
+    moment. Who was at another place, or at the same one for another time, has moved or counts differently."""
+    seconds, began = seconds_of("CMH_STATE_SECONDS", 0.25), time.time()
+    PACE.begin()
     forget_numbers()
-    LEFT["codes"] = CODES if guarded(find_cancelling) is None else -1
-    before, tasks_before = places(), guarded(task_places)
-    natives = {thread.ident: native_of(thread) for thread in threading.enumerate()}
-    spent = {ident: counts_of(native) for ident, native in natives.items()}
-    time.sleep(seconds)
-    holders = Holders()
-    threads, loops = thread_rows(before, spent, holders)
-    tasks = guarded(task_rows, loops, {} if "error" in tasks_before else tasks_before, holders)
-    more = [guarded(look) for look in (children_rows, taken_rows, queue_rows)]
-    rows = [*threads, *(tasks if isinstance(tasks, list) else [tasks]),
-            *(row for part in more for row in (part if isinstance(part, list) else [part]))]
-    queues = len(more[-1]) if isinstance(more[-1], list) else None
+    try:
+        LEFT["codes"] = CODES if guarded(find_cancelling) is None else -1
+        before, tasks_before, spent = places(), guarded(task_places), counts_of_all()
+        time.sleep(seconds)
+        lines, queues = second_look(Threads(before, spent), {} if "error" in tasks_before else tasks_before)
+    finally:
+        forget()
     head = {"version": VERSION, "queues": queues, "process": process_name(), "pid": os.getpid(), "parent": os.getppid(),
             "host": os.uname().nodename, "space": guarded(space), "reader": threading.get_native_id() if number else 0,
             "python": sys.version.split()[0], "time": time.strftime("%Y-%m-%dT%H:%M:%S"), "seconds": seconds,
             "began": began, "ended": time.time(), "signal": number, **guarded(alarm_row),
             "unseen": [name for name in OTHER_TASKS if name in sys.modules]}
-    rows = [{"of": os.getpid(), **row} for row in rows]
-    return "".join(f"{MARK}{json.dumps(row)}\n" for row in [head, *rows, {"end": os.getpid(), "rows": len(rows)}])
+    return "".join([line_of(head), *lines, line_of({"end": os.getpid(), "rows": len(lines)})])
 
 
 def seconds_of(name: str, default: float) -> float:

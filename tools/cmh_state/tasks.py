@@ -11,14 +11,14 @@ from .callers import arriving_in, callers_of, waking_timers
 from .connections import sockets_of_task
 from .ends import comes_back, inside_task, may_cancel, may_end
 from .frames import chain_of, frame_row
-from .handles import timed
+from .handles import current_of, timed
 from .objects import callbacks_of, cells_of, coroutines_of, guarded, is_a, is_standard
-from .reach import spread
+from .pace import PACE
 from .values import describe
 
 TYPE_CHECKING = False
 if TYPE_CHECKING:
-    from typing import Dict, List, Set, Tuple
+    from typing import Dict, Iterator, List, Optional, Set, Tuple
     from .objects import Row, Stack, Thing
     from .reach import Holders
     from .threads import Loops
@@ -91,31 +91,37 @@ def parent_of(task: Thing) -> Row:
 
 
 def task_row(task: Thing, timers: Set[int], before: Places, holders: Holders) -> Row:
-    waiter = getattr(task, "_fut_waiter", None)
+    """The row of a task. Others run meanwhile: one that has moved by its end goes on, whatever else its row has."""
     coroutine = task.get_coro()
     chain = chain_of(coroutine)
-    place = place_of(chain, waiter)
+    place = place_of(task, chain)
+    waiter = getattr(task, "_fut_waiter", None)
     callbacks = callbacks_of(task)
     sets = [cells_of(callback, "_chain_future.<locals>._call_set_state").get("destination") for callback in callbacks]
-    return {
+    row = {
         "task": hex(id(task)), "number": number_of(task), "name": task.get_name(), "loop": hex(id(task.get_loop())),
         "moved": id(task) in before and before[id(task)] != place, "wait": place[-1],
         "waits": describe(waiter), "limit": id(task) in timers or (waiter is not None and id(waiter) in timers),
         "sets": [hex(id(future)) for future in sets if future is not None], **parent_of(task),
         "holds": guarded(holders.held, chain), "ends": guarded(may_end, chain),
-        "cancels": guarded(may_cancel, chain, spread(callbacks)),
+        "cancels": guarded(may_cancel, chain, callbacks),
         **guarded(inside_task, coroutine), **guarded(completed_in, coroutine), **guarded(sockets_of_task, chain),
-        "again": guarded(comes_back, chain), "frames": [guarded(frame_row, *row) for row in chain]}
+        "again": guarded(comes_back, chain), "frames": [guarded(frame_row, *each) for each in chain]}
+    return {**row, "moved": row["moved"] or place_of(task, chain_of(task.get_coro())) != place}
 
 
 def task_places() -> Places:
     """Where each task stands, as it compares between two looks."""
-    return {id(task): place_of(chain_of(task.get_coro()), getattr(task, "_fut_waiter", None))
-            for task in tasks_of_all()}
+    found = {}
+    for task in tasks_of_all():
+        found[id(task)] = place_of(task, chain_of(task.get_coro()))
+        PACE.give_way()
+    return found
 
 
-def place_of(chain: Stack, waiter: Thing) -> List[Thing]:
-    """The steps of a chain of awaits, and at last the number of what its task waits for, or 0."""
+def place_of(task: Thing, chain: Stack) -> List[Thing]:
+    """The steps of a task's chain of awaits, and at last the number of what it waits for, or 0."""
+    waiter = getattr(task, "_fut_waiter", None)
     return [*((id(frame), frame.f_lasti) for frame, _ in chain), number_of(waiter) if waiter is not None else 0]
 
 
@@ -130,19 +136,24 @@ def asked_of(loop: Thing) -> List[Row]:
     return rows
 
 
-def task_rows(loops: Loops, before: Places, holders: Holders) -> List[Row]:
-    """A row for each task, and for each loop with the task that has its thread."""
+def task_rows(loops: Loops, before: Places, holders: Holders) -> Iterator[Row]:
+    """Yields a row for each task, and for each loop with the task that has its thread."""
     tasks = [task for task in tasks_of_all() if not task.done()]
     tasks.sort(key=lambda one: (len(one.get_name()), one.get_name()))
-    all_loops: Loops = {id(task.get_loop()): (task.get_loop(), None) for task in tasks}
+    all_loops: Loops = {id(task.get_loop()): (task.get_loop(), None, None) for task in tasks}
     all_loops.update(loops)
-    timers = {key: timed(loop) for key, (loop, _) in all_loops.items()}
-    rows = [guarded(task_row, task, timers[id(task.get_loop())], before, holders) for task in tasks]
-    for loop, ident in all_loops.values():
-        ident = ident or getattr(loop, "_thread_id", None)
-        task = sys.modules["asyncio"].current_task(loop) if "asyncio" in sys.modules else None
-        rows.append({"runs": hex(id(loop)), "thread": ident, "current": hex(id(task)) if task is not None else None,
-                     "callers": guarded(callers_of, loop), "waking": guarded(waking_timers, loop),
-                     "arriving": guarded(arriving_in, loop)})
-        rows += asked_of(loop)
-    return rows
+    timers = {key: timed(loop) for key, (loop, _, _) in all_loops.items()}
+    for task in tasks:
+        yield guarded(task_row, task, timers[id(task.get_loop())], before, holders)
+        PACE.give_way()
+    for loop, ident, current in all_loops.values():
+        yield loop_row(loop, ident, current)
+        yield from asked_of(loop)
+
+
+def loop_row(loop: Thing, ident: Optional[int], current: Thing) -> Row:
+    """The row of a loop, with the task that had its thread as that was looked at, if it was."""
+    ident, current = (ident, current) if ident is not None else (getattr(loop, "_thread_id", None), current_of(loop))
+    return {"runs": hex(id(loop)), "thread": ident, "current": current,
+            "callers": guarded(callers_of, loop), "waking": guarded(waking_timers, loop),
+            "arriving": guarded(arriving_in, loop)}

@@ -3,6 +3,7 @@ from __future__ import annotations
 
 import contextlib
 import os
+import re
 import sys
 import threading
 
@@ -10,44 +11,90 @@ from .callers import accepted_in
 from .calls import call_of
 from .connections import sockets_in
 from .ends import comes_back, inside_thread, may_cancel, may_end
-from .frames import frame_row, stack_of
-from .handles import running_loop
+from .frames import frame_row, frames_from, stack_of
+from .handles import current_of, running_loop
 from .objects import guarded
+from .pace import PACE
+from .reach import Holders
+from .values import THERE
 
 TYPE_CHECKING = False
 if TYPE_CHECKING:
-    from typing import Dict, List, Optional, Tuple
-    from .objects import Code, Row, Thing
-    from .reach import Holders
-    Places = Dict[int, List[Tuple[int, Code, int]]]  # where each thread stands
+    from typing import Dict, Iterable, Iterator, List, Optional, Tuple
+    from .objects import Code, Frame, Row, Stack, Thing
+    Place = List[Tuple[int, Code, int]]  # where a thread stands
+    Places = Dict[int, Place]
     Counts = Tuple[Optional[int], Optional[int], Optional[bool]]  # all or none are None
-    Loops = Dict[int, Tuple[Thing, Optional[int]]]  # by their ids, with the thread that runs one
+    # By their ids, with the thread that runs one, and the task that has it then.
+    Loops = Dict[int, Tuple[Thing, Optional[int], Thing]]
 
+LEAST, PARTS = 10, 30  # threads that are looked at together at least, and in how many parts all of them are at most
 UNKNOWN: Counts = (None, None, None)
+STOPS = re.compile(rb"^State:\s*(\S).*^voluntary_ctxt_switches:\s*(\d+)", re.M | re.S)
 SIGNALS = 0x7ffbfeff  # of the mask of blocked ones, but SIGKILL and SIGSTOP
 
 
+def frames_now() -> Dict[int, Frame]:
+    """The innermost frame of each thread but the one that looks. Its own would keep itself, and those of all threads,
+    until it is collected."""
+    frames = sys._current_frames()
+    del frames[threading.get_ident()]
+    THERE.clear()
+    THERE.update(frames)
+    return frames
+
+
+def place_of(frames: Iterable[Frame]) -> Place:
+    """Where a thread stands, as it compares between two looks."""
+    return [(id(frame), frame.f_code, frame.f_lasti) for frame in frames]
+
+
+def parts_of_all() -> List[List[int]]:
+    """The idents of all threads in parts, those of the oldest ones first. To look where one stands takes as long as to
+    look where all do, so there are few parts."""
+    idents = list(frames_now())[::-1]
+    size = max(LEAST, len(idents) // PARTS)
+    return [idents[start:start + size] for start in range(0, len(idents), size)]
+
+
 def places() -> Places:
-    """Where each thread stands, but for the one that looks, as it compares between two looks."""
-    own = threading.get_ident()
-    return {ident: [(id(frame), frame.f_code, frame.f_lasti) for frame, _ in stack_of(frame)]
-            for ident, frame in sys._current_frames().items() if ident != own}
+    """Where each thread stands."""
+    found = {}
+    for part in parts_of_all():
+        frames = frames_now()
+        found.update({ident: place_of(frames_from(frames.get(ident))) for ident in part})
+        PACE.give_way()
+    return found
 
 
 def native_of(thread: Optional[threading.Thread]) -> Optional[int]:
     """The number that the kernel has for a thread. A main thread that was forked may have its parent's still."""
     native, tasks = getattr(thread, "native_id", None), "/proc/self/task"
-    is_stale = native is not None and os.path.isdir(tasks) and not os.path.isdir(f"{tasks}/{native}")
-    return os.getpid() if is_stale and thread is threading.main_thread() else native
+    if thread is not threading.main_thread() or native is None:
+        return native
+    is_stale = os.path.isdir(tasks) and not os.path.isdir(f"{tasks}/{native}")
+    return os.getpid() if is_stale else native
 
 
 def counts_of(native: Optional[int]) -> Counts:
     """The nanoseconds of processor time of a thread, how often it has stopped to wait, and whether it sleeps in the
     kernel now. None where not shown."""
-    with contextlib.suppress(OSError, ValueError, LookupError), open(f"/proc/self/task/{native}/schedstat") as file:
-        spent, status = int(file.read().split()[0]), status_of(f"/proc/self/task/{native}")
-        return spent, int(status["voluntary_ctxt_switches"]), status["State"].split()[0] == "S"
+    folder = f"/proc/self/task/{native}"
+    with contextlib.suppress(OSError, ValueError, LookupError), open(f"{folder}/schedstat", "rb") as file:
+        spent = int(file.read().split()[0])
+        with open(f"{folder}/status", "rb") as status:
+            state, stops = STOPS.findall(status.read())[0]
+        return spent, int(stops), state == b"S"
     return UNKNOWN
+
+
+def counts_of_all() -> Dict[Optional[int], Counts]:
+    """The counts of all threads, by their idents."""
+    found = {}
+    for thread in threading.enumerate():
+        found[thread.ident] = counts_of(native_of(thread))
+        PACE.give_way()
+    return found
 
 
 def status_of(folder: str) -> Dict[str, str]:
@@ -67,30 +114,49 @@ def between(first: Counts, last: Counts) -> Row:
             "asleep": is_last_asleep and asleep}
 
 
-def thread_rows(before: Places, spent: Dict[Optional[int], Counts], holders: Holders) -> Tuple[List[Row], Loops]:
-    """A row for each thread, and the loops that they run."""
-    names, now = {each.ident: each for each in threading.enumerate()}, places()
-    rows: List[Row] = []
-    loops: Loops = {}
-    own = threading.get_ident()  # (whose frame here would keep itself, and those of all threads, until it is collected)
-    for ident, frame in [row for row in reversed(list(sys._current_frames().items())) if row[0] != own]:  # oldest first
-        frames, thread = stack_of(frame), names.get(ident)
-        native = native_of(thread)
-        call, shown = guarded(call_of, frame), [guarded(frame_row, *each) for each in frames]
-        counts = between(spent.get(ident, UNKNOWN), counts_of(native) if native else UNKNOWN)
-        loop = running_loop(frames)
+class Threads:
+    """The rows of threads, and the event loops that they run. Each row is taken between two looks at the place and at
+    the counts of its thread: so it has what was there while that stood at one wait, if it did."""
+
+    def __init__(self, before: Places, spent: Dict[Optional[int], Counts]) -> None:
+        self.before, self.spent, self.holders = before, spent, Holders()
+        self.names = {each.ident: each for each in threading.enumerate()}
+        self.loops: Loops = {}
+
+    def rows(self) -> Iterator[Row]:
+        """Yields the rows, those of the oldest threads first."""
+        for part in parts_of_all():
+            yield from self.rows_of(part)
+
+    def rows_of(self, part: List[int]) -> List[Row]:
+        frames = frames_now()
+        stacks = {ident: stack_of(frames[ident]) for ident in part if ident in frames}
+        places = {ident: place_of(frame for frame, _ in stack) for ident, stack in stacks.items()}
+        rows = [self.row(ident, stack) for ident, stack in stacks.items()]
+        now = frames_now()  # (while the frames above are kept, none has the id of another one)
+        return [self.row_after(row, places[row["thread"]], now.get(row["thread"])) for row in rows]
+
+    def row(self, ident: int, frames: Stack) -> Row:
+        """The row of a thread but for its counts, and whether it has moved."""
+        PACE.give_way()
+        thread, loop = self.names.get(ident), running_loop(frames)
         if loop is not None:
-            loops[id(loop)] = (loop, ident)
-        rows.append({
-            "thread": ident, "name": thread.name if thread else f"foreign-{ident}", "native": native,
+            self.loops[id(loop)] = (loop, ident, guarded(current_of, loop))
+        return {
+            "thread": ident, "name": thread.name if thread else f"foreign-{ident}", "native": native_of(thread),
             "daemon": thread.daemon if thread else True, "main": thread is threading.main_thread(),
-            "moved": before.get(ident) != now.get(ident), **counts, "holds": guarded(holders.held, frames),
-            "ends": guarded(may_end, frames),
+            "moved": None, "stops": None, "spent": None, "new_stops": None, "asleep": None,
+            "holds": guarded(self.holders.held, frames), "ends": guarded(may_end, frames),
             "cancels": guarded(lambda frames, loop: may_cancel(frames, accepted_in(loop)), frames, loop),
-            "loop": hex(id(loop)) if loop is not None else None, "call": call,
+            "loop": hex(id(loop)) if loop is not None else None, "call": guarded(call_of, frames[0][0]),
             **guarded(inside_thread, frames), **guarded(sockets_in, frames), "again": guarded(comes_back, frames),
-            "frames": shown})
-    return rows, loops
+            "frames": [guarded(frame_row, *each) for each in frames]}
+
+    def row_after(self, row: Row, place: Place, frame: Optional[Frame]) -> Row:
+        """The row with what two looks at its thread show: one before all rows were taken, and one after this one."""
+        ident, native, now = row["thread"], row["native"], place_of(frames_from(frame))
+        counts = between(self.spent.get(ident, UNKNOWN), counts_of(native) if native else UNKNOWN)
+        return {**row, "moved": not self.before.get(ident) == place == now, **counts}
 
 
 def has_foreign_timer() -> Optional[bool]:

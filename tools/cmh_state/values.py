@@ -13,10 +13,11 @@ from .objects import callback_name, callbacks_of, cells_of, futures_in, is_a, is
 
 TYPE_CHECKING = False
 if TYPE_CHECKING:
-    from typing import Iterable, List, Optional, Tuple
+    from typing import Iterable, List, Optional, Set, Tuple
     from .objects import Json, Row, Thing
     Maps = List[Tuple[int, int, str]]  # where the kernel has semaphores in memory, and what tells each from all others
 
+THERE: Set[int] = set()  # the threads that ran Python code as this slice of a state began
 WORDS = ("ALL_COMPLETED", "FIRST_COMPLETED", "FIRST_EXCEPTION")
 PYTHON_RLOCK = getattr(threading, "_PyRLock")
 RLOCKS = (type(threading.RLock()), PYTHON_RLOCK)
@@ -48,8 +49,11 @@ def is_full(pipe: Thing) -> bool:
 def has_gone(lock: Thing) -> bool:
     """Whether a lock that knows its owner has one that is no thread which runs Python code now. This thread may have
     the number of one that has ended."""
-    owner, idents = owner_of(lock), sys._current_frames().keys() - {threading.get_ident()}
-    return bool(owner) and owner not in idents and owner_of(lock) == owner
+    owner = owner_of(lock)
+    if not owner or owner in THERE:
+        return False
+    idents = sys._current_frames().keys() - {threading.get_ident()}
+    return owner not in idents and owner_of(lock) == owner
 
 
 def describe_future(value: Thing, row: Row) -> Optional[Row]:

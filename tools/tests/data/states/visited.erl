@@ -18,9 +18,11 @@ open() ->
     start(odd_letters, fun() -> keep('\x{43b}') end),
     start(deep, fun() -> fall(2000) end),
     start(few_messages, fun() -> keep(none) end),
+    start(large_messages, fun() -> keep(none) end),
     start(many_messages, fun() -> keep(none) end),
-    [few_messages ! Number || Number <- lists:seq(1, 999)],
-    [many_messages ! Number || Number <- lists:seq(1, 1000)],
+    [few_messages ! Number || Number <- lists:seq(1, 20000)],
+    [large_messages ! lists:seq(1, 2000) || _ <- lists:seq(1, 1000)],
+    [many_messages ! Number || Number <- lists:seq(1, 50000)],
     %% (what it waits for comes after something long)
     start(long_message, fun() -> keep(none) end),
     long_message ! {lists:seq(1, 100000), the_end}.
