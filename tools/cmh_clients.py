@@ -5,14 +5,12 @@ sleeps, runs, or waits at the socket of its connection. `take-rabbitmq` calls it
     rabbitmqctl -q list_connections pid peer_host peer_port host port --formatter json | cmh_clients.py
 
 Or it reads an object with such a list, at "value" and "ends". It prints a line for each connection whose client is
-here and can be read, as a list of JSON. A socket that several processes have is left out. Nothing is stopped, no signal
-is sent, and nothing is written. It needs Python 3.8.
+here and can be read, as a list of JSON. What the threads of a process do stands at its first connection. A socket that
+several processes have is left out. Nothing is stopped, no signal is sent, and nothing is written. It needs Python 3.8.
 """
 from __future__ import annotations
 
-import contextlib
 import json
-import os
 import platform
 import socket
 import struct
@@ -21,11 +19,13 @@ from collections import Counter
 from typing import Dict, Iterable, Iterator, List, Sequence, Tuple, Union
 
 from cmh_linux.calls import EPOLLS, WRITES
-from cmh_linux.proc import Row, int32, try_lines, try_slurp
+from cmh_linux.proc import Row, int32, try_slurp
 from cmh_linux.processes import CARRIES, RING, Machine
 from cmh_linux.readers import read_all
 from cmh_linux.reading import inode_of
-from cmh_linux.sockets import Sockets, TcpRow, address
+from cmh_linux.sockets import Sockets, address, plain, tcp_of
+from cmh_proc import process
+from cmh_proc.process import pids
 
 Files = Dict[int, List[int]]  # the processes that have a socket, by its number
 POINTERS = {"ppoll": 2, "select": 4, "pselect6": 4, "epoll_pwait2": 3, "futex": 3, "rt_sigtimedwait": 2}
@@ -57,24 +57,17 @@ def host_of(numbers: Union[str, Sequence[int]]) -> str:
 
 def sockets_here() -> Dict[Tuple[str, str], int]:
     """Returns the numbers of the sockets of this machine, by their two ends."""
-    rows = [TcpRow(line) for name in ("tcp", "tcp6") for line in try_lines(f"/proc/self/net/{name}")[1:]]
-    return {(address(row.at), address(row.to)): row.inode for row in rows if row.inode}
+    rows = tcp_of(process.link_of("/proc/self/ns/net")[5:-1], "self")
+    return {(address(plain(row.here)), address(plain(row.there))): row.inode for row in rows if row.inode}
 
 
 def files_of(numbers: Iterable[int]) -> Files:
     """Returns which processes have some sockets, as far as this user may see that."""
     found: Files = {number: [] for number in numbers}
-    for pid in filter(str.isdigit, os.listdir("/proc")):
-        with contextlib.suppress(OSError):
-            for number in {inode_of(it) for it in links_of(f"/proc/{pid}/fd")}.intersection(found):
-                found[number].append(int(pid))
+    for pid in pids():
+        for number in {inode_of(it) for it in process.files_of(pid).values()}.intersection(found):
+            found[number].append(pid)
     return found
-
-
-def links_of(folder: str) -> Iterator[str]:
-    for name in os.listdir(folder):
-        with contextlib.suppress(FileNotFoundError):
-            yield os.readlink(f"{folder}/{name}")
 
 
 def has_limit(call: str, args: Sequence[int]) -> bool:
@@ -92,17 +85,26 @@ class Process:
         self.own = {inode_of(it[0]) for it in row["fds"].values()} - {0}
         self.pipes = Counter(it[0] for it in row["fds"].values() if it[0].startswith("pipe:["))
 
-    def thread(self, thread: Row, connections: Dict[int, str], own: int) -> Row:
-        """Returns what a thread does: its call, whether that has a limit, and at what it waits. Of several threads one
-        may wait at all connections of the process, and at its own one too."""
+    def threads(self, connections: Dict[int, str]) -> List[Row]:
+        """Returns what its threads do: the call of each, whether that has a limit, and at what it waits."""
+        return [self.thread(thread, connections) for thread in self.row["threads"]]
+
+    def thread(self, thread: Row, connections: Dict[int, str]) -> Row:
         found = {key: thread[key] for key in ("tid", "state", "call") if key in thread}
         if "args" in thread:
             found["limit"] = has_limit(thread["call"], [int(it, 16) for it in thread["args"]])
-            numbers = [inode_of(self.row["fds"].get(str(fd), [""])[0]) for fd, *_ in thread.get("set", ())]
-            is_at = own in numbers and len(self.row["threads"]) > 1
-            found["at"] = connections[own] if is_at else self.place(thread, connections)
+            found["at"] = self.place(thread, connections)
             found["count"] = thread["counts"][0]
         return found
+
+    def waiters(self) -> Dict[int, List[int]]:
+        """Returns by each socket the threads that wait at it. Of several threads one may wait at all connections of the
+        process."""
+        waiters: Dict[int, List[int]] = {}
+        for thread in self.row["threads"] if len(self.row["threads"]) > 1 else ():
+            for number in {inode_of(self.row["fds"].get(str(fd), [""])[0]) for fd, *_ in thread.get("set", ())}:
+                waiters.setdefault(number, []).append(thread["tid"])
+        return waiters
 
     def place(self, thread: Row, connections: Dict[int, str]) -> str:
         """Returns at what a thread waits: a connection, what only its own process ends, or nothing for what else there
@@ -158,12 +160,22 @@ def clients(rows: List[Row]) -> Iterator[Row]:
     read = read_all(Machine(), list({*owners.values()}))
     found = {row["pid"]: row for row in read if "threads" in row and "unreadable" not in row}
     sockets = Sockets([*found.values()])
-    for number, pid in owners.items():
-        if pid in found:
-            it = Process(found[pid], sockets)
-            yield {"connection": connections[number], "process": pid, "end": ends[connections[number]],
-                   "is_deaf": it.is_deaf(connections),
-                   "threads": [it.thread(thread, connections, number) for thread in it.row["threads"]]}
+    for pid, row in found.items():
+        yield from connections_of(Process(row, sockets), [it for it, owner in owners.items() if owner == pid],
+                                  connections, ends)
+
+
+def connections_of(process: Process, numbers: List[int], connections: Dict[int, str],
+                   ends: Dict[str, str]) -> Iterator[Row]:
+    """Yields the connections of a process: the first with what its threads do, and each other one with the first one's
+    name. Where a thread waits at this one, among others, it says so."""
+    waiters, is_deaf = process.waiters(), process.is_deaf(connections)
+    more: Row = {"threads": process.threads(connections)}
+    for number in numbers:
+        name = connections[number]
+        yield {"connection": name, "process": process.row["pid"], "end": ends[name], "is_deaf": is_deaf,
+               "waiters": waiters.get(number, []), **more}
+        more = {"as": connections[numbers[0]]}
 
 
 def main() -> int:
