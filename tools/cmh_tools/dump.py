@@ -117,8 +117,11 @@ class Dump:
         return name
 
     def site(self, index: int) -> str:
-        """Returns the site of one in the dump. That of a hub is the site of one that waits for it."""
-        site = self.waits.processes[index if index < self.waits.number else self.waits.waiters[index][0]].site
+        """Returns the site of one in the dump. That of a hub is the site of one that waits for it, through other hubs
+        too."""
+        while index >= self.waits.number:
+            index = self.waits.waiters[index][0]
+        site = self.waits.processes[index].site
         return self.no_site if site is None else self.sites[site]
 
     def tree(self, answer: Answer, part: int = 0) -> Dict[str, Any]:

@@ -29,7 +29,7 @@ def join_insides(sketch: Sketch) -> None:
     by_name = {process.name: process for process in sketch.processes}
     for row in rows:
         peers = [name for name in peers_of(row, sketch) if name not in by_name or by_name[name].sign is not Sign.ENDED]
-        wait_for_peers([by_name[name] for name in row[READS] if name in by_name], peers, by_name)
+        wait_for_peers([by_name[name] for name in row.get(READS, ()) if name in by_name], peers, by_name)
 
 
 def those_there(inside: List[str], names: Collection[str]) -> Part:
@@ -67,8 +67,10 @@ def stand_in(sketch: Sketch, inside: List[str], threads: Set[str]) -> None:
 
 
 def peers_of(row: Row, sketch: Sketch) -> List[str]:
-    """Returns who has the other ends of the connections of a program, or nothing if one isn't known: then nobody knows
-    at which of them somebody waits."""
+    """Returns who has the other ends of the connections of a program, or nothing if one isn't known, or a row doesn't
+    say which it has: then nobody knows at which of them somebody waits."""
+    if not {PEERS, ENDS} <= row.keys():
+        return []
     peers = dict.fromkeys(row[PEERS])
     for key in row[ENDS]:
         served = sketch.connections.get(key, {}).get(GIVES, sketch.connections.get(key, {}).get(SERVES))

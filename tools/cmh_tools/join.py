@@ -10,6 +10,7 @@ import functools
 import itertools
 import math
 import re
+from collections import Counter
 from dataclasses import replace
 from typing import AbstractSet, Dict, List, Optional, Sequence
 
@@ -32,12 +33,24 @@ def join_sketches(sketches: Sequence[Sketch], paths: Sequence[str]) -> Sketch:
     number = sum(bool(serves(sketch)) for sketch in sketches)
     check_machine(sketches[number:], paths[number:])
     check_times(sketches, paths)
+    doubt_twins(sketches)
     joined = functools.reduce(join_two, [on_machine(sketch, sketches[-1].machine) for sketch in sketches])
     join_connections(joined)
     inside = insides(joined)
     doubt_waits([process for process in joined.processes if process.count is None and process.name not in inside],
                 UNCOUNTED)
     return joined
+
+
+def doubt_twins(sketches: Sequence[Sketch]) -> None:
+    """Leaves those unknown in each half whose thread several of one half have: which of them it is isn't known, so none
+    is joined by it."""
+    counts = Counter((id(sketch), process.thread) for sketch in sketches for process in sketch.processes
+                     if process.thread and not process.thread.endswith("/"))
+    twice = {thread for (_, thread), number in counts.items() if number > 1}
+    for process in (process for sketch in sketches for process in sketch.processes if process.thread in twice):
+        process.become_unknown(f"two processes of one state have its thread, {process.thread}")
+        process.is_garbled, process.thread = True, ""
 
 
 def check_machine(sketches: Sequence[Sketch], paths: Sequence[str]) -> None:

@@ -350,8 +350,9 @@ class Graph:
         if (id(who), way) not in self.known:
             number = self.nobody + 1 + len(self.known)
             self.known[id(who), way] = number, who
+            place = way, number  # (one for all of them: of many large lists these are most of what is kept)
             for name in who:
-                self.lists[self.decision.index.get(name, self.nobody)].append((way, number))
+                self.lists[self.decision.index.get(name, self.nobody)].append(place)
         return [self.known[id(who), way][0]]
 
     def parts_left(self, number: int, over: AbstractSet[int]) -> List[Part]:

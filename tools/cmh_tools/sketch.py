@@ -51,9 +51,10 @@ class Process:
     `frame` writes it; `operation` is the call that it waits in ('put', 'chan send', 'MPI_Recv'); `objects` what it
     waits at (a lock's address, the name of whom it called), and values for facts ('to=3', 'creator=main/1'); `count`
     what the system counts (reductions, context switches), as text. Two looks show the same wait if these four are the
-    same. `thread` is the thread of the kernel that it is all the time, as PID/TID, or PID/ where its process alone is
-    known. `remedy` is a command that ends it, of one that people end in another way than by a restart of its site, and
-    `effect` is what its end does besides.
+    same. `spent` is what grows with each move, as processor time, and `stack` has the function, the file and the line
+    of each frame, topmost first: looks that differ are judged by these. `thread` is the thread of the kernel that it is
+    all the time, as PID/TID, or PID/ where its process alone is known. `remedy` is a command that ends it, of one that
+    people end in another way than by a restart of its site, and `effect` is what its end does besides.
 
     `is_collective` says that its operation needs all of a group to come to it, and `meeting` at which one it is, or for
     which of several all have to come, where that may differ from others of that operation. `is_garbled` says that its
@@ -71,6 +72,8 @@ class Process:
     objects: List[str] = field(default_factory=list)
     count: Optional[str] = None
     thread: str = ""
+    spent: Optional[str] = None
+    stack: Sequence[Tuple[Any, ...]] = ()
     meeting: str = ""
     remedy: str = ""
     effect: str = ""

@@ -4,13 +4,15 @@ and who has moved goes on.
 The answer is as of the first snapshot. A deadlock never ends, so whoever was stuck then is at the same wait later. Two
 snapshots show one wait if the system's own count says so: of context switches, of reductions. The same place alone does
 not: a healthy loop comes back to it. A count that has grown at the same place leaves it unknown, since to be read may
-add to it.
+add to it. Whoever differs in anything else is unknown: `change_of` decides that for all systems.
 """
 from __future__ import annotations
 
 import functools
+import itertools
 from collections import defaultdict
 from dataclasses import dataclass, field
+from enum import Enum
 from itertools import chain, zip_longest
 from operator import attrgetter
 from typing import Any, DefaultDict, Dict, FrozenSet, Iterable, List, Optional, Sequence, Set, Tuple
@@ -39,6 +41,7 @@ COME_BACK = {Sign.TICKS: Sign.TICKS, Sign.SLEEPS: Sign.POLLS, Sign.POLLS: Sign.P
 COME = "the states differ in who hasn't come yet"
 WAY = attrgetter("how", "strength", "what")  # in which way wakers end a wait
 Moments = Dict[str, str]  # how processes were read, by their names
+Stack = Sequence[Tuple[Any, ...]]  # frames, each as its function, its file, its line, and its address if that is known
 Known = Dict[Tuple[int, int], Any]  # lists of two states in one, and waits for all, by the ids of both
 
 
@@ -130,8 +133,8 @@ def merge(first: Sketch, second: Sketch, extent: str = PARTS, before: str = PART
     later = {process.name: process for process in second.processes}
     missing = missing_names(first, later, extent)
     lists: Known = {}
-    processes = [forget(process) if process.name in missing else join(process, later.get(process.name), lists)
-                 for process in first.processes]
+    processes = [forget(process) if process.name in missing else process.copy(count=None) if is_unseen(
+        process, later, extent) else join(process, later.get(process.name), lists) for process in first.processes]
     here = {process.name for process in processes}
     wanted = {name for names in lists_of_wakers(processes) for name in names} - here
     known = PARTS if PARTS in (extent, before) else extent
@@ -150,7 +153,7 @@ def merge(first: Sketch, second: Sketch, extent: str = PARTS, before: str = PART
 
 
 def missing_names(first: Sketch, later: Dict[str, Process], extent: str) -> Set[str]:
-    """The names that the second state may lack though they have not ended. Who ran in the first state runs by that."""
+    """The names that the second state may lack though they have not ended. Who computes in the first state runs."""
     if extent == WHOLE:
         return set()
     there = [place for place, process in enumerate(first.processes) if process.name in later]
@@ -158,9 +161,14 @@ def missing_names(first: Sketch, later: Dict[str, Process], extent: str) -> Set[
     return {process.name for process in first.processes[start:] if has_left(process, later)}
 
 
+def is_unseen(process: Process, later: Dict[str, Process], extent: str) -> bool:
+    """Whether one with a limit isn't in a second state that may lack anybody: nothing says that it has moved."""
+    return extent == PARTS and process.name not in later and process.sign in COME_BACK
+
+
 def has_left(process: Process, later: Dict[str, Process]) -> bool:
     """Whether one that waited in the first state isn't in the second."""
-    return process.name not in later and process.sign not in (*GOING, Sign.ENDED)
+    return process.name not in later and process.sign not in (Sign.GOES_ON, Sign.ENDED)
 
 
 def forget(process: Process) -> Process:
@@ -172,6 +180,8 @@ def forget(process: Process) -> Process:
 def newcomer(process: Process, extent: str) -> Process:
     """One of the second state alone: it came after the first, if both have all that were there. If it has nothing to do
     already, it rests, for all that its one state says."""
+    if process.is_garbled and process.sign is Sign.UNKNOWN:
+        return process  # (it may be one of the first state, by another name)
     if extent == PARTS and process.sign not in GOING:
         return process.copy(sign=Sign.UNKNOWN, parts=[], because=[], reason="it isn't in the first state")
     if process.sign is Sign.RESTS:
@@ -195,12 +205,81 @@ def join(process: Process, later: Optional[Process], known: Known) -> Process:
         return end_by_both(process, later)
     if later is None or later.sign is Sign.ENDED:
         return leaver_of(process, "it has ended since", process.sign)
-    if is_elsewhere(process, later):
+    change = change_of(process, later)
+    if change is Change.MOVED:
         return leaver_of(process, "it has moved", later.sign)
+    if change is not Change.STAYED:
+        return process.copy(sign=Sign.UNKNOWN, parts=[], because=[], reason=change.value, is_garbled=True, count=None)
     going = process if process.sign in GOING else later
     if going.sign in GOING and (SYSTEM in going.because or Sign.UNKNOWN not in (process.sign, later.sign)):
         return runner_of(process, later)
     return waiter_of(process, later, known)
+
+
+class Change(Enum):
+    """What two looks at a process show, one beside the other."""
+
+    STAYED = "it stands at one place"
+    MOVED = "it has moved"
+    UNCLEAR = "the states show it at two places, of which one isn't understood"
+    UNCOUNTED = "the states show it at two places, and its count says that it hasn't moved"
+    DIFFERS = "it waits by one state, and doesn't by another, at one place and by one count"
+
+
+class Count(Enum):
+    """What the counts of two looks say, if both have one."""
+
+    EQUAL, GROWN, NONE = "equal", "grown", "none"
+
+
+# What looks at two places show: where that isn't understood as one move, where it waits at one of them, and where it
+# computes or rests at both. A count says that it hasn't moved where it grows with each move.
+ELSEWHERE = {
+    ("unclear", Count.EQUAL): Change.UNCLEAR, ("unclear", Count.GROWN): Change.UNCLEAR,
+    ("unclear", Count.NONE): Change.UNCLEAR,
+    ("waits", Count.EQUAL): Change.UNCOUNTED, ("waits", Count.GROWN): Change.MOVED, ("waits", Count.NONE): Change.MOVED,
+    ("free", Count.EQUAL): Change.MOVED, ("free", Count.GROWN): Change.MOVED, ("free", Count.NONE): Change.MOVED}
+
+
+def change_of(process: Process, later: Process) -> Change:
+    """Returns what two looks at a process show. What isn't understood in one of them is no move."""
+    count, spent = compare_counts(process.count, later.count), compare_counts(process.spent, later.spent)
+    signs = {process.sign, later.sign}
+    if is_elsewhere(process, later):
+        is_clear = is_one_move(process.stack, later.stack) if process.stack and later.stack else \
+            Sign.UNKNOWN not in signs or Count.GROWN in (count, spent)
+        is_free = signs == {Sign.GOES_ON} or signs == {Sign.RESTS}
+        return ELSEWHERE["unclear" if not is_clear else "free" if is_free else "waits", spent]
+    is_one = spent is Count.EQUAL and not (signs.isdisjoint(WAITING) or signs.isdisjoint(GOING))
+    return Change.DIFFERS if is_one else Change.STAYED
+
+
+def compare_counts(first: Optional[str], later: Optional[str]) -> Count:
+    return Count.NONE if first is None or later is None else Count.EQUAL if first == later else Count.GROWN
+
+
+def is_one_move(first: Stack, later: Stack) -> bool:
+    """Whether one may have come from a stack to another one. The outermost frame stays, and none is lost between
+    others that stay. A function that has gone on in its place is of one file, no line is that of two functions there,
+    and no address that of two lines."""
+    outer, inner = shared_frames(reversed(first), reversed(later)), shared_frames(first, later)
+    if outer >= min(len(first), len(later)):
+        return True
+    if inner and outer + inner >= min(len(first), len(later)):
+        return len(first) == len(later) and outer > 0 and is_step(first[inner], later[inner])
+    return is_step(first[-1 - outer], later[-1 - outer]) and (outer > 0 or first[-1][0] == later[-1][0])
+
+
+def shared_frames(first: Iterable[Any], later: Iterable[Any]) -> int:
+    """Returns how many frames of two stacks are the same, from one end on."""
+    return sum(1 for _ in itertools.takewhile(lambda pair: pair[0] == pair[1], zip(first, later)))
+
+
+def is_step(one: Sequence[Any], other: Sequence[Any]) -> bool:
+    """Whether a frame may have come in the place of another one."""
+    if one[0] != other[0]:
+        return one[1:3] != other[1:3] or one[2] is None
+    return bool(one[1] == other[1] and (one[2] == other[2] or one[3:] != other[3:] or not any(one[3:])))
 
 
 def leaver_of(process: Process, why: str, last: Sign) -> Process:
@@ -300,11 +379,13 @@ def end_by_both(process: Process, later: Optional[Process]) -> Process:
 
 
 def is_elsewhere(process: Process, later: Process) -> bool:
-    """Whether the places of two states differ. What has no place is told by its wait. Where one state shows no place,
-    nothing is known to differ."""
+    """Whether the places of two states differ. What has no place is told by its count, or else by its wait. Where one
+    state shows no place, nothing is known to differ."""
     place, later_place = process.place, later.place
     if any(place) or any(later_place):
         return place != later_place and any(place) and any(later_place)
+    if compare_counts(process.count, later.count) is Count.EQUAL:
+        return False
     waits = [(either.kind, set(either.whom)) for either in (process, later)]
     return waits[0] != waits[1] and all(either.sign in WAITING for either in (process, later))
 
