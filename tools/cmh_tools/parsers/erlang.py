@@ -18,6 +18,7 @@ from ..snapshots import APART, PARTS, Reading
 from . import State
 from .base import Parser
 from .erlang_calls import NO_MAIL, place_elsewhere, wait_of_call
+from .erlang_contradictions import doubt_blocks, doubt_readings
 from .erlang_enders import add_enders, stoppers_of, when_killed
 from .erlang_keepers import is_awake, unless_alone
 from .erlang_locks import locks_of, wait_of_lock
@@ -48,6 +49,7 @@ OWN_CHILD, ENDINGS, RESTARTS = "child", "endings", "restarts"
 # For what those stand that are no processes.
 REPEATS = "stands for calls of the module `timer` that are repeated: to what function isn't shown"
 HANDLES = "stands for code of the program's that handles events of the system, as of its log"
+UNLOOKED = "may be there: an older version took the state, which didn't look for timers that are repeated"
 
 
 class ErlangParser(Parser):
@@ -76,6 +78,8 @@ class ErlangParser(Parser):
         for reading in readings:
             reading.site = labels[reading.source]
         name_all(readings)
+        doubt_blocks(readings)
+        doubt_readings(readings)
 
     def prepare(self, snapshot: Nodes) -> None:
         snapshot.by_key = {key: block for block in snapshot.rows() for key in block.keys()}
@@ -121,6 +125,8 @@ class ErlangParser(Parser):
         named = {name for names in lists_of_wakers(sketch.processes) for name in names}
         sketch.processes += [unknown(name, why, frames=[name]) for name, why in {
             name: why for snapshot in snapshots for name, why in snapshot.stand_ins.items()}.items() if name in named]
+        unlooked = set().union(*(snapshot.unlooked for snapshot in snapshots)) & named
+        sketch.processes += [goes_on(name, UNLOOKED, [SYSTEM], Sign.SLEEPS, frames=[name]) for name in sorted(unlooked)]
         rows, later = connections_of(snapshots[0]), connections_of(snapshots[-1])
         sketch.connections = {key: row for key, row in rows.items() if key in later}
 
@@ -138,7 +144,7 @@ def look_at_nodes(snapshot: Nodes) -> None:
     snapshot.locks = locks_of(nodes)
     snapshot.held, snapshot.wanted = (rows_of(nodes, snapshot, word) for word in ("has", "wants"))
     snapshot.elsewhere = next(filter(None, map(place_elsewhere, nodes)), "")
-    snapshot.stand_ins = {}
+    snapshot.stand_ins, snapshot.unlooked = {}, set()
     snapshot.ending_any = tuple(group for reading in nodes for group in ending_any(reading, snapshot))
     for reading in nodes:
         reading.missing = reading.missing or lost_of(reading, snapshot)
@@ -166,6 +172,9 @@ def ending_any(reading: NodeReading, snapshot: Nodes) -> Part:
         timers = [f"{escaped(reading.site)}/timers"]
     handlers = [f"{escaped(reading.site)}/handler {module}" for module in reading.handlers]
     snapshot.stand_ins = {**snapshot.stand_ins, **dict.fromkeys(timers, REPEATS), **dict.fromkeys(handlers, HANDLES)}
+    if "repeats" not in reading.numbers and reading.numbers.get("keeps") != 0:
+        timers = [f"{escaped(reading.site)}/timers"]
+        snapshot.unlooked.update(timers)
     return (*([wakers("repeats", list(dict.fromkeys(timers)))] if timers else []),
             *([wakers("kills", handlers)] if handlers else []))
 
@@ -206,7 +215,7 @@ def is_script_asleep(block: Block) -> bool:
 
 def wait_of_block(block: Block, snapshot: Nodes) -> Process:
     name = snapshot.name(block)
-    more: More = {"site": block.node.split("@")[-1], "frames": block.frames()}
+    more: More = {"site": block.node.split("@")[-1], "frames": block.frames(), "spent": block.count}
     if block.fault:
         return garbled(name, block.fault, site=more["site"])
     more["count"] = count_of(block)

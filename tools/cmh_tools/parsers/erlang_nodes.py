@@ -60,7 +60,8 @@ class Nodes(Snapshot):
     be that no process has, in words, or nothing; nodes, by another one and the number that they have there; the locks
     of a node, by it and by what is locked; who has locks of Mnesia, or wants one; those who aren't at rest, of
     these by a server those who know it; the ports of a node whose ends are known; who stands for what is no process,
-    with what that is; and the names of lists of processes that many share."""
+    with what that is, and of these whoever an older state may only lack; and the names of lists of processes that many
+    share."""
 
     by_key: Dict[Key, Block]
     has_tail: Dict[str, List[Block]]
@@ -83,6 +84,7 @@ class Nodes(Snapshot):
     above: Dict[Block, Block]
     ports: Dict[str, Set[str]]
     stand_ins: Dict[str, str]
+    unlooked: Set[str]
     lists: Lists
 
     def find(self, key: Key) -> Optional[Block]:

@@ -68,20 +68,23 @@ def block_of(text: str, path: str, known: Dict[bytes, Block]) -> Block:
 
 
 def readings_of(path: str, text: str, known: Dict[bytes, Block]) -> List[NodeReading]:
-    """Returns the readings of a text in their order: where a process of a node stands again, another one begins.
-    `known` has the blocks that were read before."""
+    """Returns the readings of a text in their order: where a process of a node stands again behind the end of one, or
+    in an older text without ends, another one begins. `known` has the blocks that were read before."""
     readings: List[NodeReading] = []
     pids: Set[str] = set()
+    is_counted = "\n=end " in text
     for word, part in parts_of(text.replace("\r\n", "\n")):
         block = block_of(part, path, known) if word == "process" else None
         words = [] if block else part.partition("\n")[0].split()
         node = block.node if block else words[-1] if words else ""
         last = readings[-1] if readings else None
         is_over = last is not None and last.is_closed and not (word == "taken" and last.time is None)
-        if last is None or last.source != node or is_over or block and block.pid in pids:
-            last, pids = NodeReading(path, node), set()
+        is_twice = block is not None and block.pid in pids
+        if last is None or last.source != node or is_over or is_twice and not is_counted:
+            last, pids, is_twice = NodeReading(path, node), set(), False
             readings.append(last)
         if block:
+            last.odd = last.odd or (f"it has {block.pid} twice" if is_twice else "")
             last.rows.append(block)
             pids.add(block.pid)
         elif word == "taken":

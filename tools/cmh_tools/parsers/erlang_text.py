@@ -22,6 +22,10 @@ LIMIT = re.compile(
     r"|(?P<event>gen_event:rpc/2) \+ \d+\)))\n")
 UNREAD = re.compile(r"'\$gen_call',{[^{}]*?#Ref<\d+\.([\d.]+)>")
 REQUEST = re.compile(rf"Return addr \S+ \((?:{CALLS}) \+ \d+\)\ny\(0\).*\ny\(1\) +(.*)\n(?:y\(2\) +(.*))?")
+# Where a stack is, and the terms of it, but for addresses; and the function of the topmost place.
+PLACES = re.compile(r"^(?:0x\w+ Return addr \S+ |: \S+ )?(\(.*|y\(.*)$", re.M)
+TOP = re.compile(r": \S+ \((\S+) \+ \d+\)")
+A_LIMIT = re.compile(r"infinity|\d+")
 WITH_A_LIMIT = re.compile(r"\(gen_server:call/2 \+ \d+\)")  # of five seconds
 LIMITED = re.compile(r"^y\(1\) +\d+$", re.M)  # of any other call, as gen:do_call has it
 PID = re.compile(r"<\d+\.\d+\.\d+>")
@@ -134,7 +138,8 @@ class Block:
         self.is_mail_cut, self.is_stack_cut = self.messages == CUT, self.items.get("backtrace") == CUT
         self.is_cut = self.is_mail_cut or self.is_stack_cut or CUT in map(self.items.get, (
             "references", "may_end", "closures"))
-        self.count = self.extra("reductions")
+        reductions = self.items.get("reductions", "")
+        self.count = reductions if FORMS["reductions"].fullmatch(reductions) else None
         self.start = self.start_of()
         self.callback = callback_of(frames_text) if self.start[1] == "init" and not self.own else ()
         self.requests = (*UNREAD.findall(self.messages), *self.served(text, frames_text))
@@ -142,6 +147,7 @@ class Block:
         self.tails = tuple(dict.fromkeys(tails))
         self.stopped = self.stopped_in(frames_text) if self.top().startswith(STOPS) else ()
         self.hibernates = not self.stack and "(unknown function)" in self.counter  # (which has no stack)
+        self.place = hash((*self.stack, *PLACES.findall(frames_text)))
         self.fault = self.fault or self.lost(text, frames_text, len(tails))
 
     def lost(self, text: str, frames_text: str, references: int) -> str:
@@ -150,11 +156,34 @@ class Block:
             return "its stack isn't in the text"
         # Texts written by hand may lack the status, with most of the stack.
         lost = lost_of_stack(frames_text) if self.extra("status") is not None else ""
+        lost = lost or self.lost_between(frames_text) if self.extra("status") == "waiting" else lost
         if lost:
             return lost
+        if self.call is not None and not A_LIMIT.fullmatch(self.call.limit):
+            return "its limit isn't understood"
         if not is_balanced(text):
             return "a term of its text isn't whole: a bracket of it lacks the other one"
         return "a reference in its text isn't understood" if references < text.count("#Ref") else ""
+
+    def lost_between(self, frames_text: str) -> str:
+        """Returns what of the stack of one that waits contradicts the rest, or nothing. One in a loop has no terms."""
+        top = TOP.match(frames_text)
+        if top is None and not self.is_loop() and not self.hibernates and not self.is_stack_cut:
+            return "the terms of its stack aren't in the text"
+        if top is not None and self.stack and of_elixir(top[1]).replace(":", ".") != self.top_function():
+            return "its stack and the terms of it are of two functions"
+        return ""
+
+    def top_function(self) -> str:
+        return self.stack[0].partition(" (")[0].replace(":", ".")
+
+    def contradicts(self, later: Block) -> str:
+        """Returns what shows that two texts of a process can't be of one, or nothing: whoever runs is counted."""
+        counts = [int(block.count) for block in (self, later) if block.count is not None]
+        if counts[1:] and counts[1] < counts[0]:
+            return "its count of reductions is lower than before"
+        is_same = counts[1:] and counts[0] == counts[1]
+        return "its stack is another one, and it hasn't run since" if is_same and self.place != later.place else ""
 
     def item(self, key: str) -> str:
         match = self.items.get(key)

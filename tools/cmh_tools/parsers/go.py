@@ -191,6 +191,7 @@ class GoParser(Parser):
         place = snapshot.places[goroutine.number]
         process = self.wait_at(goroutine, place, name, snapshot)
         process.site, process.frames = self.site, place.frames
+        process.stack = whole_stack(goroutine.frames, goroutine.creator)
         process.operation = process.operation or place.operation
         objects = snapshot.objects[goroutine.number]
         process.meeting = next(iter(objects), name) if place.operation in NEEDS_ALL else ""
@@ -377,6 +378,12 @@ def has_left(first: Goroutine, later: Goroutine) -> bool:
 
 def stack_of(goroutine: Goroutine) -> List[Tuple[str, Optional[int], str]]:
     return [(it.function, it.line, it.offset) for it in goroutine.frames]
+
+
+@lru_cache(maxsize=KEPT)
+def whole_stack(frames: Tuple[Frame, ...], creator: Frame) -> List[Tuple[str, str, Optional[int], str]]:
+    """Returns all frames of a goroutine, and below them where it was created."""
+    return [(it.function, it.path, it.line, it.offset) for it in (*frames, creator)]
 
 
 def check_same(first: Dump, later: Dump) -> None:

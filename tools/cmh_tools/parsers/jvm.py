@@ -22,7 +22,7 @@ from .jvm_frames import (AGAIN, BARRIER, CLEANER, HAS_TIMER, LIMITS_FUTURES, MEE
                          has_limit, is_at_rest, is_in, is_of_jvm, place_of)
 from .jvm_heap import TIMER, Heap, HeapView, is_between, read_heap
 from .jvm_locks import Locks
-from .jvm_states import check_dumps, is_coarse, missing_of, names_of
+from .jvm_states import check_dumps, doubt_threads, is_coarse, missing_of, names_of
 from .jvm_text import Dump, Thread, stack_of
 from .jvm_waits import MAIN, NATIVE, TIMED, Everybody, Threads, has_stood, is_locking, meetings_of, wait_of
 from .jvm_whole import add_inner, count_owned, kernel_thread, owner_of
@@ -70,6 +70,7 @@ class JvmParser(Parser):
     def begin(self, readings: List[Reading]) -> None:
         """Checks that all states are of one JVM, names its threads, and sees through the collector."""
         check_dumps(self.dumps)
+        doubt_threads(readings)
         self.names = names_of(self.dumps)
         if self.heap and not is_between(self.heap, self.dumps):
             self.dumps[0].warnings.append(f"{self.heap.place}: the heap wasn't dumped between the two states, so "
@@ -140,6 +141,7 @@ class JvmParser(Parser):
         process.note = " at ".join(filter(None, [call, *place.frames[:1]])) + taken_in(thread, snapshot)
         if snapshot.dump.is_file or name in snapshot.of_file or owner_of(process) in snapshot.of_file:
             snapshot.moments[name] = APART
+        process.stack, process.spent = stack_of(thread), thread.cpu if snapshot.counts else None
         set_count(process, thread, place, snapshot)
         return process
 

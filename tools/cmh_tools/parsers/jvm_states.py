@@ -3,12 +3,15 @@ stood from the one to the next."""
 from __future__ import annotations
 
 from collections import defaultdict
-from typing import Dict, List
+from typing import Dict, List, Optional
 
 from ..files import Refusal
+from ..snapshots import PARTS, Reading
+from .jvm_frames import is_of_jvm
 from .jvm_locks import monitors_of, objects_of
-from .jvm_text import Dump, stack_of
+from .jvm_text import Dump, Thread, stack_of
 
+CONTRADICTS = "the states contradict each other in the first line of a thread"
 TICKS = (10, 15.625)  # milliseconds in which some operating systems count processor time
 VIRTUAL = "jstack shows no virtual threads: take `jcmd PID Thread.dump_to_file -format=json FILE` twice instead"
 
@@ -47,6 +50,29 @@ def check_order(first: Dump, later: Dump) -> None:
     if any(float(thread.elapsed) < before.get((thread.key, thread.identity), 0) for thread in later.threads
            if thread.elapsed):
         raise Refusal(f"{later.path}: it was taken before {first.path}: the states are expected in the order of time")
+
+
+def doubt_threads(readings: List[Reading]) -> None:
+    """Says of threads that they aren't understood, whose first lines in two states contradict each other: a number is
+    of one thread, and a new one has a higher one than all before. With such a newcomer its state isn't whole."""
+    for before, reading in zip(readings, readings[1:]):
+        first, later = before.rows[0], reading.rows[0]
+        known = {thread.key: thread for thread in first.threads}
+        newest = max((int(thread.number) for thread in first.threads if thread.number), default=0)
+        odd = [thread for thread in later.threads if not is_of_jvm(thread) and not may_follow(
+            known.get(thread.key), thread, newest)]
+        for thread in odd:
+            known.get(thread.key, thread).fault = thread.fault = thread.fault or f"{thread.place}: {CONTRADICTS}"
+        if any(thread.key not in known for thread in odd):
+            reading.extent, reading.missing = PARTS, reading.missing or f"{odd[0].place}: {CONTRADICTS}"
+
+
+def may_follow(before: Optional[Thread], thread: Thread, newest: int) -> bool:
+    """Whether a thread may be that of an earlier state, or a new one."""
+    if before is None:
+        return thread.number is None or int(thread.number) > newest
+    is_less = thread.cpu is not None and before.cpu is not None and float(thread.cpu) < float(before.cpu) - TICKS[-1]
+    return not is_less and (before.identity, before.native) == (thread.identity, thread.native)
 
 
 def follow(first: Dump, later: Dump) -> None:

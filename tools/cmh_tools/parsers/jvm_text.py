@@ -24,7 +24,7 @@ HEADER = re.compile(
 )
 STATE = re.compile(r"\s+java\.lang\.Thread\.State: (\w+)(?: \((.*)\))?\s*")
 FRAME = re.compile(r"\s+at (?:[\w.@$-]*/{1,2}(?!0x))?(?P<method>[^()]+\.[^().]+)"
-                   r"\((?P<place>(?:\S*/)?(?:Native Method|Unknown Source|\S*))\)\s*")
+                   r"\((?P<place>(?:\S*/)?(?:Native Method|Unknown Source|\S+))\)\s*")
 MARK = re.compile(
     r"\s+- (?P<kind>waiting on|waiting to lock|waiting to re-lock in wait\(\)|locked|parking to wait for|eliminated)"
     r" +<(?P<object>[^>]*)>(?: \(a (?P<class>.*)\))?(?:, owned by #(?P<owner>\d+))?\s*"

@@ -12,8 +12,8 @@ from typing import Any, Dict, Iterable, List, Optional, Set, Tuple, Union
 
 from ..files import Refusal, shown
 from ..model import Part, Sign, any_of, unseen, wakers
-from ..sketch import (DONE, LIMIT, SYSTEM, UNREADABLE, Process, Sketch, blocked, garbled, goes_on, premise, rests,
-                      unknown)
+from ..sketch import (DONE, LIMIT, SYSTEM, UNREADABLE, Process, Sketch, blocked, garbled, goes_on, lists_of_wakers,
+                      premise, rests, unknown)
 from ..snapshots import APART, Reading
 from . import State
 from .base import Break, Parser, Snapshot
@@ -26,13 +26,13 @@ from .linux_frames import OWN_THREADS, has_names, is_known, nameless_programs, o
 from .linux_limits import far_limit, is_far, limit_of, words_of
 from .linux_locks import SETLKW, locks_besides, wait_for_lock
 from .linux_notes import frames_of, whole_note
-from .linux_stacks import BARRIER, add_stacks, hint, meeting_of, wait_at_futex
+from .linux_stacks import BARRIER, add_stacks, hint, lend_calls, meeting_of, wait_at_futex
 from .linux_text import ENDED as GONE
-from .linux_text import READS, WRITES, Machine, Owner, Row, Thread, call_threads, keep_calls, readings_of, rows_of, \
-    some_names
+from .linux_text import READS, WRITES, Machine, Owner, Row, Thread, call_owners, call_threads, keep_calls, \
+    readings_of, rows_of, some_names, unread_in
 from .linux_unread import Branches, unread_name, unread_one
 from .linux_waits import (ACCEPTS, EPOLLS, LIMITS, MOVES, NUMBERS, QUEUES, READ, SETS, SLEEPS, SUSPENDS, WRITE, Ease,
-                          Wait, against, has_limit, int32, not_shown, not_understood, with_end)
+                          Wait, against, has_limit, int32, is_in_call, not_shown, not_understood, with_end)
 
 NO_FACT = ", and no fact on its place decides that"
 WITH_HELPERS = ("erlang",)  # of these, those whose folder has other programs that the runtime begins
@@ -61,7 +61,7 @@ def signal_of(thread: Thread, snapshot: Computer) -> str:
     """Returns what shows that a signal may end the waits of a process, or nothing."""
     if thread.row.get("pending"):
         return f"a signal is about to reach it{NO_FACT}"
-    if any("io_uring" in words[0] for words in thread.owner.files.values()):
+    if thread.owner.has_ring:
         return f"it has an io_uring, and what that does isn't known{NO_FACT}"
     return ""
 
@@ -76,7 +76,7 @@ def begun_by(machine: Machine, asked: Set[int]) -> Dict[str, str]:
     sites: Dict[str, str] = {}
     for owner in machine.owners:
         parent = above = machine.by_pid.get(owner.parent)
-        while above is not None and above.pid not in asked and above.parent != above.pid:
+        while above is not None and above.pid not in asked:
             above = machine.by_pid.get(above.parent)
         if parent is not None and above is not None and above.pid in asked:
             sites[site_of(owner)] = site_of(parent)
@@ -121,11 +121,11 @@ class LinuxParser(Parser):
         self.outside = str(rows[0].get("outside", ""))
         self.pids = set(rows[0].get("asked", ()))
         self.stacks = [row for row in rows if "stacks" in row]
-        unread = {row["pid"]: row["unreadable"] for row in rows if "unreadable" in row}
-        has_stacks = bool(rows[0].get("with_stacks") or self.stacks)
+        readings = readings_of(rows, state.path)
+        unread, has_stacks = unread_in(readings), bool(rows[0].get("with_stacks") or self.stacks)
         return [Reading(state.path, "machine", [Machine(reading, unread, has_stacks)],
                         machine=str(rows[0].get("space", "")), time=time_of(reading[0]))
-                for reading in readings_of(rows, state.path)]
+                for reading in readings]
 
     def begin(self, readings: List[Reading]) -> None:
         """Checks that all is of one state, and names the processes that can't be read. Each stands in every list that
@@ -135,7 +135,9 @@ class LinuxParser(Parser):
             raise Refusal(f"{shown(paths[1])}: one state of Linux is expected, which has both readings, and "
                           f"{shown(paths[0])} is one")
         machines: List[Machine] = [reading.rows[0] for reading in readings]
+        call_owners(machines)
         call_threads(machines)
+        lend_calls(machines[0])
         keep_calls(machines)
         unread = list({owner.pid: owner for machine in machines for owner in machine.owners if owner.why}.values())
         near = [owner for owner in unread if not owner.row.get("apart")]
@@ -161,8 +163,8 @@ class LinuxParser(Parser):
         """Leaves out what couldn't be read, wasn't asked for and stands in nobody's list. Adds what no state shows."""
         strangers = {name for snapshot in snapshots for owner in self.strangers_of(snapshot.machine)
                      for name in owner.names}
-        named = {name for process in sketch.processes if process.name not in strangers
-                 for part in process.parts for group in part for name in group.names()}
+        near = (process for process in sketch.processes if process.name not in strangers)
+        named = {name for names in lists_of_wakers(near) for name in names}
         sketch.processes = [process for process in sketch.processes
                             if process.name not in strangers or process.name in named]
         wanted = self.asked.union(name for process in sketch.processes for part in process.parts for group in part
@@ -201,6 +203,7 @@ class LinuxParser(Parser):
         more["objects"] = [" ".join([thread.call, *thread.row.get("args", [])])]
         if thread.counts:
             more["count"] = f"{thread.owner.row.get('start')} {thread.counts[0]}"
+            more["spent"] = f"{thread.owner.row.get('start')} {thread.counts}"
         if thread.lacks():
             return garbled(name, f"its row has no {thread.lacks()}", **more)
         return self.process_at(thread, snapshot, wait_of(snapshot.machine, thread), more)
@@ -380,6 +383,8 @@ def odd_wait(thread: Thread, machine: Machine) -> Optional[Wait]:
                     operation="stopped", is_exact=True)
     if ELSEWHERE.search(str(thread.row.get("wchan", ""))):
         return not_understood(f"it is held up elsewhere than in its call{place_of(thread)}")
+    if thread.arguments and not is_in_call(thread):
+        return not_understood(f"what it waits in is none of its call{place_of(thread)}")
     if thread.state == "D" and thread.call not in FORKS:
         return not_understood(f"it is deep in the kernel{place_of(thread)}")
     if thread.call == "-1" or not thread.arguments:

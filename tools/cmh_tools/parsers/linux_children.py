@@ -208,7 +208,9 @@ def wait_to_connect(machine: Machine, thread: Thread) -> Wait:
         return Wait(what="connection", sign=Sign.SLEEPS, why="it tries that for some minutes at most", premises=[LIMIT])
     if not path:
         return not_understood("to whom it connects isn't known", "connection")
-    numbers = machine.listening.get(f"{thread.owner.row.get('net')} {path}", [])
+    asks = str(thread.row.get("asks", path))  # (older states have the path alone)
+    numbers = [number for key in (asks, f"{thread.owner.row.get('net')} {asks}")
+               for number in machine.listening.get(key, ())]
     others = list(dict.fromkeys(owner for number in numbers for owner in machine.with_file(f"socket:[{number}]")))
     part = with_end(machine, thread, users_of(others), "accepts")
     what = f"Unix socket {path}"

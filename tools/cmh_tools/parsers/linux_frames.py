@@ -45,7 +45,7 @@ OWN_THREADS = ("erlang", "go", "jvm", "mpi")  # whose runtimes have threads that
 def own_frames(thread: Thread) -> List[str]:
     """Returns the frames of the job's own: as a debugger shows them, or else as they were unwound from memory. Those of
     an interpreter are none of the job's."""
-    return own_in(tuple(thread.stack)) or ([] if thread.owner.system else list(map(text_of, own_steps(thread))))
+    return own_in(tuple(thread.stack)) or ([] if thread.owner.system else own_texts(thread.frames, thread.is_whole))
 
 
 @lru_cache(maxsize=KEPT)
@@ -67,15 +67,25 @@ def own_frame(step: Tuple[str, str]) -> str:
 def own_steps(thread: Thread) -> List[Frame]:
     """Returns the frames of a stack that was unwound which are the program's own. Where these are of the library of C++
     alone, the outermost stands for the function that was made part of it."""
-    last = len(thread.frames) - 1
-    own = [(number, step) for number, step in enumerate(thread.frames) if not is_of_system(step)]
-    if own[1:] and own[-1][0] == last and thread.is_whole and step_begins(own[-1][1]):
+    return own_steps_in(thread.frames, thread.is_whole)
+
+
+@lru_cache(maxsize=KEPT)
+def own_steps_in(frames: Tuple[Frame, ...], is_whole: bool) -> List[Frame]:
+    """Returns those of a stack. Many threads stand at one place, so nobody changes this list, nor the next."""
+    own = [(number, step) for number, step in enumerate(frames) if not is_of_system(step)]
+    if own[1:] and own[-1][0] == len(frames) - 1 and is_whole and step_begins(own[-1][1]):
         own.pop()  # (where a program begins)
-    if own[1:] and not own[-1][1].function and is_run_by_library(thread, own[-1][0]):
+    if own[1:] and not own[-1][1].function and is_run_by_library(frames, own[-1][0]):
         own.pop()  # (what a thread of C++ runs is a part of the library)
     kept = [step for _, step in own if not OF_LIBRARY.match(text_of(step))]
     kept = [step for number, step in enumerate(kept) if not number or text_of(step) != text_of(kept[number - 1])]
     return kept or [step for _, step in own[-1:] if step.function != "??"]
+
+
+@lru_cache(maxsize=KEPT)
+def own_texts(frames: Tuple[Frame, ...], is_whole: bool) -> List[str]:
+    return list(map(text_of, own_steps_in(frames, is_whole)))
 
 
 def has_names(thread: Thread) -> bool:
@@ -98,8 +108,8 @@ def step_begins(step: Frame) -> bool:
     return step.function in ("", "_start")
 
 
-def is_run_by_library(thread: Thread, number: int) -> bool:
-    return OF_CPLUSPLUS in "".join(step.module for step in thread.frames[number + 1:number + 2])
+def is_run_by_library(frames: Tuple[Frame, ...], number: int) -> bool:
+    return OF_CPLUSPLUS in "".join(step.module for step in frames[number + 1:number + 2])
 
 
 def text_of(step: Frame) -> str:
@@ -207,9 +217,11 @@ def is_called_back(thread: Thread) -> bool:
 def is_for_alike(thread: Thread) -> bool:
     """Whether all who wait at a futex were started with one function: where others wait too, it isn't a queue of work,
     but something that they share, and what they do with it may be made part of these functions."""
-    beside = [other for other in thread.owner.threads
-              if other.call == "futex" and other.arguments[:1] == thread.arguments[:1]]
-    return len({(program_frames(other) or [""])[-1] for other in beside}) <= 1
+    owner, word = thread.owner, thread.arguments[0]
+    if word not in owner.starts:
+        owner.starts[word] = {(program_frames(other) or [""])[-1] for other in owner.at_futex.get(word, ())
+                              if not other.is_late}
+    return len(owner.starts[word]) <= 1
 
 
 def has_asked(thread: Thread) -> bool:

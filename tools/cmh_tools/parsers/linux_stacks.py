@@ -45,6 +45,17 @@ def add_stacks(machine: Machine, rows: Iterable[Row]) -> None:
                 thread.stack = stacks.get(thread.tid, [])
 
 
+def lend_calls(machine: Machine) -> None:
+    """Has a thread for whose stack there was no time be in the call of glibc that all others are in who wait at its
+    word: a word is that of one lock."""
+    for threads in (threads for owner in machine.owners for threads in owner.at_futex.values()):
+        late = [thread for thread in threads if thread.is_late and not thread.frames]
+        others = (thread for thread in threads if thread.frames or not thread.is_late) if late else ()
+        calls = set(map(operation_within, others))
+        for thread in late if len(calls) == 1 else ():
+            thread.within = next(iter(calls))
+
+
 def is_same(thread: Thread, words: List[str]) -> bool:
     """Whether a later look shows the arguments of the call that a thread is in."""
     return len(words) > 3 and words[1:4] == thread.row.get("args", [])[:3]
@@ -104,7 +115,9 @@ def operation_within(thread: Thread) -> str:
 def wait_at_futex(machine: Machine, thread: Thread) -> Wait:
     """Returns whom a thread at a futex waits for, and else who may wake it at most."""
     wait = owner_of_futex(machine, thread)
-    if wait.sign is Sign.UNKNOWN and int32(thread.arguments[1]) & OPERATION in (*WAITS, *LOCKS):
+    if wait.sign is Sign.UNKNOWN and thread.is_late and not thread.stack and not wait.operation:
+        wait.why = "there was no time to read its stack"
+    elif wait.sign is Sign.UNKNOWN and int32(thread.arguments[1]) & OPERATION in (*WAITS, *LOCKS):
         set_wakers(machine, thread, wait)
         is_calm = not wait.operation and not thread.owner.system and takes_next(thread)
         wait.sign = Sign.RESTS if is_calm else Sign.BLOCKED
@@ -152,7 +165,7 @@ def owner_of_futex(machine: Machine, thread: Thread) -> Wait:
         return Wait(what=word, sign=Sign.UNKNOWN, why="the state doesn't show who has still to come to its barrier",
                     operation=operation)
     if operation == "pthread_join":
-        joined = [other for other in thread.owner.threads if other.inner == thread.word(0)]
+        joined = thread.owner.numbered.get(thread.word(0), [])
         return owned(Wait(what=f"thread {thread.word(0)}", operation=operation, premises=[STACK]), joined, "ends")
     owner = thread.word(16 if thread.arguments[0] % 8 == 0 else 12)
     if operation in MUTEX:
@@ -171,7 +184,7 @@ def with_number(machine: Machine, thread: Thread, tid: int) -> List[Thread]:
     """Returns the threads that a number in a lock may stand for: of the same process, or of any if it is shared, each
     as it sees itself in its container."""
     is_private = thread.arguments[1] & PRIVATE or not tid
-    return [other for other in thread.owner.threads if other.inner == tid] if is_private else machine.threads(tid)
+    return thread.owner.numbered.get(tid, []) if is_private else machine.threads(tid)
 
 
 def owned(wait: Wait, owners: List[Thread], how: str) -> Wait:

@@ -5,7 +5,7 @@ import re
 from collections import Counter
 from dataclasses import dataclass, field
 from functools import cached_property
-from typing import Any, Dict, Iterable, Iterator, List, NamedTuple, Sequence, Tuple
+from typing import AbstractSet, Any, Callable, Dict, Iterable, Iterator, List, NamedTuple, Sequence, Set, Tuple
 
 from ..files import Refusal, shown
 from ..sketch import quote
@@ -54,10 +54,11 @@ MORE = re.compile(rf"(?:fifo|file|queue) [0-9a-f]{{1,16}}:\d{{1,20}}|{MEMORY}"
 PID = range(1 << 22)  # what the kernel numbers processes and threads with
 THREAD = {"tid": PID, "state": STATE, "inner?": PID, "comm?": str, "call?": str, "args?": [HEX] * 6,
           "counts?": [int, int], "set?": ([[int, int]], [[int, int, int]]), "words?": re.compile("([0-9a-f]{2})*"),
-          "range?": [int] * 4, "path?": str, "wchan?": str, "memory?": re.compile(f"({MEMORY})?"), "mask?": HEX,
-          "key?": int, "users?": [int], "changed?": int, "within?": str, "frames?": [str], "stack?": [int],
-          "cut?": bool, "again?": bool, "object?": [str, int], "limit?": [(float, int, type(None))] * 2,
-          "waited?": (float, int), "pending?": bool, "addressed?": bool, "family?": range(1 << 16), **OLD}
+          "range?": [int] * 4, "path?": str, "asks?": str, "wchan?": str, "memory?": re.compile(f"({MEMORY})?"),
+          "mask?": HEX, "key?": int, "users?": [int], "changed?": int, "within?": str, "frames?": [str],
+          "stack?": [int], "cut?": bool, "again?": bool, "late?": bool, "object?": [str, int],
+          "limit?": [(float, int, type(None))] * 2, "waited?": (float, int), "pending?": bool, "addressed?": bool,
+          "family?": range(1 << 16), **OLD}
 OWNER: Row = {"pid": PID, "ppid": PID, "comm": str, "group?": PID, "session?": PID, "exe?": str, "command?": str,
               "net?": str, "living?": int, "TracerPid?": re.compile(r"\d{1,9}"), "SigCgt?": HEX, "SigIgn?": HEX,
               "fds": {re.compile(rf"\d{{1,9}}|{MEMORY}"): [FILE, re.compile("r?w?"), MORE, ...]}, "threads?": [THREAD],
@@ -79,14 +80,20 @@ SHAPES = {"version": {"version": int, "machine?": str, "release?": str, "asked?"
 # What each process that was read says of itself, but for one that has ended and for the collector.
 NEEDED = ("SigCgt", "TracerPid", "fds", "timers", "start")
 NEEDED_IN_CALL = ("pending", "wchan")  # and each thread that is in a call
+# Why a process isn't understood that was read.
+ODD_THREADS = "its first thread isn't among its threads", "a thread of it is there twice, or another process's too"
 
 
 @dataclass(eq=False)
 class Owner:
-    """A process of the machine, as one reading shows it. `why` says why it couldn't be read, if it couldn't."""
+    """A process of the machine, as one reading shows it. `why` says why it couldn't be read, if it couldn't. `starts`
+    has the functions that those were started with who wait at a futex, by its word, where that was asked, and `stacks`
+    the frames of its threads, by their numbers."""
 
     row: Row
     threads: List["Thread"] = field(default_factory=list)
+    starts: Dict[int, Set[str]] = field(default_factory=dict)
+    stacks: Dict[Tuple[int, ...], Tuple["Frame", ...]] = field(default_factory=dict)
 
     def __post_init__(self) -> None:
         self.pid, self.parent = (int(self.row.get(key, 0)) for key in ("pid", "ppid"))
@@ -119,16 +126,38 @@ class Owner:
         """What tells it, with its living threads, from others and from what it is in another reading."""
         return f"{self.name} {hash(tuple(self.names))}"
 
-    def frames_of(self, row: Row) -> List["Frame"]:
-        """Returns the frames of a thread, by their numbers in the table of its process. (Older states have the names of
-        its own functions, where all of the stack was known.)"""
+    @cached_property
+    def has_ring(self) -> bool:
+        """Whether it has an io_uring."""
+        return any("io_uring" in words[0] for words in self.files.values())
+
+    @cached_property
+    def numbered(self) -> Dict[int, List["Thread"]]:
+        """Its threads by the numbers that they see themselves as."""
+        return threads_by(self.threads, lambda thread: thread.inner)
+
+    @cached_property
+    def at_futex(self) -> Dict[int, List["Thread"]]:
+        """Its threads at a futex, by the address of its word."""
+        return threads_by((thread for thread in self.threads if thread.call == "futex" and thread.arguments),
+                          lambda thread: thread.arguments[0])
+
+    def frames_of(self, row: Row) -> Tuple["Frame", ...]:
+        """Returns the frames of a thread, by their numbers in the table of its process: those of one stack are made
+        once. (Older states have the names of its own functions, where all of the stack was known.)"""
         if "stack" not in row:
-            return [Frame(name) for name in row.get("frames", ())]
+            return tuple(map(Frame, row.get("frames", ())))
+        numbers = tuple(row["stack"])
+        if numbers not in self.stacks:
+            self.stacks[numbers] = self.frames_at(numbers)
+        return self.stacks[numbers]
+
+    def frames_at(self, numbers: Tuple[int, ...]) -> Tuple["Frame", ...]:
         table, modules = self.row.get("frames", []), [*self.row.get("modules", []), ["", ""]]
-        if not all(0 <= number < len(table) and 0 <= table[number][1] < len(modules) for number in row["stack"]):
-            return []
-        return [Frame(name, modules[module][0], place, modules[module][1])
-                for name, module, place in (table[number] for number in row["stack"])]
+        if not all(0 <= number < len(table) and 0 <= table[number][1] < len(modules) for number in numbers):
+            return ()
+        return tuple(Frame(name, modules[module][0], place, modules[module][1])
+                     for name, module, place in map(table.__getitem__, numbers))
 
     def catches(self, signal: int) -> bool:
         """Whether it has a handler of a signal."""
@@ -168,9 +197,9 @@ class Frame(NamedTuple):
 class Thread:
     """A thread, as one reading shows it. `stack` has its frames as a debugger shows them, where that was asked for, and
     `frames` as they were unwound from memory; `is_whole` says that nobody has called the outermost, and `is_again` that
-    the thread may stand at another wait of the same call by now. `within` is the call of a library that its own code is
-    in. `called` is what it is called within its process, and `kin` the same for all whose names differ by a number
-    alone."""
+    the thread may stand at another wait of the same call by now. `is_late` says that there was no time for its stack.
+    `within` is the call of a library that its own code is in. `called` is what it is called within its process, and
+    `kin` the same for all whose names differ by a number alone."""
 
     owner: Owner
     row: Row
@@ -188,6 +217,7 @@ class Thread:
         self.words = bytes.fromhex(self.row.get("words", ""))
         self.within, self.frames = str(self.row.get("within", "")), self.owner.frames_of(self.row)
         self.is_whole, self.is_again = bool(self.frames) and not self.row.get("cut"), bool(self.row.get("again"))
+        self.is_late = bool(self.row.get("late"))
 
     @property
     def title(self) -> str:
@@ -276,7 +306,7 @@ class Machine:
 
     def threads(self, number: int) -> List[Thread]:
         """Returns the threads that see themselves as a number: several, if they are of several namespaces."""
-        return [thread for owner in self.owners for thread in owner.threads if thread.inner == number]
+        return [thread for owner in self.owners for thread in owner.numbered.get(number, ())]
 
     def below(self, owners: List[Owner]) -> List[Owner]:
         """Returns the children of some processes, and theirs, and so on."""
@@ -314,6 +344,22 @@ class Machine:
         return [self.owners[place] for place in self.kin.get(pid, ())]
 
 
+def threads_by(threads: Iterable[Thread], number_of: Callable[[Thread], int]) -> Dict[int, List[Thread]]:
+    """Returns threads by a number of each."""
+    rows: Dict[int, List[Thread]] = {}
+    for thread in threads:
+        rows.setdefault(number_of(thread), []).append(thread)
+    return rows
+
+
+def call_owners(machines: List[Machine]) -> None:
+    """Has processes called in all readings as in the first that shows one: a program may change its name."""
+    known: Dict[Tuple[int, object], Owner] = {}
+    for owner in (owner for machine in machines for owner in machine.owners):
+        first = known.setdefault((owner.pid, owner.row.get("start")), owner)
+        owner.command, owner.name = first.command, first.name
+
+
 def call_threads(machines: List[Machine]) -> None:
     """Has threads called as their programs have named them, in all readings as in the first that shows one. Those whose
     names don't tell them from others, or may be numbers of threads, have their own numbers besides."""
@@ -344,7 +390,7 @@ def keep_calls(machines: List[Machine]) -> None:
             if is_at_same_condition(first, thread):
                 thread.row["args"], thread.arguments = first.row["args"], first.arguments
             if first is not thread and thread.counts and call_of(first) == call_of(thread):
-                thread.frames, thread.is_whole = first.frames, first.is_whole
+                thread.frames, thread.is_whole, thread.is_late = first.frames, first.is_whole, first.is_late
                 thread.is_again = first.is_again or thread.counts != first.counts
                 thread.within = "" if thread.is_again else first.within
 
@@ -406,6 +452,28 @@ def rows_of(text: str, path: str) -> List[Row]:
     return rows
 
 
+def unread_in(readings: Sequence[List[Row]]) -> Dict[int, str]:
+    """Returns why some processes can't be read, by their numbers: as their rows say, or since the threads in these are
+    none that a process can have."""
+    rows = [row for reading in readings for row in reading if "pid" in row]
+    counts = [Counter(thread["tid"] for row in reading for thread in row.get("threads", ())) for reading in readings]
+    twice = {tid for count in counts for tid, number in count.items() if number > 1}
+    pairs = {(thread["tid"], row["pid"]) for row in rows for thread in row.get("threads", ())}
+    twice |= {tid for tid, number in Counter(tid for tid, _ in pairs).items() if number > 1}
+    reasons = ((row["pid"], why_unread(row, twice)) for row in rows)
+    return {pid: why for pid, why in reasons if why}
+
+
+def why_unread(row: Row, twice: AbstractSet[int]) -> str:
+    """Returns why a process can't be read, or nothing. Some threads are there `twice`, or of two processes."""
+    threads = [thread["tid"] for thread in row.get("threads", ())]
+    if "unreadable" in row:
+        return str(row["unreadable"])
+    if row["pid"] not in threads and row["state"] not in ENDED:
+        return ODD_THREADS[0]
+    return "" if twice.isdisjoint(threads) else ODD_THREADS[1]
+
+
 def what_of(row: Row) -> str:
     """Returns in words of what a row tells that no other one of its reading does, or nothing."""
     words = {"pid": f"process {row.get('pid')}", "socket": f"socket {row.get('socket')}",
@@ -427,11 +495,37 @@ def readings_of(rows: List[Row], path: str) -> List[List[Row]]:
         twice = next((what for what, count in counts.items() if count > 1), "")
         if twice:
             raise Refusal(f"{shown(path)}: {twice} stands twice in reading {number}")
+        odd = next((pid for parents in parents_in(reading) for pid in circles_in(parents)), None)
+        if odd is not None:
+            raise Refusal(f"{shown(path)}: process {odd} descends from itself in reading {number}")
         if end.get("end") != number or end.get("processes") != sum("pid" in row for row in reading):
             raise Refusal(f"{shown(path)}: reading {number} isn't whole: its count of processes doesn't fit")
     if not readings:
         raise Refusal(f"{shown(path)}: it has no reading")
     return readings
+
+
+def parents_in(reading: List[Row]) -> Tuple[Dict[int, int], Dict[int, int]]:
+    """Returns the parent of each process by its own row, and also that of each one above them."""
+    own = {row["pid"]: row["ppid"] for row in reading if "pid" in row}
+    above = {int(pid): pair[0] for row in reading for pid, pair in row.get("parents", {}).items()}
+    return own, {**above, **{row["pid"]: row["ppid"] for row in reading if "pid" in row and "start" in row}}
+
+
+def circles_in(parents: Dict[int, int]) -> Iterator[int]:
+    """Yields a process of each circle of those that descend from themselves."""
+    seen: Set[int] = set()
+    yield from (pid for pid in parents if is_own_ancestor(pid, parents, seen))
+
+
+def is_own_ancestor(pid: int, parents: Dict[int, int], seen: Set[int]) -> bool:
+    """Whether a process, or one above it, descends from itself, but for those that were seen before."""
+    above: Set[int] = set()
+    while pid in parents and pid not in seen:
+        seen.add(pid)
+        above.add(pid)
+        pid = parents[pid]
+    return pid in above
 
 
 def some_names(owners: Iterable[Owner], most: int = 4) -> str:

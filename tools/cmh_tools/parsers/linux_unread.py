@@ -10,9 +10,9 @@ from __future__ import annotations
 from collections import Counter
 from typing import Dict, Iterator, List, Optional, Set, Tuple
 
-from ..sketch import UNREADABLE, Process, unknown
+from ..sketch import UNREADABLE, Process, garbled, unknown
 from .linux_children import IPC, tops_of
-from .linux_text import Machine, Owner, Thread, keys_of
+from .linux_text import ODD_THREADS, Machine, Owner, Thread, keys_of
 from .linux_waits import EPOLLS, int32
 
 BELOW = "below "  # what stands for whatever is used below a process
@@ -31,6 +31,8 @@ class Branches:
         known who they are, they may."""
         keys = list(dict.fromkeys(keys_of_wait(self.machine, thread)))
         roots = {self.root_of(key) for key in keys}
+        if any(not set(keys).isdisjoint(keys_of(words)) for owner in unread for words in owner.files.values()):
+            return True
         return not unread or not roots or any(
             root is None or self.may_descend(owner, root) for root in roots for owner in unread)
 
@@ -123,6 +125,8 @@ def unread_one(owners: List[Owner], is_asked: bool) -> Process:
     """Returns one that can't be read. One that wasn't asked for stands for whatever has another end of a wait, and runs
     nowhere in the system by itself."""
     why = why_of(owners) if owners else "the option hidepid of /proc hides processes of other users"
+    if any(owner.why in ODD_THREADS for owner in owners):
+        return garbled(unread_name(owners), why, frames=[owners[0].command])
     more = "" if " root may " in why else "root can read more, and "
     return unknown(unread_name(owners), f"{why}: {more}the fact `{UNREADABLE} -> ended` says that it has nothing of "
                    "what the others wait at", frames=[UNREADABLE],

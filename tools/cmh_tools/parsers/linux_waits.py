@@ -2,6 +2,7 @@
 from __future__ import annotations
 
 import ctypes
+import re
 from dataclasses import dataclass, field
 from enum import IntEnum
 from typing import Iterable, List
@@ -24,6 +25,17 @@ QUEUES = ("mq_timedsend", "mq_timedreceive")
 LIMITS = {"poll": 2, "ppoll": 2, "select": 4, "pselect6": 4, "epoll_wait": 3, "epoll_pwait": 3, "epoll_pwait2": 3,
           "futex": 3, "rt_sigtimedwait": 2, "semtimedop": 3, "mq_timedsend": 4, "mq_timedreceive": 4,
           "io_getevents": 4}  # at which argument a call has its limit (that of recvmmsg ends no wait for the first)
+# The calls that may wait in a function of the kernel, by the names of those of several versions.
+CALLS_IN = ((re.compile(r"futex_\w+|rt_mutex_schedule"), ("futex",)),
+            (re.compile(r"(do_|hrtimer_)nanosleep"), SLEEPS),
+            (re.compile(r"(do_epoll_wait|ep_poll)\b.*"), EPOLLS),
+            (re.compile(r"(poll_schedule_timeout|do_sys_poll|do_select)\b.*"), SETS),
+            (re.compile(r"do_wait"), ("wait4", "waitid")),
+            (re.compile(r"(anon_)?pipe_(wait_)?read(able)?|unix_stream_read_generic|__skb_wait_for_more_packets"),
+             (*READ, *ACCEPTS, *MOVES)),
+            (re.compile(r"(anon_)?pipe_(wait_)?writ(e|able)|sock_alloc_send_pskb"), (*WRITE, *MOVES)),
+            (re.compile(r"unix_wait_for_peer"), ("connect", *WRITE, *MOVES)),
+            (re.compile(r"inet_csk_accept"), ACCEPTS))
 NUMBERS = ("poll", "epoll_wait", "epoll_pwait")  # whose limit is a number, and none is below 0
 FOREVER = 0x7FFFFFFF  # a limit of 24 days, which programs write for none
 SLEEP, FOLDERS, OF_MANY_NAMES = "sleep", ("/bin", "/usr/bin"), ("busybox", "coreutils")
@@ -53,6 +65,13 @@ class Wait:
     operation: str = ""
     is_exact: bool = False
     ease: Ease = Ease.NONE
+
+
+def is_in_call(thread: Thread) -> bool:
+    """Whether a thread may wait in its call where it does in the kernel."""
+    where = str(thread.row.get("wchan", ""))
+    calls = next((calls for form, calls in CALLS_IN if form.fullmatch(where)), None)
+    return calls is None or thread.call in (*calls, "restart_syscall")
 
 
 def not_understood(why: str, what: str = "", operation: str = "") -> Wait:

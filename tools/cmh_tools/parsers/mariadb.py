@@ -11,18 +11,22 @@ time. Tables are read one after the other in a look, so one alone decides nothin
 from __future__ import annotations
 
 import re
-from typing import Any, Dict, Iterable, List, Optional, Tuple
+from typing import Any, Dict, Iterable, Iterator, List, Optional, Tuple
 
 from ..model import Part, Sign, any_of, unseen, wakers
 from ..sketch import LIMIT, SYSTEM, Process, Sketch, blocked, garbled, goes_on, premise, rests, unknown
 from ..snapshots import APART, Reading
 from . import State
 from .base import Parser, Snapshot, one_line
-from .mariadb_text import LINES, Look, words_in
-from .sessions import SLACK, Limits, Row, client_words, connections_of, end_of_socket, with_limits, words_for
+from .mariadb_text import LINES, Look, seconds_of, words_in
+from .sessions import SLACK, Lasting, Limits, Row, check_server, check_times, client_words, connections_of, \
+    doubt_newcomers, end_of_socket, names_in, with_limits, words_for
 
 LIMITS, TABLES = "session-limits", "named-tables"  # assumptions
 ENDLESS = 100_000_000  # innodb_lock_wait_timeout that stands for no limit
+CONNECTION = Lasting("thread", ("user", "host"), numbers=("query_id",))
+TRANSACTION = Lasting("transaction", ("of", "started"), ends=("wait_started",))
+LOCK = Lasting("held", ("table", "index", "data"))
 LOCK_WAIT, SLEEP = "LOCK WAIT", "Sleep"
 OF_SERVER = ("Daemon", "Binlog Dump", "Binlog Dump GTID")
 USER_LOCK, USER_SLEEP = "User lock", "User sleep"
@@ -54,19 +58,39 @@ class MariadbParser(Parser):
         self.limits = Limits()
         self.last = self.later = 0.0  # the time of the last look, and how much later it is than the one at hand
         self.warnings: Dict[str, None] = {}
+        self.names: Dict[int, str] = {}
 
     def read(self, state: State) -> List[Reading]:
         return [Reading(look.path, "server", [look], machine=look.end["machine"], time=look.taken)
                 for look in LINES.looks(state.text, state.path, Look)]
 
     def begin(self, readings: List[Reading]) -> None:
-        self.last = max(reading.rows[0].taken[1] for reading in readings)
+        """Names the connections, and sees which rows of two looks contradict each other."""
+        looks: List[Look] = [reading.rows[0] for reading in readings]
+        check_server(readings[0].path, ((look.head["version"], look.end["machine"], look.end["process"])
+                                        for look in looks))
+        check_times(readings[0].path, [seconds_of(look.head["look"]) for look in looks],
+                    [look.taken[0] for look in looks])
+        self.last = max(look.taken[1] for look in looks)
+        times = [float(int(seconds_of(look.head["look"]))) for look in looks]  # (those of rows are whole seconds)
+        self.names = names_in(looks, "thread", name_of)
+        doubt_newcomers(looks, "thread", is_newer)
+        CONNECTION.doubt_rows(looks, times, seconds_of)
+        owners = {owner: key for *rows, key in TRANSACTION.contradictions(looks, times, seconds_of) for owner in (
+            row["of"] for row in rows)}
+        odd = {row["held"]: key for _, row, key in LOCK.contradictions(looks, times, seconds_of)}
+        owners.update({row["of"]: odd[row["lock"]] for look in looks for row in look.of("transaction")
+                       if row["lock"] in odd})
+        owners.update((owner, "lock") for look in looks for owner in look.odd_owners())
+        owners.update((owner, "transaction") for pair in zip(looks, looks[1:]) for owner in renamed_in(*pair))
+        for row in (row for look in looks for row in look.of("thread") if row["thread"] in owners):
+            row["odd"] = f"transaction.{owners[row['thread']]}"
 
     def prepare(self, snapshot: Server) -> None:
         snapshot.look = snapshot.readings[0].rows[0]
         self.later = self.last - snapshot.look.taken[1]
         snapshot.rows_by_id = {row["thread"]: row for row in snapshot.look.of("thread")}
-        snapshot.names = {number: name_of(row) for number, row in snapshot.rows_by_id.items()}
+        snapshot.names = {number: self.names[number] for number in snapshot.rows_by_id}
 
     def processes(self, snapshot: Server) -> Iterable[Row]:
         return [row for row in snapshot.look.of("thread") if row.get("command") not in OF_SERVER]
@@ -77,6 +101,8 @@ class MariadbParser(Parser):
             return garbled(name, f"its row has no {row['odd']} as these have it")
         trx = snapshot.look.transactions.get(row["thread"])
         more = more_of(row, trx, snapshot.look)
+        if trx is not None and (trx["state"] == LOCK_WAIT) != (trx["wait_started"] is not None):
+            return garbled(name, "its transaction waits by its state or by the start of its wait, not by both")
         if trx is not None and trx["state"] == LOCK_WAIT:
             return self.at_row(name, row, trx, snapshot, more)
         if row["state"] == USER_LOCK:
@@ -105,6 +131,8 @@ class MariadbParser(Parser):
     def at_row(self, name: str, row: Row, trx: Row, snapshot: Server, more: Dict[str, Any]) -> Process:
         """One that waits for a lock of InnoDB, for all by whom it is blocked."""
         look = snapshot.look
+        if any(wait["lock"] != trx["lock"] for wait in look.waits_of(trx["transaction"])):
+            return garbled(name, "its transaction wants one lock by its row, and another one by its waits", **more)
         parts: List[Part] = []
         for wait in look.waits_of(trx["transaction"]):
             number = look.connections.get(wait["for"])
@@ -118,6 +146,8 @@ class MariadbParser(Parser):
         if not parts:
             return unknown(name, "its lock came while it was read, or isn't shown", **more)
         what = look.told(trx["lock"])
+        if not what:
+            return garbled(name, "the look doesn't show the lock that it wants", **more)
         more.update(operation="row lock", objects=[*more["objects"], what])
         more["note"] = f"{what}{lasting(trx['waited'])}: {query_of(row)}"
         timeout = look.limits["innodb_lock_wait_timeout"]
@@ -238,6 +268,19 @@ def lasting(seconds: Optional[int]) -> str:
 def begun(trx: Row) -> str:
     """Returns in words when a transaction has begun, or nothing where that isn't known."""
     return "" if trx["age"] is None else f", begun {words_for(trx['age'])} ago"
+
+
+def renamed_in(before: Look, look: Look) -> Iterator[int]:
+    """Yields the connections that wait since one time by both looks, in transactions of two numbers."""
+    for owner, row in look.transactions.items():
+        other = before.transactions.get(owner, row)
+        if row["wait_started"] and row["wait_started"] == other["wait_started"]:
+            yield from [owner] if row["transaction"] != other["transaction"] else []
+
+
+def is_newer(row: Row, look: Look) -> bool:
+    """Whether a connection is newer than all of a look."""
+    return all(row["thread"] > other["thread"] for other in look.of("thread"))
 
 
 def name_of(row: Row) -> str:

@@ -29,6 +29,7 @@ HEAD = re.compile(r"# (?:gdb|eu-stack) -p (?P<pid>\d+)(?: on (?P<host>[^\s,]+))?
                   r"MV2_COMM_WORLD_RANK|PMI_RANK|PMIX_RANK|SLURM_PROCID)=(?P<rank>\d{1,9})\b")
 SIZE = re.compile(r"\b(?:OMPI_COMM_WORLD_SIZE|MV2_COMM_WORLD_SIZE|PMI_SIZE|SLURM_NTASKS)=(\d{1,7})\b")
 # How often a thread has given up its processor, as the recipe copies it after the first stacks and before the second.
+DETACHED = re.compile(r"^\[Inferior \d+ \(process (\d+)\) detached\]", re.M)
 SWITCHES = re.compile(r"# (?<!.# )/proc/(\d{1,9})/task/(\d{1,9})/status:voluntary_ctxt_switches:\s*(\d{1,18})$", re.M)
 SLEEPS = re.compile(r"(__GI_)?_*(clock_)?(nano|u)?sleep$")
 LIMITED = re.compile(r"(timed|clock)(wait|lock|join|rdlock|wrlock)")  # of waits for others of the same process
@@ -74,8 +75,8 @@ class Rank:
         stack = self.stack
         return {"site": self.head.host or "node-1", "thread": f"{self.head.pid}/", "frames": stack.places,
                 "operation": stack.operation, "objects": stack.values, "note": stack.note,
-                "count": self.count if self.suffix else None, "is_collective": stack.is_collective,
-                "meeting": self.name if stack.is_of_request else ""}
+                "count": self.count if self.suffix else None, "stack": stack.whole,
+                "is_collective": stack.is_collective, "meeting": self.name if stack.is_of_request else ""}
 
     def between(self, place: int, polls: Stack) -> Tuple[Rank, Dict[str, Any]]:
         """Returns it as it stands at the call by which another one polls in the function of a frame of its own: the
@@ -259,7 +260,7 @@ def reading_of(path: str, heading: Match[str], text: str, counts: Counts) -> Rea
         return Reading(path, heading[0], [], f"a stack has no rank in its heading: {shown(heading[0])[:80]}", PARTS)
     is_bare = heading[0].startswith("# eu-stack")
     stacks, fault = stacks_of(like_gdb(text, head.pid) if is_bare else text)
-    rank = Rank(head, stacks[0][1], fault or lost_of(text))
+    rank = Rank(head, stacks[0][1], fault or lost_of(text) or odd_of(head, stacks[0][1], text))
     rank.count = count_at(counts, stacks[0][0], heading.start())
     if not all(stack.is_whole() for _, stack in stacks[1:]):
         rank.cut = "the stack of another thread of it isn't whole, so that one may send for it"
@@ -270,6 +271,14 @@ def reading_of(path: str, heading: Match[str], text: str, counts: Counts) -> Rea
     for one in family:
         one.peers = [other.name for other in family if other is not one]
     return Reading(path, rank.number, [rank])
+
+
+def odd_of(head: Head, stack: Stack, text: str) -> str:
+    """Returns what of the text of a rank contradicts the rest, or nothing."""
+    others = [pid for pid in DETACHED.findall(text) if pid != head.pid]
+    if others:
+        return f"its heading has process {head.pid}, and its text is of process {others[0]}"
+    return "" if stack.is_whole() or not stack.frames else "its stack isn't whole: no program begins with its last one"
 
 
 def counts_in(text: str) -> Counts:

@@ -23,6 +23,10 @@ DEAD = "X", "Z"  # states of threads that have ended
 BUSY = 0.1  # seconds of processor time between two readings, from which on a thread has computed
 OF_RANK = "rank", "size", "level", "asked", "standard", "any_tag", "fortran"  # what stays in a rank
 OF_COMM = "size", "rank", "inter", "ranks", "parent", "made"  # what stays in a communicator
+NEVER_LESS = "calls", "entered", "switches", "used"  # what of a thread only grows
+OF_MEETING = "name", "kind", "comm", "number"  # what tells a collective call from all others of a rank
+# What of a call is the same as long as it lasts. Its requests come to be complete.
+OF_CALL = "name", "kind", "comm", "tag", "partner", "number", "place", "more"
 FEW = 200  # of more ranks all waits share the list, with the one that waits in it: so it takes time linear in them
 
 
@@ -254,6 +258,11 @@ def fault_of(row: Row) -> str:
     return f"{row['lost']} of its threads found no room for a record" if row["lost"] else ""
 
 
+def record_of(row: Row) -> List[Any]:
+    """Returns what the record of a thread says of its call, but for which of its requests are complete."""
+    return [*(row.get(key) for key in OF_CALL), *(request[:5] for request in row.get("requests", ()))]
+
+
 # Two readings
 
 
@@ -296,7 +305,36 @@ def difference(was: Rank, now: Rank) -> str:
     both = [] if was.comms == now.comms else [name for name in was.by_id if name in now.by_id]
     part = next((key for name in both for key in OF_COMM if was.by_id[name].get(key) != now.by_id[name].get(key)), None)
     name: Optional[str] = key or part and f"the {part} of a communicator"
-    return f"its readings differ in {name}, which never changes" if name else ""
+    threads = {thread["tid"]: thread for thread in was.row["threads"]}
+    pairs = [(threads[thread["tid"]], thread) for thread in now.row["threads"] if thread["tid"] in threads]
+    if was.by_id.keys() != now.by_id.keys() and all(has_made_none(*pair) for pair in pairs):
+        return "its readings differ in its communicators, and it has made no call between them"
+    return f"its readings differ in {name}, which never changes" if name else next(filter(None, map(
+        contradiction, pairs)), "")
+
+
+def has_made_none(was: Row, now: Row) -> bool:
+    """Whether a thread has made no call between two readings, also none on a window."""
+    return "calls" in was and all(was.get(key) == now.get(key) for key in ("calls", "entered"))
+
+
+def contradiction(pair: Tuple[Row, Row]) -> str:
+    """Returns what shows that two rows can't be of one thread, the second one later, or nothing."""
+    was, now = pair
+    key = next((key for key in NEVER_LESS if key in was and key in now and now[key] < was[key]), None)
+    if key is not None:
+        return f"its readings differ in {key}, of which there are less in the later one"
+    if has_made_none(was, now) and POLL not in (was["kind"], now["kind"]) and record_of(was) != record_of(now):
+        return "its readings show two calls, and it has made none between them"
+    calls = was.get("call"), now.get("call")
+    if was["state"] == now["state"] == "S" and None not in calls and calls[0] != calls[1] and was.get(
+            "switches") == now.get("switches"):
+        return "its readings show two calls of the kernel, and no count of its moves has grown"
+    is_one = ALL <= was.get("kind", 0) <= OTHER and was["number"] > 0 and all(
+        was[key] == now.get(key) for key in OF_MEETING)
+    is_asleep = was["state"] == now["state"] == "S" and was.get("switches", -1) == now.get("switches")
+    return "it has made calls between its readings, and hasn't left the one that it is in" if (
+        is_one or is_asleep) and was.get("calls") != now.get("calls") else ""
 
 
 def align_calls(one: Thread, later: Thread) -> None:

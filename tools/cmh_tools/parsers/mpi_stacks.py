@@ -16,7 +16,7 @@ from ..sketch import frame
 # Lines are searched for by the letters that they begin with: a `^` before these would be tried at each character.
 # So `(?<!.` says, behind these letters, that none stands before them.
 STEP = re.compile(r"#(?<!.#)(\d+) +(0x[0-9a-f]+ in )?(.*)")
-FRAME = re.compile(r"(?P<function>\S.*?) \((?P<arguments>.*)\)"
+FRAME = re.compile(r"(?P<function>(?!\d)\S.*?) \((?P<arguments>.*)\)"
                    r"(?: at (?P<file>.+?):(?P<line>\d+)| from (?P<library>.+?))?\s*")
 DIGITS = 9  # of the number of a frame, at most
 # What eu-stack prints: a frame with its module, or a thread. It shows no arguments.
@@ -70,6 +70,7 @@ class Step(NamedTuple):
     is_of_mpi: bool
     is_end: bool
     is_own: bool
+    place: Tuple[str, str, Optional[str]]  # its function, with the names of its arguments, and its file and line
 
 
 @functools.lru_cache(maxsize=KEPT)
@@ -83,7 +84,13 @@ def step_of(text: str) -> Optional[Step]:
     return Step(function, row["arguments"], file, frame(function, file, row["line"]),
                 f"MPI_{call['name'] or call['fortran'].capitalize()}" if call else "", is_of_mpi,
                 FINALIZE.match(function) is not None,
-                not (row["library"] or is_of_mpi or is_of_system(function, file or "")))
+                not (row["library"] or is_of_mpi or is_of_system(function, file or "")),
+                (f"{function} {' '.join(names_of(row['arguments']))}", file or row["library"] or "", row["line"]))
+
+
+def names_of(arguments: str) -> List[str]:
+    """Returns the names of the arguments of a frame. What has none isn't understood, and is its own name."""
+    return [value.split("=")[0] for value in NEXT.split(arguments)]
 
 
 def is_of_system(function: str, file: str) -> bool:
@@ -95,10 +102,11 @@ class Stack:
     """The frames of a thread, innermost first, and what they show. `call` is the outermost call of MPI, which is the
     job's own (those inside of it are the library's), and `own` are the frames of the job's own that made it, or all if
     there is none: the first of these stands at the place `begin`. `operation` is the MPI call that it is in, or
-    nothing, `values` are what `values_of` finds, and `note` is for people."""
+    nothing, `values` are what `values_of` finds, `whole` has each frame with its address, and `note` is for people."""
 
-    def __init__(self, frames: Sequence[Step]) -> None:
+    def __init__(self, frames: Sequence[Step], addresses: Sequence[str] = ()) -> None:
         self.frames = frames
+        self.whole = [(*step.place, address) for step, address in zip(frames, addresses)]
         outside = max((place for place, step in enumerate(frames, 1) if step.call), default=0)
         places = [place for place, step in enumerate(frames) if place >= outside and step.is_own]
         self.call = frames[outside - 1] if outside else None
@@ -214,15 +222,19 @@ def stacks_of(text: str) -> Tuple[List[Tuple[str, Stack]], str]:
     stacks: List[Tuple[str, Stack]] = []
     fault = ""
     for number, thread in in_order:
-        frames, is_whole = frames_of(re.sub(r"\n {4,}(?=\S)", " ", thread) if "\n    " in thread else thread)
+        frames, addresses, is_whole = frames_of(re.sub(r"\n {4,}(?=\S)", " ", thread) if "\n    " in thread else thread)
         if not is_whole:
             fault = "its frames don't run from #0 up, each understood: some are missing, or of another rank"
-        stacks.append((number, Stack(frames)))
+        stacks.append((number, Stack(frames, addresses)))
     return stacks, fault
 
 
-def frames_of(text: str) -> Tuple[List[Step], bool]:
-    """Returns the frames of a thread that are understood, and whether these are all, and run from #0 up."""
-    rows = [(number, step_of(place) or step_of(address + place)) for number, address, place in STEP.findall(text)]
-    known = [(int(number), step) for number, step in rows if step is not None and len(number) <= DIGITS]
-    return [step for _, step in known], [number for number, _ in known] == [*range(len(rows))]
+def frames_of(text: str) -> Tuple[List[Step], List[str], bool]:
+    """Returns the frames of a thread that are understood, their addresses, and whether these are all, and run from #0
+    up."""
+    rows = [(number, step_of(place) or step_of(address + place), address)
+            for number, address, place in STEP.findall(text)]
+    known = [(int(number), step, address) for number, step, address in rows if step is not None
+             and len(number) <= DIGITS]
+    is_whole = [number for number, *_ in known] == [*range(len(rows))]
+    return [step for _, step, _ in known], [address for *_, address in known], is_whole

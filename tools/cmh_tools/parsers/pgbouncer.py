@@ -32,6 +32,8 @@ NUMBER = re.compile(r"\d{1,12}")
 LIMITS = ("query_timeout", "idle_transaction_timeout")  # of a session that a client has
 OF_WAIT = ("query_wait_timeout", "query_timeout")  # of a client that waits for one
 SECONDS = re.compile(r"\d{1,9}(\.\d{1,6})?")
+TIME = re.compile(r"\d{4}-\d\d-\d\d \d\d:\d\d:\d\d \S+")
+CONSOLE = "pgbouncer"  # the database of those who ask the console
 UNIX = "unix"
 NOT_FULL = "pgbouncer may give it a session that no client has: its pool isn't full, is paused, or is read in part"
 
@@ -138,6 +140,14 @@ def check(tables: Dict[str, List[Row]], where: str) -> None:
     for name, keys in KEYS.items():
         if len({tuple(row[key] for key in keys) for row in tables[name]}) != len(tables[name]):
             raise Refusal(f"{where}: a row of {name} stands twice in what the console of pgbouncer has printed")
+    times = [row["request_time"] for row in tables["clients"]]
+    odd = next((time for time in times if not TIME.fullmatch(time)), None)
+    if odd is not None:
+        raise Refusal(f"{where}: {EXPECTED}, and {shown(odd)} is no time")
+    last = max((row["request_time"] for row in tables["clients"] if row["database"] == CONSOLE), default="")
+    late = next((time for time in times if time > last and time.split()[2:] == last.split()[2:]), None)
+    if late is not None:
+        raise Refusal(f"{where}: a client has asked at {shown(late)}, later than whoever asked the console")
 
 
 def rows_of(lines: List[str], where: str) -> List[List[str]]:

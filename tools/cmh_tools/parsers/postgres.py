@@ -12,6 +12,7 @@ from __future__ import annotations
 
 from typing import Any, Dict, Iterable, List, Optional, Set, Tuple
 
+from ..files import Refusal, shown
 from ..model import COMES, Part, Sign, all_of, any_of, unseen, wakers
 from ..sketch import LIMIT, SYSTEM, Process, Sketch, blocked, garbled, goes_on, premise, rests, unknown
 from ..snapshots import APART, Reading
@@ -20,10 +21,14 @@ from .base import Parser, Snapshot, one_line
 from .pgbouncer import end_of, seconds_for
 from .pgbouncer import Row as Client
 from .postgres_text import LINES, Look, seconds_of
-from .sessions import SLACK, Limits, Row, client_words, connections_of, end_of_socket, with_limits, words_for
+from .sessions import SLACK, Lasting, Limits, Row, check_server, check_times, client_words, connections_of, \
+    doubt_newcomers, end_of_socket, names_in, with_limits, words_for
 
 DETECTOR = "deadlock detector"
 LIMITS, DISK = "session-limits", "disk"  # assumptions
+BACKEND = Lasting("backend", ("datid", "datname", "usesysid", "usename", "backend_type", "backend_start"),
+                  ("query_start", "state_change"), ("xact_start",), (), ("application_name", "query", "state"))
+OF_SERVER = ("version", "port", "role", "database")  # what tells a server, and who looks at it, from others
 CLIENT = "client backend"
 IDLE, IN_TRANSACTION, ACTIVE = "idle", ("idle in transaction", "idle in transaction (aborted)"), \
     ("active", "fastpath function call")
@@ -62,6 +67,9 @@ class PostgresParser(Parser):
         self.limits = Limits()
         self.lasted: Dict[Tuple[int, str], float] = {}  # by backends and counts, how long a wait has lasted at least
         self.last = 0.0  # the time of the last look
+        self.names: Dict[int, str] = {}
+        self.told: Dict[Tuple[int, Tuple[object, ...]], str] = {}  # the lock that a backend waits for, in all looks
+        self.clients: Dict[Tuple[str, str], Client] = {}  # those of pgbouncer, as in the first look that shows one
         self.first = 0.0, 0.0  # when the first one was taken
 
     def read(self, state: State) -> List[Reading]:
@@ -69,11 +77,23 @@ class PostgresParser(Parser):
                 for look in LINES.looks(state.text, state.path, Look)]
 
     def begin(self, readings: List[Reading]) -> None:
-        """Sees how long each wait has lasted in the last look that shows it."""
+        """Names the backends, and sees which rows of two looks contradict each other, and how long each wait has lasted
+        in the last look that shows it."""
+        looks: List[Look] = [reading.rows[0] for reading in readings]
+        check_server(readings[0].path, ((*map(look.head.get, OF_SERVER), look.machine) for look in looks))
+        timed = [look for look in looks if look.taken is not None]
+        check_times(readings[0].path, [look.time for look in timed], [look.taken[0] for look in timed if look.taken])
+        if len({(look.pooler is None, *look.lacks) for look in looks}) > 1:
+            raise Refusal(f"{shown(readings[0].path)}: pgbouncer shows more in one look than in another: take them "
+                          "again")
         first: Dict[Tuple[int, str], float] = {}
-        self.last = max(reading.rows[0].time for reading in readings)
-        self.first = min(reading.rows[0].taken or (0.0, 0.0) for reading in readings)
-        for look in (reading.rows[0] for reading in readings):
+        self.last = max(look.time for look in looks)
+        self.first = min(look.taken or (0.0, 0.0) for look in looks)
+        self.names = names_in(looks, "backend", name_of)
+        doubt_newcomers(looks, "backend", has_begun_since)
+        BACKEND.doubt_rows(looks, [look.time for look in looks], seconds_of)
+        self.clients = first_clients(looks)
+        for look in looks:
             for row in look.of("backend"):
                 if "odd" not in row and row["blocked_by"]:
                     key = row["backend"], count_of(row)
@@ -84,7 +104,7 @@ class PostgresParser(Parser):
     def prepare(self, snapshot: Server) -> None:
         snapshot.look = snapshot.readings[0].rows[0]
         snapshot.rows_by_pid = {row["backend"]: row for row in snapshot.look.of("backend")}
-        snapshot.names = {pid: name_of(row) for pid, row in snapshot.rows_by_pid.items()}
+        snapshot.names = {pid: self.names[pid] for pid in snapshot.rows_by_pid}
         pooler, locks = snapshot.look.pooler, snapshot.look.waited_for
         snapshot.pooled = set() if pooler is None else {
             pid for row in pooler.waiting() for pid in pooler.sessions_for(row)[0]}
@@ -111,6 +131,10 @@ class PostgresParser(Parser):
         if "odd" in row:
             return garbled(name, f"its row has no {row['odd']} as these have it")
         more = self.more_of(row, snapshot)
+        if row["backend_type"] == CLIENT and row["state"] in (*ACTIVE, *IN_TRANSACTION) and row["xact_start"] is None:
+            return garbled(name, f"it is {row['state']}, and has no transaction", **more)
+        if row["backend_type"] == CLIENT and row["wait_event_type"] == "Activity":
+            return garbled(name, "it waits where processes of the server alone do", **more)
         lock = snapshot.look.waited_for.get(row["backend"])
         if row["blocked_by"] or lock is not None:
             return self.waiter(name, row, lock, snapshot, more)
@@ -130,7 +154,8 @@ class PostgresParser(Parser):
 
     def lock_of(self, row: Row, snapshot: Server) -> List[str]:
         lock = snapshot.look.waited_for.get(row["backend"])
-        return [told(lock, row["backend"], snapshot.look)] if lock else []
+        return [self.told.setdefault((row["backend"], key_of(lock)), told(lock, row["backend"], snapshot.look))] \
+            if lock else []
 
     # Waits for a lock
 
@@ -265,12 +290,17 @@ class PostgresParser(Parser):
     def at_pool(self, client: Client, snapshot: Server) -> Process:
         """A client that waits until another one gives a session of its pool back. It is the same wait if it began
         before the first look did, and another one if it began after that."""
-        look, name, lasted = snapshot.look, name_of_client(client), seconds_for(client)
+        first = self.clients[key_of_client(client)]
+        look, name, lasted = snapshot.look, name_of_client(first), seconds_for(client)
+        if any(client[key] != first[key] for key in ("user", "database", "addr", "port")):
+            return garbled(name, "its looks differ in whose client it is")
         assert look.pooler is not None and look.taken is not None
         limits = look.pooler.limits_of(client, name, self.limits, self.last - look.time)
         parts = any_of(*look.pooler.part_of(client, snapshot.names), *limits)  # (none of which its client may set)
-        stamp, (begin, end), first = f"{client['ptr']} since {client['request_time']}", look.taken, self.first
-        is_same, is_another = look.taken == first or end - lasted < first[0], begin - lasted > first[1]
+        stamp, (begin, end), start = f"{client['ptr']} since {client['request_time']}", look.taken, self.first
+        is_same, is_another = look.taken == start or end - lasted < start[0], begin - lasted > start[1]
+        if is_same and client["request_time"] != first["request_time"]:
+            return garbled(name, "its looks differ in since when it waits")
         return blocked(name, parts, [SYSTEM, premise(LIMITS)], operation="pool", count=stamp if is_same else None,
                        objects=[stamp, *(["another"] if is_another else [])],
                        site=f"client {name.rpartition(' ')[2]}", frames=[client.get("application_name") or "client"],
@@ -285,12 +315,19 @@ class PostgresParser(Parser):
                 name: keys_of(snapshot.rows_by_pid[pid], snapshot.look) for pid, name in snapshot.names.items()
                 if name in names and "odd" not in snapshot.rows_by_pid[pid]}))
             sketch.connections.update(connections_of({
-                name_of_client(row): [end_of(row)] for row in waiting_in(snapshot.look) if end_of(row)}))
+                name_of_client(self.clients[key_of_client(row)]): [end_of(row)] for row in waiting_in(snapshot.look)
+                if end_of(row)}))
             sketch.warnings += [LACKS.format(", ".join(snapshot.look.lacks))] if snapshot.look.lacks else []
             sketch.warnings += [OTHER_BASES.format(len(snapshot.apart))] if snapshot.apart else []
         hidden = sum(process.reason == HIDDEN for process in sketch.processes)
         if hidden:
             sketch.warnings.append(f"{HIDDEN}, for {hidden} of them")
+
+
+def has_begun_since(row: Row, look: Look) -> bool:
+    """Whether a backend may have begun after a look."""
+    start = row.get("backend_start")
+    return not isinstance(start, str) or seconds_of(start) >= look.time
 
 
 def apart_in(look: Look) -> Set[int]:
@@ -334,6 +371,15 @@ def keys_of(row: Row, look: Look) -> List[str]:
 def waiting_in(look: Look) -> List[Client]:
     """Returns the clients that wait for a session of a pool."""
     return look.pooler.waiting() if look.pooler is not None else []
+
+
+def key_of_client(row: Client) -> Tuple[str, str]:
+    """Returns what tells a client from others as long as it is connected."""
+    return row["ptr"], row.get("connect_time", "")
+
+
+def first_clients(looks: List[Look]) -> Dict[Tuple[str, str], Client]:
+    return {key_of_client(row): row for look in reversed(looks) for row in waiting_in(look)}
 
 
 def name_of_client(row: Client) -> str:

@@ -20,8 +20,8 @@ NUMBER = re.compile(r"\d{1,12}")
 OF_TEXT, OF_TIME, OF_OID = (str, NONE), (TIME, NONE), (NUMBER, NONE)
 LOOK = {"look": TIME, "version": NUMBER, "port": (int, NONE), "role": OF_OID, "database": OF_OID, "standby": bool}
 # Columns of pg_stat_activity of which nothing is read.
-UNREAD = ("pid", "backend_start", "backend_xid", "backend_xmin", "client_hostname")
-BACKEND = {"backend": int, "datname": OF_TEXT, "datid": OF_OID, "usename": OF_TEXT, "usesysid": OF_OID,
+UNREAD = ("backend_start", "backend_xid", "backend_xmin", "client_hostname")
+BACKEND = {"backend": int, "pid": int, "datname": OF_TEXT, "datid": OF_OID, "usename": OF_TEXT, "usesysid": OF_OID,
            "application_name": OF_TEXT, "client_addr": OF_TEXT, "client_port": (int, NONE), "backend_type": OF_TEXT,
            "state": OF_TEXT, "wait_event_type": OF_TEXT, "wait_event": OF_TEXT, "xact_start": OF_TIME,
            "query_start": OF_TIME, "state_change": OF_TIME, "query": OF_TEXT, "blocked_by": ([int], NONE),
@@ -81,6 +81,11 @@ class Look(ServerLook):
         number = sum(map(len, self.rows.values())) - len(ends) - len(taken)
         self.check_count(len(ends) == 1 and ends[0]["end"] == number)
         self.check_once(KEYS)
+        odd = next((row for row in self.of("backend") if row["pid"] != row["backend"]), None)
+        if odd is not None:
+            raise Refusal(f"{shown(self.path)}: a row has two numbers of a backend, {odd['pid']} and {odd['backend']}")
+        if any(row["lock"] != row["locktype"] for row in self.of("lock")):
+            raise Refusal(f"{shown(self.path)}: a row has two kinds of a lock")
         if self.console and taken:  # (without its time a look is cut off there)
             self.pooler, self.lacks = pooler_of(self.console, shown(self.path))
             self.pooler.find_clients(self.of("backend"))

@@ -24,6 +24,7 @@ from ..snapshots import APART, GROWN, ONCE, PARTS, WHOLE, Reading
 from . import State
 from .base import Parser, Snapshot, is_loop, without_sleep
 from .python_connections import connections_of
+from .python_contradictions import doubt_looks
 from .python_job import Job, machine_of
 from .python_names import NEED_ALL, Names, Standing, lasting_objects, main_task, public_name
 from .python_stack import KEPT, Frame, Stack, stack_of
@@ -114,6 +115,7 @@ class PythonParser(Parser):
             if look.by_faulthandler:  # it shows no process id, so each of its dumps counts as a process
                 self.dumps += 1
                 look.pid, look.process = self.dumps, f"dump-{self.dumps}"
+            look.is_whole = look.is_whole and bool(look.threads)  # (each process has its main thread)
         return [Reading(state.path, (look.by_faulthandler, look.place()), [look],
                         extent=WHOLE if look.is_whole else PARTS, machine=look.machine(), time=look.time())
                 for look in looks]
@@ -122,6 +124,11 @@ class PythonParser(Parser):
         """Names all that there is, puts the readings in the order of time where they print it, and says what is
         missing."""
         looks = [reading.rows[0] for reading in readings]
+        for look in looks:
+            self.looks.setdefault(look.place(), []).append(look)
+        for own in self.looks.values():
+            doubt_looks(own)
+            mark_woken(own)
         self.names = Names(looks)
         places = {look.place() for look in looks}
         hosts = {(look.machine(), look.place()[0]) for look in looks if look.machine()}
@@ -129,10 +136,6 @@ class PythonParser(Parser):
             raise Refusal(f"{readings[0].path}: its states have two names of one machine")
         begun = {look.place(child) for look in looks for child in look.children}
         self.is_alone = len(places) == 1
-        for look in looks:
-            self.looks.setdefault(look.place(), []).append(look)
-        for own in self.looks.values():
-            mark_woken(own)
         for reading, look in zip(readings, looks):
             reading.site = self.names.processes[look.place()]
             lost = [child for child in look.children if look.place(child) not in places]
@@ -190,6 +193,9 @@ class PythonParser(Parser):
                           self.stops_of_main(thread, subject.job.look))
             has_grown = thread is not None and has_stopped(thread)
         process.count = ", ".join(map(str, counts)) if counts and None not in counts else None
+        moves = subject.row.more["wait"] if subject.what == "task" else stops_of(thread) if subject.what == "thread" \
+            else None
+        process.spent = str(moves) if moves is not None and process.sign is not Sign.GOES_ON else None
         if has_grown:
             doubt_place(process)
         elif self.is_alone and is_vouched(thread, is_held, subject):
@@ -282,7 +288,15 @@ def process_at(subject: Subject, wait: Wait, standing: Optional[Standing] = None
     called = package_call(stack, standing.frames) or f"{operation} {awaited_by(standing)}".rstrip() if standing else ""
     note = f"{called} in {own[0]}" if called and own else own[0] if own else called
     return Process(subject.name, sign, wait.parts, wait.reason, list(wait.because), subject.job.site, note, own,
-                   operation, objects, wait.count, subject.kernel_thread(), is_collective=operation in NEED_ALL)
+                   operation, objects, wait.count, subject.kernel_thread(), is_collective=operation in NEED_ALL,
+                   stack=whole_stack(standing) if standing else ())
+
+
+def whole_stack(standing: Standing) -> List[Tuple[str, str, int]]:
+    """Returns the function, the file and the line of each frame. What other tools call a module is its file's name."""
+    if standing.look.shown_by:
+        return [(it.at.rpartition(".")[2], it.file, it.line) for it in standing.frames]
+    return [(it.at, it.file, it.line) for it in standing.frames]
 
 
 def awaited_by(standing: Standing) -> str:

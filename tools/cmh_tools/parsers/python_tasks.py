@@ -156,7 +156,10 @@ class Waits:
 
     def of_asked(self, row: Dict[str, Any]) -> Wait:
         """Returns the wait of a coroutine that the loop has been handed and hasn't begun."""
-        holder = self.job.holder(self.look.loops.get(row["loop"], {"current": None}))
+        loop = self.look.loops.get(row["loop"], {"current": None})
+        holder = self.job.holder(loop)
+        if holder is None and not self.look.is_whole and self.job.thread_of(loop) is None:
+            return unsure("the state isn't whole, and doesn't show what the thread of its event loop does")
         return goes("it is about to begin") if holder is None else \
             blocked(any_of(wakers("owns", self.job.names_of([holder.key]))))
 

@@ -13,7 +13,7 @@ from typing import Any, Dict, List, NamedTuple, Optional, Sequence, Set, Tuple
 
 from ..files import Refusal, shown
 from . import State
-from .base import fits, misfits, once_each
+from .base import COUNT, fits, misfits, once_each
 from .python_stack import FORKED, Frame, Stack, frame_in_file, kind_of, stack_of
 
 MARK = "cmh-state "
@@ -47,7 +47,8 @@ ROWS: Dict[str, Dict[str, Any]] = {
     "runs": {"of": int, "runs": ID, "thread": NUMBER, "current": (ID, type(None)), "callers?": ({str: bool}, ERROR),
              "waking?": ([str], ERROR), "arriving?": ([ID], ERROR), "callbacks?": [str], "signals?": [str]},
     "thread": {**PLACE, "thread": int, "native": NUMBER, "daemon": bool, "main": bool, "stops": NUMBER, "spent": NUMBER,
-               "new_stops?": NUMBER, "asleep?": FLAG, "loop": (ID, type(None)), "call": CALL, "connections?": object},
+               "new_stops?": (COUNT, type(None)), "asleep?": FLAG, "loop": (ID, type(None)), "call": CALL,
+               "connections?": object},
     "task": {**PLACE, "task": ID, "number": int, "loop": ID, "wait": int, "waits": (OBJECT, type(None), ERROR),
              "limit": bool, "sets": [ID], "parent?": str, "completes?": object, "connections?": object,
              "asks?": object},
@@ -427,6 +428,8 @@ def row_of_place(key: Any, row: Dict[str, Any]) -> Row:
               for line in row["frames"] if "in" in line]
     made = Row(key, row["name"], frames, row, "" if len(frames) == len(row["frames"]) else
                "a frame of its stack couldn't be read")
+    if not frames and "thread" in row:
+        made.fault = made.fault or "it has no frame"
     if made.stack.odd is not None:
         made.fault = made.fault or f"a frame of its stack is {shown(made.stack.odd)}, which isn't of its file"
     if frames and LIMITED.match(frames[0].at) and not is_limit(frames[0].has.get("timeout", "")):

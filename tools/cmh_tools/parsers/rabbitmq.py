@@ -19,6 +19,7 @@ from . import State
 from .base import Parser, Snapshot
 from .rabbitmq_broker import Broker
 from .rabbitmq_clients import COMPUTES, ELSEWHERE, SLEEPING, ticking_of
+from .rabbitmq_contradictions import doubt_services
 from .rabbitmq_services import TO_COME, UNSEEN, Service, process_name
 from .rabbitmq_text import lists_of
 from .rabbitmq_waits import at_work, busy, may_have_taken, publisher, stand_in, stands_by, with_client
@@ -61,6 +62,11 @@ class RabbitmqParser(Parser):
         if len({broker.has_counts for broker in brokers}) > 1:
             raise Refusal(f"{shown(readings[0].path)}: some of the states have what `rabbitmqctl eval` prints, and "
                           "others don't. Take them again")
+        if any(first.by_pid and second.by_pid and first.by_pid.keys().isdisjoint(second.by_pid)
+               for first, second in zip(brokers, brokers[1:])):
+            raise Refusal(f"{shown(readings[0].path)}: no connection is in two of its states: states of one broker are "
+                          "expected")
+        doubt_services(brokers)
         for broker in brokers:
             broker.ticking = ticking_of(brokers[0].clients, brokers[-1].clients)
             broker.moved = brokers[0].moved_until(brokers[-1])
@@ -70,6 +76,8 @@ class RabbitmqParser(Parser):
     def process_of(self, subject: Service, snapshot: Snapshot) -> Process:
         """Returns a service by what the broker says of it, and by what its client does, if that runs here."""
         service, name, more = subject, process_name(subject.name), subject.more()
+        if name in service.broker.faults:
+            return garbled(name, service.broker.faults[name], **more)
         if service.is_double:
             return unknown(name, "two connections have this name, so it isn't known which does what", **more)
         if service.state in ("blocked", "blocking"):
@@ -135,8 +143,9 @@ class RabbitmqParser(Parser):
         somebody is at work for whom it waits: without that it is like one that has nothing to do."""
         broker = service.broker
         senders = service.senders or service.first_repliers()
-        beginners = [other for other, one in broker.services.items() if one.may_begin and one is not service
-                     and other not in senders]
+        known = {name, *senders}
+        beginners = broker.beginners if known.isdisjoint(broker.beginners) else [
+            other for other in broker.beginners if other not in known]
         unseen = [] if name in broker.behind_work else [wakers("outside", [UNSEEN])]
         return [*([of_list(senders)] if senders else []), *([wakers("begins", beginners)] if beginners else []),
                 wakers("to-come", [TO_COME]), *unseen]

@@ -74,12 +74,11 @@ class Server:
         return not all(queue.startswith(NAMED_BY_BROKER) and self.routes.is_by_name(queue) for queue in queues)
 
 
-def all_who_may_end(server: Server, connections: List[str], others: Optional[List[str]], anybody: str) -> List[Wakers]:
+def all_who_may_end(server: Server, connections: List[str], others: List[str], anybody: str) -> List[Wakers]:
     """Returns all who may end the wait of a client at the first of its connections: others, and where its queues are
     open to anybody who stands for these. It is nothing where that isn't known."""
-    is_known = others is not None and not server.acts and server.is_silent(connections)
-    if not is_known or server.may_send_at_once(connections[0]):
+    if server.acts or not server.is_silent(connections) or server.may_send_at_once(connections[0]):
         return []
     because = [premise(name) for name in (ALONE, NEWCOMERS, PROMPT, HANDLES)]
     to_come = [wakers("to-come", [anybody], *because)] if server.is_open(connections[0]) else []
-    return [wakers("reaches", others or [], *because), *to_come]
+    return [wakers("reaches", others, *because), *to_come]

@@ -25,8 +25,13 @@ class Broker:
         self.routes = Routes(raw)
         self.server = Server(raw, self.routes)
         self.clients: List[Row] = raw["clients"]
+        self.client_ends = {row["connection"]: str(row.get("end", "")) for row in reversed(self.clients)}
         self.ticking: Dict[int, bool] = {}
         self.moved: Set[str] = set()  # the names of those that have carried something between the states
+        self.faults: Dict[str, str] = {}  # by the names of services, why another state contradicts this one
+        self.channels: Dict[str, str] = {row["pid"]: row["connection"] for row in raw["list_channels"]}
+        self.consumers = [(str(row.get("consumer_tag")), str(row["channel_pid"]), str(row["queue_name"]))
+                          for row in raw["list_consumers"]]
         self.warnings: List[str] = []
         self.missing = ""
         if self.routes.lost():
@@ -135,6 +140,37 @@ class Broker:
     def doing(self) -> Dict[str, Activity]:
         """What the clients do that run on this machine, by their connections."""
         return activities(self.clients, self.ticking)
+
+    @functools.cached_property
+    def readers(self) -> Dict[str, List[Tuple[int, Service]]]:
+        """By each queue those that consume it, each with its place among all."""
+        readers: Dict[str, List[Tuple[int, Service]]] = {}
+        for number, service in enumerate(self.services.values()):
+            for queue in dict.fromkeys(service.queues):
+                readers.setdefault(queue, []).append((number, service))
+        return readers
+
+    @functools.cached_property
+    def asking(self) -> Dict[str, List[Service]]:
+        """By each connection those at work whose client waits there."""
+        asking: Dict[str, List[Service]] = {}
+        for service in self.services.values():
+            if service.is_at_work:
+                asking.setdefault(service.does.connection, []).append(service)
+        return asking
+
+    @functools.cached_property
+    def of_process(self) -> Dict[int, List[str]]:
+        """The connections of each process."""
+        rows: Dict[int, List[str]] = {}
+        for service in self.services.values():
+            rows.setdefault(service.does.process, []).append(service.connection)
+        return rows
+
+    @functools.cached_property
+    def beginners(self) -> List[str]:
+        """The names of those that may begin to publish to a queue."""
+        return [name for name, service in self.services.items() if service.may_begin]
 
     def askers(self, service: Service) -> Set[str]:
         """Returns the names of those from whom a message may have come to a service, also through others."""

@@ -34,27 +34,51 @@ class Activity(NamedTuple):
     process: int = 0
 
 
+class Doing(NamedTuple):
+    """What a process does: of the connections at which its threads wait, and of all others."""
+
+    places: Dict[str, Activity]
+    elsewhere: Activity
+
+    def at(self, connection: str) -> Activity:
+        return self.places.get(connection, self.elsewhere)
+
+
 def activities(rows: List[Row], ticking: Dict[int, bool]) -> Dict[str, Activity]:
-    """Returns what clients do, by their connections. `ticking` has the threads that come back to the same sleep."""
-    return {row["connection"]: activity_of(row["threads"], ticking, row["connection"])._replace(
-        is_deaf=row.get("is_deaf", False), process=row.get("process", 0)) for row in rows}
+    """Returns what clients do, by their connections. `ticking` has the threads that come back to the same sleep. Those
+    of a process share the list of its threads."""
+    doing_of_list = {id(threads): doing_of(threads, ticking) for threads in lists_of(rows)}
+    places = {id(threads): {thread["tid"]: thread.get("at") for thread in threads} for threads in lists_of(rows)}
+    clients: Dict[str, Activity] = {}
+    for row in rows:
+        threads, name = row["threads"], row["connection"]
+        others = {tid for tid in row.get("waiters", ()) if places[id(threads)].get(tid) != name}
+        doing = doing_of_list[id(threads)] if not others else doing_of(
+            [{**thread, "at": name} if thread["tid"] in others else thread for thread in threads], ticking)
+        clients[name] = doing.at(name)._replace(is_deaf=row.get("is_deaf", False), process=row.get("process", 0))
+    return clients
 
 
-def activity_of(threads: List[Row], ticking: Dict[int, bool], connection: str) -> Activity:
+def lists_of(rows: List[Row]) -> List[List[Row]]:
+    """Returns each list of threads once."""
+    return list({id(row["threads"]): row["threads"] for row in rows}.values())
+
+
+def doing_of(threads: List[Row], ticking: Dict[int, bool]) -> Doing:
     """Returns what the threads of a client do. Of those that each wait at a connection, its own one tells most."""
     living = [thread for thread in threads if thread["state"] not in "ZX"]
     if any(thread["state"] in "Tt" for thread in living):  # (somebody holds it)
-        return Activity(OPEN)
+        return Doing({}, Activity(OPEN))
     if len(living) == 1:
-        return single(living[0])._replace(is_sure=True)
+        return Doing({}, single(living[0])._replace(is_sure=True))
     rest = [single(thread) for thread in living if thread["tid"] not in ticking and thread.get("at") != ITSELF
             and not is_at_rest(thread)]
     kinds = {activity.kind for activity in rest}
     first = next((kind for kind in (COMPUTES, ELSEWHERE, SLEEPING, OPEN) if kind in kinds), "")
     if first or not rest:
-        return Activity(first or OPEN)
+        return Doing({}, Activity(first or OPEN))
     places = {activity.connection: activity for activity in rest}
-    return places.get(connection, rest[0] if len(places) == 1 else Activity(OPEN))
+    return Doing(places, rest[0] if len(places) == 1 else Activity(OPEN))
 
 
 def is_at_rest(thread: Row) -> bool:
@@ -75,7 +99,7 @@ def single(thread: Row) -> Activity:
 
 def ticking_of(first: List[Row], later: List[Row]) -> Dict[int, bool]:
     """Returns the threads that have come back to the same sleep between two states, as heartbeats do."""
-    before, after = ({thread["tid"]: thread.get("count") for row in rows for thread in row["threads"]
+    before, after = ({thread["tid"]: thread.get("count") for threads in lists_of(rows) for thread in threads
                       if thread.get("call") in SLEEPS} for rows in (first, later))
     return {tid: True for tid, count in before.items() if after.get(tid, count) != count}
 

@@ -47,8 +47,9 @@ class Service:
         """What tells its wait from the next, and the note."""
         service, _, site = self.name.partition("@")
         note = f"consumes {', '.join(self.queues)}" if self.queues else "consumes nothing"
+        count = None if self.is_double else self.count
         return {"site": site or None, "frames": [service], "operation": "consume" if self.queues else "publish",
-                "objects": sorted(self.queues), "note": note, "count": None if self.is_double else self.count,
+                "objects": sorted(self.queues), "note": note, "count": count, "spent": count,
                 "thread": f"{self.does.process}/" if self.does.process else ""}
 
     def grown_since(self, earlier: Service) -> Tuple[bool, bool]:
@@ -94,8 +95,7 @@ class Service:
 
     def is_asking(self) -> bool:
         """Whether another service of its process has a message, and waits for an answer at its connection."""
-        return any(other is not self and other.is_at_work and other.does.connection == self.connection
-                   for other in self.broker.services.values())
+        return any(other is not self for other in self.broker.asking.get(self.connection, ()))
 
     @functools.cached_property
     def looks_on(self) -> bool:
@@ -133,7 +133,9 @@ class Service:
 
     def consumers(self) -> List[str]:
         """Returns the names of those that consume what it has published."""
-        return [name for name, other in self.others().items() if not {*self.sent}.isdisjoint(other.queues)]
+        readers = self.broker.readers
+        others = dict(row for queue in self.sent for row in readers.get(queue, ()) if row[1] is not self)
+        return [process_name(others[number].name) for number in sorted(others)]
 
     def has_asked(self, name: str) -> bool:
         """Whether one who consumes what it has published may have a question of it: a message is there that is ready or
@@ -159,8 +161,7 @@ class Service:
     @functools.cached_property
     def client_end(self) -> str:
         """The client's end of its connection, if that is on this machine, or nothing."""
-        mine = (row for row in self.broker.clients if row["connection"] == self.connection)
-        return next((str(row.get("end", "")) for row in mine), "")
+        return self.broker.client_ends.get(self.connection, "")
 
     def by_client(self) -> Wakers:
         """Returns who stands for what its client does: on this machine the client itself, in whose place its threads

@@ -23,6 +23,8 @@ TABLE = [([str, re.compile("longstr"), str], [str, re.compile("bool"), bool],
 ARGUMENTS = (TABLE, re.compile(""))
 NUMBER = (COUNT, re.compile(""))  # nothing where the queue is down
 CHANNEL = re.compile(r"#PID<\d+\.\d+\.\d+>")
+NUMBERS = re.compile(r"\d{1,9}")
+FEW = 1 << 15  # as many processes any Erlang has before it gives a number again
 STATISTICS = re.compile("none|coarse|fine")  # how much the broker counts
 SHAPES = {
     "list_connections": [object],
@@ -40,8 +42,8 @@ SHAPES = {
     "server": ([], {"value": {"plugins": [str], "connections": [{"pid": str, "vhost": str, "timeout": int}],
                               "channels": [{"pid": str, "messages_unconfirmed": COUNT}]}, ...: object}),
     "taken": ([], {"began": float, "ended": float, "space": str}),
-    "clients": [{"connection": str, "process": int, "end?": str, "is_deaf?": bool,
-                 "threads": [{"tid": int, "state": str, "call?": str, "at?": str, "count?": int, "limit?": object}]}],
+    "clients": [{"connection": str, "process": int, "end?": str, "is_deaf?": bool, "waiters?": [int], "as?": str,
+                 "threads?": [{"tid": int, "state": str, "call?": str, "at?": str, "count?": int, "limit?": object}]}],
 }
 # What each row of a list has alone, also of those within another one.
 KEYS: Dict[str, Tuple[str, ...]] = {
@@ -89,12 +91,25 @@ def raw_of(path: str, lists: List[Tuple[str, str]]) -> Raw:
         if odd is not None:
             raise Refusal(f"{where}, {part}: {quote(odd[1:] or 'the list')} isn't as rabbitmqctl prints it; rows count "
                           "from 0. Take the state again, or leave that row out by hand")
+    add_threads(raw["clients"], where)
     for row in raw["list_policies"]:
         row["definition"] = definition_of(row, f"{where}, list_policies: policy {shown(row['name'])}")
     odd = next(faults_of(raw), None)
     if odd is not None:
         raise Refusal(f"{where}, {odd}. Take the state again")
     return raw
+
+
+def add_threads(rows: List[Dict[str, Any]], where: str) -> None:
+    """Gives each connection what the threads of its process do, which stands at the first one: a list that these share.
+    """
+    first = {row["connection"]: row for row in rows if "threads" in row}
+    for row in rows:
+        other = first.get(row.get("as", row["connection"]))
+        if other is None or other["process"] != row["process"]:
+            raise Refusal(f"{where}, clients: what the client of {shown(row['connection'])} does isn't there. Take the "
+                          "state again")
+        row["threads"] = other["threads"]
 
 
 def faults_of(raw: Raw) -> Iterator[str]:
@@ -108,6 +123,9 @@ def faults_of(raw: Raw) -> Iterator[str]:
         rows = rows_in(raw, part)
         if len({tuple(row[key] for key in keys) for row in rows}) < len(rows):
             yield f"{part}: a row stands twice"
+    early = next((row for row in raw["list_channels"] if is_older(row["pid"], row["connection"])), None)
+    if early is not None:
+        yield f"list_channels: channel {shown(early['pid'])} is older than its connection, or of another broker"
     policies = ["", *(row["name"] for row in raw["list_policies"])]
     for row in raw["list_queues"]:
         if row.get("policy", None if raw["list_policies"] else "") not in policies:
@@ -123,6 +141,15 @@ def faults_of(raw: Raw) -> Iterator[str]:
         arguments = table_of(row["arguments"])
         if KEY in arguments and EXCHANGE not in arguments:
             yield f"list_queues: queue {quote(str(row['name']))} has a key for dead messages, and no exchange for them"
+
+
+def is_older(channel: str, connection: str) -> bool:
+    """Whether a process of the broker began before another one, or runs in another one, by their numbers: these grow
+    until all have been given."""
+    numbers = [[int(number) for number in NUMBERS.findall(pid)] for pid in (channel, connection)]
+    if not all(len(three) == 3 and three[1] < FEW and not three[2] for three in numbers):
+        return False
+    return numbers[0][0] != numbers[1][0] or numbers[0][1] < numbers[1][1]
 
 
 def is_for(policy: Dict[str, Any], queue: str) -> bool:

@@ -26,8 +26,9 @@ def with_client(process: Process, service: Service) -> Process:
     """Returns a service with all who may end its wait, where its client shows that: a process of one thread on this
     machine, which waits at its connection alone."""
     broker, does = service.broker, service.does
-    own = [other.connection for other in broker.services.values() if other.does.process == does.process]
-    able = all_who_may_end(broker.server, [does.connection, *own], service.strangers(), TO_COME)
+    strangers = service.strangers()
+    able = [] if strangers is None else all_who_may_end(
+        broker.server, [does.connection, *broker.of_process[does.process]], strangers, TO_COME)
     if able and process.sign in (Sign.BLOCKED, Sign.RESTS):
         likely = [group for part in process.parts for group in part if group.how == "guess"]
         process.parts = any_of(*likely, *able)

@@ -3,7 +3,7 @@ break waits off. What a limit is called stands among the processes, so that an a
 from __future__ import annotations
 
 from dataclasses import dataclass, field
-from typing import Any, Dict, List, NamedTuple, Optional, Tuple, Type, TypeVar
+from typing import Any, Callable, Dict, Iterable, Iterator, List, NamedTuple, Optional, Sequence, Tuple, Type, TypeVar
 
 from ..files import Refusal, shown
 from ..model import Part, Sign, wakers
@@ -12,6 +12,7 @@ from .base import misfits, row_in
 
 Row = Dict[str, Any]
 SLACK = 2.0  # seconds by which a wait may outlast its limit, until that is carried out
+APART = 10.0  # seconds by which two clocks may differ in what passes between looks, as one of a busy machine
 OWN_LIMITS = "session-limits"  # stands for limits that sessions have set for themselves
 UNITS = ((86400, "d"), (3600, "h"), (60, "min"), (1, "s"))
 
@@ -100,6 +101,78 @@ class Lines(NamedTuple):
         if odd and (kind != self.kept or odd == f".{self.kept}"):
             raise Refusal(f"{where}: {self.expected}, and in this line {shown(odd[1:])} isn't as these have it")
         return kind, {**row, "odd": odd[1:]} if odd else row
+
+
+class Lasting(NamedTuple):
+    """What tells whether rows of two looks are of one session, or of one transaction: keys that are the `same` as long
+    as it lives, those of what `begins` anew at a later time, those of what also `ends`, `numbers`, of which a new one
+    is higher than all before, and those that stay until one of what begins has `changed`."""
+
+    kind: str
+    same: Tuple[str, ...] = ()
+    begins: Tuple[str, ...] = ()
+    ends: Tuple[str, ...] = ()
+    numbers: Tuple[str, ...] = ()
+    changed: Tuple[str, ...] = ()
+
+    def contradictions(self, looks: Sequence[ServerLook], times: Sequence[float],
+                       seconds: Callable[[str], float]) -> Iterator[Tuple[Row, Row, str]]:
+        """Yields each two rows of looks that can't be of one, with the key that says so. `times` are those of the
+        looks, and `seconds` reads one of a row."""
+        for before, look, begun, end in zip(looks, looks[1:], times, times[1:]):
+            rows = {row[self.kind]: row for row in before.of(self.kind)}
+            least = {key: max((row.get(key) or 0 for row in rows.values()), default=0) for key in self.numbers}
+            pairs = [(rows[row[self.kind]], row) for row in look.of(self.kind) if row[self.kind] in rows]
+            keys = (*self.same, *self.begins, *self.ends, *self.numbers)
+            yield from ((*pair, key) for pair in pairs for key in keys if pair[0].get(key) != pair[1].get(key)
+                        and not self.may_be_new(key, pair[1].get(key), least.get(key, 0), begun, end, seconds))
+            yield from ((*pair, key) for pair in pairs for key in self.changed if pair[0].get(key) != pair[1].get(key)
+                        and all(pair[0].get(begun) == pair[1].get(begun) for begun in self.begins))
+
+    def doubt_rows(self, looks: Sequence[ServerLook], times: Sequence[float], seconds: Callable[[str], float]) -> None:
+        """Marks as odd what can't be of one session."""
+        for before, row, key in self.contradictions(looks, times, seconds):
+            before["odd"] = row["odd"] = key
+
+    def may_be_new(self, key: str, value: Any, least: int, begun: float, end: float,
+                   seconds: Callable[[str], float]) -> bool:
+        """Whether a value of a look may have come since the one before."""
+        if value is None:
+            return key in (*self.ends, *self.numbers)
+        if key in (*self.begins, *self.ends):
+            return begun <= seconds(value) <= end + SLACK
+        return key in self.numbers and value > least
+
+
+def check_server(path: str, servers: Iterable[Tuple[Any, ...]]) -> None:
+    """Raises Refusal if looks are of several servers, by what tells one from others."""
+    if len(set(servers)) > 1:
+        raise Refusal(f"{shown(path)}: its looks are of several servers, or of one that was begun anew: looks at one "
+                      "are expected")
+
+
+def check_times(path: str, times: Sequence[float], taken: Sequence[float]) -> None:
+    """Raises Refusal unless looks are in the order of time, by the clock of the server and by that of who looked."""
+    for time, later, before, after in zip(times, times[1:], taken, taken[1:]):
+        if not (time < later and before < after and abs(later - time - after + before) < APART):
+            raise Refusal(f"{shown(path)}: its looks aren't in the order of time, or two clocks contradict each other")
+
+
+def names_in(looks: Sequence[ServerLook], kind: str, name: Callable[[Row], str]) -> Dict[int, str]:
+    """Returns what each session is called in all looks: as in the first one that has its row as it should be."""
+    rows = sorted((row for look in looks for row in look.of(kind)), key=lambda row: "odd" in row)
+    return {row[kind]: name(row) for row in reversed(rows)}
+
+
+def doubt_newcomers(looks: Sequence[AnyLook], kind: str, may_be_new: Callable[[Row, AnyLook], bool]) -> None:
+    """Marks as odd the sessions that came between two looks and were there before, as their rows say; and with them
+    those that aren't there any more, one of which each may be."""
+    for before, look in zip(looks, looks[1:]):
+        there, later = ({row[kind] for row in one.of(kind)} for one in (before, look))
+        odd = [row for row in look.of(kind) if row[kind] not in there and not may_be_new(row, before)]
+        gone = [row for row in before.of(kind) if row[kind] not in later] if odd else []
+        for row in (*odd, *gone):
+            row["odd"] = row.get("odd", kind)
 
 
 class Limits:
