@@ -3,13 +3,14 @@
 _cmh_stall() {
     local word=${COMP_WORDS[COMP_CWORD]} before=${COMP_WORDS[COMP_CWORD - 1]}
     local options='--seconds --with --stacks --kill --heap --yes --cookie-file'
-    options+=' --output --redact --true --all --why --service --keep --timeout --grace --help --version'
+    options+=' --output --redact --true --all --why --service --keep --timeout --grace'
+    options+=' --most-seconds --most-memory --help --version'
     local systems='linux jvm go python erlang mpi rabbitmq postgres mariadb'
     COMPREPLY=()
     case " ${COMP_WORDS[*]:1:COMP_CWORD-1} " in
         *' --timeout '*' -- '*) _command_of_cmh_stall && return ;;
     esac
-    [[ $before != --@(seconds|timeout|grace|service|keep) ]] || return
+    [[ $before != --@(seconds|most-seconds|most-memory|timeout|grace|service|keep) ]] || return
     case $before:$word in
         *:-*) mapfile -t COMPREPLY < <(compgen -W "$options" -- "$word") ;;
         cmh-stall:* | --with:*) mapfile -t COMPREPLY < <(compgen -W "$systems" -o plusdirs -- "$word") ;;

@@ -3,11 +3,11 @@ what the state shows of a wait is intersected."""
 from __future__ import annotations
 
 import re
-from typing import Dict, Iterable, List, Optional, Set, Tuple
+from typing import Dict, Iterable, List, NamedTuple, Optional, Set, Tuple
 
 from .facts import ALSO, HOLDS, OTHERS, RELATIVES, Fact, Facts, families, fill_in, is_others
 from .files import short_name
-from .model import COMES, Anybody, Part, Sign, Strength, Wakers, all_of, any_of, unseen, wakers
+from .model import COMES, Anybody, Part, Sign, Strength, Wakers, Who, all_of, any_of, unseen, wakers
 from .places import SPECIAL, VARIABLE, is_like, may_meet
 from .proposals import frame_name
 from .sketch import (ANY, DONE, GOING, LIMIT, NEEDED, REST, UNKNOWN, WAITING, WORK, Process, Sketch, has_how,
@@ -397,7 +397,7 @@ def drop_missing(sketch: Sketch) -> None:
 def drop_bystanders(facts: Facts, sketch: Sketch) -> None:
     """Takes those out of the wakers of others, where one of several is enough, that end no such wait by the facts. A
     list of such ones alone stays: who waits for them waits for their own end, as a join does."""
-    kept: Dict[Tuple[int, int], Wakers] = {}  # by the ids of a list and of who is taken out, what is left of it
+    kept: Dict[Tuple[int, int], Left] = {}  # by the ids of a list and of who is taken out
     for process in sketch.processes if facts.bystanders or facts.bystanders_at else ():
         known = facts.bystanders_at.get(process.name, facts.bystanders)
         gone: Dict[int, Fact] = {}
@@ -406,19 +406,26 @@ def drop_bystanders(facts: Facts, sketch: Sketch) -> None:
             process.because = [*process.because, facts.reason(fact)]
 
 
-def part_without(part: Part, known: Dict[str, Fact], kept: Dict[Tuple[int, int], Wakers],
-                 gone: Dict[int, Fact]) -> Part:
+class Left(NamedTuple):
+    """What is left of a list without bystanders, and the facts on these, by their lines."""
+
+    who: Who
+    facts: Dict[int, Fact]
+
+
+def part_without(part: Part, known: Dict[str, Fact], kept: Dict[Tuple[int, int], Left], gone: Dict[int, Fact]) -> Part:
     """Returns a part without bystanders, and notes the facts on those who were one of it."""
     left: List[Wakers] = []
     for group in part:
         key = id(group.who), id(known)
         if key not in kept:
-            kept[key] = group.without(known)
-        left.append(kept[key]._replace(strength=group.strength, how=group.how, because=group.because, what=group.what))
+            facts = (known[name] for name in group.names() if name in known)
+            kept[key] = Left(group.without(known).who, {fact.at: fact for fact in facts})
+        left.append(group._replace(who=kept[key].who))
     if not any(group.strength in (Strength.NAMED, Strength.ABLE) and group.names() for group in left):
         left = [new if old.strength in (Strength.AGAINST, Strength.UNSEEN) else old for old, new in zip(part, left)]
     for old, new in zip(part, left):
-        gone.update({known[name].at: known[name] for name in set(old.names()) - set(new.names())})
+        gone.update(kept[id(old.who), id(known)].facts if new.who is not old.who else {})
     return tuple(new for old, new in zip(part, left) if new.names() or not old.names())
 
 

@@ -1,22 +1,28 @@
 """How the state of each live system is taken: what that needs, what the system feels of it, and the commands for it."""
 from __future__ import annotations
 
+import codecs
 import contextlib
 import os
 import re
+import selectors
 import shutil
 import signal
 import subprocess
 import sys
 import time
 from dataclasses import dataclass, field, replace
-from typing import Dict, Iterator, List, Optional, Sequence
+from typing import Callable, Dict, Iterator, List, Optional, Sequence, Tuple
 
-from cmh_linux.debugger import let_go, standstill
+from cmh_proc.budget import BUDGET, size_in_words
+from cmh_proc.held import let_go, standstill
+from cmh_proc.ports import listeners_at as listeners
+from cmh_proc.process import files_in_memory, link_of, name_of, pids, stat_of, state_signal, user_of
 
 from .descendants import descendants
-from .files import Failure, say, shown
-from .folder import user_of
+from .files import MOST, PIECE, Failure, cause_of, say, shown, signal_words
+from .folder import name_of_user
+from .memory import unbound_memory
 
 HOME = os.path.dirname(os.path.dirname(os.path.realpath(__file__)))
 READER = f"{HOME}/cmh_python_reader.py"  # two looks at most: between these no count has what it does itself
@@ -24,7 +30,6 @@ LONG = 10  # seconds beyond which there is a third look halfway: no more, as eac
 TIMES = {2: "twice", 3: "three times"}
 PATIENCE = 10  # seconds in which a command that is ended puts away what it has begun
 OURS = ("take-", "cmh_")  # how lines begin that our own scripts say, and no program that they run
-LISTENS = "0A"  # the state of a socket of TCP
 LOCAL = re.compile(r"localhost|127(\.\d+){3}|\[::1\]")  # what this machine is called
 
 
@@ -164,12 +169,11 @@ def check_needs(capture: Capture) -> None:
     for command, package in needs.items():
         if shutil.which(command) is None and not (command == "mariadb" and shutil.which("mysql")):
             raise Failure(f"{command} is needed for {system}, and isn't there (Debian: apt-get install {package})")
-    for pid in capture.targets if system == "jvm" and os.geteuid() else ():
-        with contextlib.suppress(FileNotFoundError):
-            owner = os.stat(f"/proc/{pid}").st_uid
-            if owner != os.geteuid():  # (a JVM answers its own user and root alone)
-                raise Failure(f"process {pid} is of another user, by whom a JVM has to be asked: "
-                              f"sudo -u '{user_of(owner)}' cmh-stall jvm {pid}")
+    for pid in filter(str.isdigit, capture.targets if system == "jvm" and os.geteuid() else ()):
+        owner = user_of(int(pid))
+        if owner is not None and owner != os.geteuid():  # (a JVM answers its own user and root alone)
+            raise Failure(f"process {pid} is of another user, by whom a JVM has to be asked: "
+                          f"sudo -u '{name_of_user(owner)}' cmh-stall jvm {pid}")
 
 
 def captures_for(system: str, targets: List[str], may_kill: bool, may_dump: bool) -> List[Capture]:
@@ -192,7 +196,7 @@ def captures_for(system: str, targets: List[str], may_kill: bool, may_dump: bool
 
 def those_there(pids: List[str]) -> List[str]:
     """Returns those of some processes that haven't ended, and says which have. Without any all are returned."""
-    left = [pid for pid in pids if stat_of(pid, 0) not in ("Z", "X", "?")]
+    left = [pid for pid in pids if (stat_of(f"/proc/{pid}") or ["X"])[0] not in ("Z", "X")]
     for pid in pids if left else ():
         if pid not in left:
             say(f"process {shown(pid)} has ended, and isn't read")
@@ -244,24 +248,7 @@ def without_debugger(captures: List[Capture]) -> List[Capture]:
 def listeners_at(address: str) -> List[str]:
     """Returns the processes that listen at a port of this machine, as far as this user may see that."""
     host, _, port = address.rpartition(":")
-    if not LOCAL.fullmatch(host):
-        return []
-    rows = [line.split() for name in ("tcp", "tcp6") for line in text_of(f"/proc/net/{name}").splitlines()[1:]]
-    sockets = {f"socket:[{row[9]}]" for row in rows if row[3] == LISTENS and port == str(int(row[1].split(":")[1], 16))}
-    return [pid for pid in filter(str.isdigit, os.listdir("/proc")) if not sockets.isdisjoint(files_of(pid))]
-
-
-def files_of(pid: str) -> List[str]:
-    """Returns what the descriptors of a process are, as far as this user may see that."""
-    with contextlib.suppress(OSError):
-        return [link_of(f"/proc/{pid}/fd/{fd}") for fd in os.listdir(f"/proc/{pid}/fd")]
-    return []
-
-
-def text_of(path: str) -> str:
-    with contextlib.suppress(OSError), open(path, encoding="ascii", errors="replace") as file:
-        return file.read()
-    return ""
+    return list(map(str, listeners(int(port)))) if LOCAL.fullmatch(host) and port.isdigit() else []
 
 
 def with_stacks(capture: Capture) -> Capture:
@@ -323,39 +310,18 @@ def children_that_answer(pids: Sequence[str]) -> List[str]:
 
 
 def answers(pid: str) -> bool:
-    """Whether a Python process has a file in memory by which it shows that it answers a signal."""
-    return has_in_memory(pid, "cmh_state")
+    """Whether a Python process answers a signal with its state."""
+    return pid.isdigit() and state_signal(int(pid)) != 0
 
 
 def has_record(target: str) -> bool:
     """Whether a rank, named by its number or its executable file, has a record of cmh_mpi.so."""
-    return any(has_in_memory(pid, "cmh_mpi") for pid in pids_of(target))
-
-
-def has_in_memory(pid: str, name: str) -> bool:
-    """Whether a process has a file in memory of this name open."""
-    return any(target.startswith(f"/memfd:{name} ") for target in files_of(pid))
+    return any(files_in_memory(int(pid), "cmh_mpi") for pid in pids_of(target))
 
 
 def pids_of(target: str) -> List[str]:
     """The numbers of the processes that are named by one, or by their executable file."""
-    if target.isdigit():
-        return [target]
-    return [pid for pid in filter(str.isdigit, os.listdir("/proc"))
-            if os.path.basename(link_of(f"/proc/{pid}/exe")) == target]
-
-
-def stat_of(pid: str, place: int) -> str:
-    """A number that the kernel keeps of a process, by its place behind the name."""
-    with contextlib.suppress(OSError, IndexError), open(f"/proc/{pid}/stat", "rb") as file:
-        return file.read().rpartition(b")")[2].split()[place].decode()
-    return "?"
-
-
-def link_of(path: str) -> str:
-    with contextlib.suppress(OSError):
-        return os.readlink(path)
-    return ""
+    return [target] if target.isdigit() else [str(pid) for pid in pids() if name_of(pid) == target]
 
 
 class Running:
@@ -365,55 +331,112 @@ class Running:
         self.capture = capture
         self.lacks: List[str] = []
         self.held = [pid for pid in capture.those_held() if not standstill(pid)]
-        self.process = subprocess.Popen(
-            capture.words(seconds), stdin=subprocess.DEVNULL, stdout=subprocess.PIPE, stderr=subprocess.PIPE,
-            start_new_session=True, env={**os.environ, "CMH_SECONDS": f"{capture.pause(seconds):g}",
-                                         "CMH_LOOKS": str(capture.looks(seconds)), **env})
+        words = capture.words(seconds)
+        self.printed = {"output": bytearray(), "errors": bytearray()}
+        self.selector = selectors.DefaultSelector()
+        try:
+            self.process = subprocess.Popen(
+                words, stdin=subprocess.DEVNULL, stdout=subprocess.PIPE, stderr=subprocess.PIPE, start_new_session=True,
+                env={**os.environ, "CMH_SECONDS": f"{capture.pause(seconds):g}",
+                     "CMH_LOOKS": str(capture.looks(seconds)), **BUDGET.environment(), **env})
+        except OSError as error:
+            raise self.failure([f"{shown(words[0])}: {cause_of(error)}"]) from error
+        unbound_memory(self.process.pid)
+        for name, pipe in (("output", self.process.stdout), ("errors", self.process.stderr)):
+            self.selector.register(pipe, selectors.EVENT_READ, name)  # type: ignore[arg-type]
 
     def text(self, seconds: float) -> Optional[str]:
         """Returns what it printed, or None if it hasn't ended within so many seconds. Then `lacks` has what it couldn't
-        take, as it says. Raises Failure if it failed."""
-        try:
-            out, err = self.process.communicate(timeout=seconds)
-        except subprocess.TimeoutExpired:
-            return None
-        said = err.decode(errors="backslashreplace").strip() or f"status {self.process.returncode}"
-        lines = [shown(line) for line in said.split("\n")]
-        if self.process.returncode or not out:
-            raise Failure("\n".join([f"the state of {self.capture.system} couldn't be taken: {lines[0]}", *lines[1:]]))
+        take, as it says. Raises Failure if it failed, or prints or takes too much."""
+        last = time.monotonic() + seconds
+        while self.selector.get_map():
+            self.read(max(0.0, last - time.monotonic()))
+            if time.monotonic() >= last and self.selector.get_map():
+                return None
+        self.process.wait()
+        output, errors = (codecs.decode(data, "utf-8", "backslashreplace") for data in self.printed.values())
+        lines = [*self.killed_words(), *map(shown, (errors.strip() or f"status {self.process.returncode}").split("\n"))]
+        if self.process.returncode or not output:
+            raise self.failure(lines)
         self.lacks = [line for line in lines if line.startswith(OURS)]
-        return out.decode(errors="backslashreplace")
+        return output
+
+    def read(self, seconds: float) -> None:
+        """Reads what it prints within some seconds. Raises Failure if that is more than is read, or takes longer than
+        the look may."""
+        for key, _ in self.selector.select(min(seconds, BUDGET.seconds())):
+            piece = os.read(key.fd, PIECE)
+            self.printed[key.data] += piece
+            if not piece:
+                self.selector.unregister(key.fileobj)
+            if len(self.printed[key.data]) > MOST:
+                raise self.failure([f"it is larger than {size_in_words(MOST)}"])
+        if not BUDGET.seconds():
+            raise self.failure(["its time is over"])
+
+    def failure(self, lines: List[str]) -> Failure:
+        return Failure("\n".join([f"the state of {self.capture.system} couldn't be taken: {lines[0]}", *lines[1:]]))
+
+    def killed_words(self) -> List[str]:
+        """Returns that it was killed by a signal, or what it has run, which a shell or a reader says by its status."""
+        killed = signal_words(self.process.returncode)
+        words = self.process.args if isinstance(self.process.args, list) else []
+        script = os.path.basename(next((word for word in words if word != sys.executable), ""))
+        programs = " or ".join(SYSTEMS[self.capture.system].needs) if self.process.returncode > 0 else ""
+        return [f"{programs or script} {killed}"] if killed else []
 
     def end(self) -> None:
+        self.selector.close()
+        for pipe in (self.process.stdout, self.process.stderr):  # (so that it doesn't wait to print more)
+            pipe.close()  # type: ignore[union-attr]
         if self.process.poll() is None:
             os.killpg(self.process.pid, signal.SIGTERM)
             with contextlib.suppress(subprocess.TimeoutExpired):
-                self.process.communicate(timeout=PATIENCE)
+                self.process.wait(PATIENCE)
         with contextlib.suppress(ProcessLookupError):
             os.killpg(self.process.pid, signal.SIGKILL)
-        if self.process.poll() != 0:
+        if self.process.wait() != 0:
             let_go(self.held)
 
 
-def take(captures: Sequence[Capture], seconds: float, env: Dict[str, str]) -> Iterator[Dict[str, str]]:
-    """Yields the texts of the states of each capture by the names of their files. All are begun at one time, so that
-    their first readings come before any second one."""
+def take(captures: Sequence[Capture], seconds: float, env: Dict[str, str],
+         fail: Callable[[Failure], object]) -> Iterator[Tuple[Capture, Dict[str, str]]]:
+    """Yields each capture with the texts of its states, by the names of their files. All are begun at one time, so that
+    their first readings come before any second one. Why one couldn't be taken goes to `fail`, and the others come."""
     running: List[Running] = []
     begun = time.monotonic()
     try:
-        running += [Running(it, seconds, env) for it in captures]
-        for it in tuple(running):
-            texts, names = [wait(it, begun)], it.capture.names(seconds)
-            for number in range(1, len(names)):
-                time.sleep(max(0.0, number * it.capture.pause(seconds) - (time.monotonic() - begun)))
-                running.append(Running(it.capture, seconds, env))
-                texts.append(wait(running[-1], begun))
-            yield dict(zip(names, texts))
+        for capture in captures:
+            with failing(fail):
+                running.append(Running(capture, seconds, env))
+        for first in tuple(running):
+            with failing(fail):
+                yield first.capture, states_of(first, running, seconds, env, begun)
         for line in dict.fromkeys(line for command in running for line in command.lacks):
             say(f"warning: {line}")
     finally:
         for it in running:
             it.end()
+
+
+@contextlib.contextmanager
+def failing(fail: Callable[[Failure], object]) -> Iterator[None]:
+    try:
+        yield
+    except Failure as failure:
+        fail(failure)
+
+
+def states_of(first: Running, running: List[Running], seconds: float, env: Dict[str, str],
+              begun: float) -> Dict[str, str]:
+    """Returns the texts of all looks of a capture, of which the first one has begun."""
+    capture = first.capture
+    texts, names = [wait(first, begun)], capture.names(seconds)
+    for number in range(1, len(names)):
+        time.sleep(max(0.0, number * capture.pause(seconds) - (time.monotonic() - begun)))
+        running.append(Running(capture, seconds, env))
+        texts.append(wait(running[-1], begun))
+    return dict(zip(names, texts))
 
 
 def wait(running: Running, begun: float) -> str:

@@ -11,12 +11,15 @@ from typing import Any, Callable, Dict, List, NoReturn, Optional, Sequence, Tupl
 
 from . import VERSION
 from .dump import Dump
-from .files import Failure, Refusal, read_text, say, shown, write_out
+from .files import FULL, Failure, Refusal, read_text, say, shown, write_out
+from .memory import bound_memory
 from .sketch import BARE, OLDER, Sketch, read_json
 from .sketch_json import is_texts, sketch_of
+from .start import OUT_OF_MEMORY, shortage
 
 Read = Callable[[str], str]  # the text of a path
 SUFFIX = ".json"  # of a dump
+MANY = 4096  # processes of a dump whose memory is worth a search for what is used no more
 
 
 class Parser(argparse.ArgumentParser):
@@ -102,7 +105,8 @@ def dump_of_notes(text: str, path: str, notes: str, read: Read = read_text) -> T
     noted = read_json(read(notes), notes)
     if not is_notes(noted):
         raise Refusal(f"{shown(notes)}: it has no 'sketch', so these are no notes of cmh-dump")
-    dump = Dump(sketch_of(noted["sketch"], notes, OLDER), known_doubts(noted, notes))
+    known = known_doubts(noted, notes)
+    dump = Dump(sketch_of(noted.pop("sketch"), notes, OLDER), known)
     shown_dump = dump.likely if noted.get("guesses") is True else dump  # (as version 1.1.0 wrote it where it guessed)
     low = shown_dump.low
     if text != shown_dump.text(low) and read_json(text, path) != shown_dump.tree(low):
@@ -121,6 +125,7 @@ def known_doubts(noted: Any, notes: str) -> List[str]:
 
 def run(name: str, main: Callable[[Sequence[str]], int], words: Sequence[str]) -> int:
     """Runs a command, and returns its status. A fault is one line on standard error."""
+    bound_memory()
     gc.disable()  # what a command makes stays to its end, and to look through it again and again takes long
     try:
         return main(words)
@@ -128,12 +133,26 @@ def run(name: str, main: Callable[[Sequence[str]], int], words: Sequence[str]) -
         return fault(name, refusal, 1)
     except Failure as failure:
         return fault(name, failure, failure.status)
-    except MemoryError:
-        return fault(name, "out of memory", 4)
-    except Exception as error:  # (one that nobody has thought of)
-        return fault(name, own_fault(name, error, words), 4)
+    except (MemoryError, SystemError):  # (Python gives the second one where it couldn't make the first)
+        pass  # (said once all that was made is gone)
+    except Exception as error:  # (where nothing is lacking, it is one that nobody has thought of)
+        return fault(name, lack_of(error) or own_fault(name, error, words), 4)
     finally:
         gc.freeze()  # (nor is it looked through when Python ends)
+    return fault(name, OUT_OF_MEMORY, 4)
+
+
+def put_away(number: int) -> None:
+    """Frees the memory of what is used no more of a dump of so many processes, if these are many."""
+    if number > MANY:
+        gc.collect()
+
+
+def lack_of(error: Exception) -> str:
+    """Says what the machine lacks, if that is why something has failed."""
+    if isinstance(error, OSError) and error.errno in FULL:
+        return f"{shown(str(error.filename or 'a file'))}: {error.strerror}"
+    return shortage(error)
 
 
 def own_fault(name: str, error: Exception, words: Sequence[str]) -> str:

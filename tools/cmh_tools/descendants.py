@@ -6,6 +6,9 @@ import os
 import signal
 from typing import Dict, List, NamedTuple, Tuple
 
+from cmh_proc.door import kernel_row
+from cmh_proc.process import pids
+
 PR_SET_CHILD_SUBREAPER = 36
 
 
@@ -13,7 +16,7 @@ class Descendant(NamedTuple):
     """A process, with the time at which it began: another one may get its number."""
 
     pid: int
-    start: bytes
+    start: str
 
     def is_there(self) -> bool:
         return row_of(self.pid)[1:] == (self.start, True)
@@ -34,8 +37,8 @@ class Descendant(NamedTuple):
             os.close(handle)
 
     def name(self) -> str:
-        with contextlib.suppress(OSError), open(f"/proc/{self.pid}/comm", "rb") as file:
-            return f"{file.read().decode(errors='backslashreplace').strip()} ({self.pid})"
+        with contextlib.suppress(OSError):
+            return f"{kernel_row(f'/proc/{self.pid}/comm').strip()} ({self.pid})"
         return str(self.pid)
 
 
@@ -49,20 +52,20 @@ def adopt_orphans() -> bool:
         return False
 
 
-def row_of(pid: int) -> Tuple[int, bytes, bool]:
+def row_of(pid: int) -> Tuple[int, str, bool]:
     """Returns the parent of a process, when it began, and whether it lives: one that has ended may wait to be reaped.
     """
-    with contextlib.suppress(OSError, IndexError), open(f"/proc/{pid}/stat", "rb") as file:
-        words = file.read().rpartition(b")")[2].split()
-        return int(words[1]), words[19], words[0] not in (b"Z", b"X")
-    return 0, b"", False
+    with contextlib.suppress(OSError, IndexError):
+        words = kernel_row(f"/proc/{pid}/stat").rpartition(")")[2].split()
+        return int(words[1]), words[19], words[0] not in ("Z", "X")
+    return 0, "", False
 
 
 def descendants(pid: int) -> List[Descendant]:
     """Returns the living processes below one, each behind its parent."""
     children: Dict[int, List[Descendant]] = {}
     living = set()
-    for number in map(int, filter(str.isdigit, os.listdir("/proc"))):
+    for number in pids():
         parent, start, is_living = row_of(number)
         children.setdefault(parent, []).append(Descendant(number, start))
         living.update([number] if is_living else [])

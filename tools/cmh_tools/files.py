@@ -3,19 +3,28 @@ failure."""
 from __future__ import annotations
 
 import contextlib
+import errno
 import os
+import signal
 import stat
 import sys
 import unicodedata
-from typing import Iterable, Iterator, List, Optional, Sequence, Tuple
+from typing import BinaryIO, Dict, Iterable, Iterator, List, Optional, Sequence, Tuple
 
-from .start import SIGNALS
+from .start import SIGNALS, shortage
 
 UNSEEN = {"Cc", "Cf", "Cs", "Zl", "Zp"}  # categories of characters that a terminal obeys, or that nobody sees
 STREAMS = ("standard input", "standard output", "standard error")
 TAKEN = "it is read too, or something else is written there"
 MOST_OF_NAME, MOST_OF_TEXT, MOST_OF_LINE = 100, 800, 4000  # characters that people are shown; JSON keeps all
 END = 20  # of these, as many are the last of what is shortened
+# The errors of a disk that takes nothing, and of a folder that is closed to us or gone, or where no file can be opened.
+FULL = {errno.ENOSPC, errno.EDQUOT, errno.EFBIG, errno.EROFS, errno.EIO}
+NO_ROOM = {*FULL, errno.EACCES, errno.EPERM, errno.ENOENT, errno.ESTALE, errno.EMFILE, errno.ENFILE, errno.ENOMEM}
+OF_SHELL = 128  # a shell adds this to the number of the signal that has ended its last command
+MOST, MOST_TOGETHER = 128 << 20, 256 << 20  # bytes of a file that is read, and of all that people name at once
+PIECE = 1 << 20
+SIZES: Dict[str, int] = {}  # of the files that people have named, by their paths
 
 
 class Refusal(Exception):
@@ -28,6 +37,30 @@ class Failure(Exception):
     def __init__(self, text: str, status: int = 4) -> None:
         super().__init__(text)
         self.status = status
+
+
+class NoRoom(Failure):
+    """A file can't be written, as its folder is full, closed or gone."""
+
+
+def cause_of(error: Exception) -> str:
+    """Returns in words why the kernel refuses something."""
+    return shortage(error) or getattr(error, "strerror", None) or str(error)
+
+
+def failure_of(path: str, error: Exception) -> Failure:
+    """Returns the failure of what was to be done with a file or a folder."""
+    kind = NoRoom if getattr(error, "errno", None) in NO_ROOM else Failure
+    return kind(f"{shown(path)}: {cause_of(error)}")
+
+
+def signal_words(status: int) -> str:
+    """Returns by which signal a command has ended, or one that a shell has run, or nothing. `status` is that of
+    `subprocess`."""
+    number = status - OF_SHELL if status > OF_SHELL else -status
+    if number not in {*signal.Signals}:
+        return ""
+    return f"was killed by signal {number} ({signal.Signals(number).name}); the system's log may say why: dmesg"
 
 
 # What people are shown
@@ -70,21 +103,30 @@ def write_out(text: str) -> None:
         sys.stdout.buffer.flush()
     except OSError as error:
         sys.stdout = open(os.devnull, "w", encoding="utf-8")  # so that nothing is written again at the end
-        raise Failure(f"standard output: {error.strerror}") from error
+        raise failure_of("standard output", error) from error
 
 
 # Reading
 
 
 def read_bytes(path: str) -> bytes:
-    """Returns what a file has, standard input for `-`. Raises Failure if it can't be read."""
+    """Returns what a file has, standard input for `-`. Raises Failure if it can't be read, and Refusal if it is too
+    large, alone or with those that were read before."""
     try:
-        if path == "-":
-            return read_input()
-        with open(path, "rb") as file:
-            return file.read()
+        data = read_input() if path == "-" else read_named(path)
     except (OSError, ValueError) as error:
-        raise Failure(f"{shown(path)}: {getattr(error, 'strerror', None) or error}") from error
+        raise failure_of(path, error) from error
+    SIZES[path] = len(data)
+    if sum(SIZES.values()) > MOST_TOGETHER:
+        raise Refusal(f"{shown(path)}: with the files before it, it has more than {MOST_TOGETHER:,} bytes")
+    return data
+
+
+def read_named(path: str) -> bytes:
+    """Returns a file that our user has named, which may be a pipe."""
+    with open(path, "rb") as file:
+        check_size(path, os.fstat(file.fileno()))
+        return read_pieces(file, path)
 
 
 def read_input() -> bytes:
@@ -92,7 +134,28 @@ def read_input() -> bytes:
         raise Failure("standard input: it is closed")
     if sys.stdin.isatty():
         say(f"{os.path.basename(sys.argv[0])}: reading from the terminal, up to Ctrl-D")
-    return sys.stdin.buffer.read()
+    return read_pieces(sys.stdin.buffer, STREAMS[0])
+
+
+def read_pieces(file: BinaryIO, path: str, most: int = MOST) -> bytes:
+    """Returns an open file to its end, which a terminal says once. Raises Refusal if that is too much."""
+    pieces: List[bytes] = []
+    size = 0
+    while size <= most:
+        wanted = min(PIECE, most + 1 - size)
+        pieces.append(file.read(wanted))
+        size += len(pieces[-1])
+        if len(pieces[-1]) < wanted:
+            return b"".join(pieces)
+    raise Refusal(f"{shown(path)}: it has more than {most:,} bytes")
+
+
+def check_size(path: str, there: os.stat_result) -> None:
+    """Raises Refusal if a file is too large. One that is sparse says more bytes than are stored of it."""
+    if there.st_size > MOST:
+        stored = there.st_blocks * 512
+        sparse = f", and is sparse: {stored:,} of them are stored" if stored < there.st_size // 2 else ""
+        raise Refusal(f"{shown(path)}: it has more than {MOST:,} bytes{sparse}")
 
 
 def read_text(path: str) -> str:
@@ -159,7 +222,7 @@ def write_texts(texts: Sequence[Tuple[str, str]], folder: Optional[int] = None) 
             for name, path in made if not SIGNALS.number else ():
                 os.replace(name, path, src_dir_fd=folder, dst_dir_fd=folder)
         except (OSError, ValueError) as error:
-            raise Failure(f"{shown(path)}: {getattr(error, 'strerror', None) or error}") from error
+            raise failure_of(path, error) from error
         finally:
             for name, _ in made:
                 with contextlib.suppress(OSError, ValueError):

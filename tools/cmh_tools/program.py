@@ -1,23 +1,28 @@
 """Finds the program `cmh`, runs it on a dump, and compares what it calls deadlocked with what the search found."""
 from __future__ import annotations
 
+import contextlib
 import hashlib
 import os
 import re
 import shutil
 import subprocess
 import sys
-import tempfile
+from subprocess import PIPE
+from threading import Thread
 from typing import IO, Callable, Dict, List, Set, Tuple, TypeVar
 
 from .dump import Dump
-from .files import Failure, Refusal, shown
+from .files import Failure, Refusal, cause_of, failure_of, shown, signal_words
+from .memory import unbound_memory
 from .start import SIGNALS
 from .stuck import Answer
 
 Output = TypeVar("Output")
 WORKERS = 64  # docs/PERFORMANCE.md advises as many, and as many even parts, for a dump that takes long
 LONGEST = 200  # bytes, more than the first line of a report has
+MOST_SAID = 1 << 16  # bytes of what it says on standard error
+PATIENCE = 5  # seconds in which that is read once it has ended
 COUNT = re.compile(rb"processes .* deadlocked (\d{1,9})[ \n]")
 DEADLOCKED = re.compile(rb"deadlocked ([!-~]+) group \d+\n")
 
@@ -39,7 +44,7 @@ def identity() -> Dict[str, str]:
         with open(path, "rb") as file:
             return {"path": path, "sha256": hashlib.sha256(file.read()).hexdigest()}
     except OSError as error:
-        raise Failure(f"{shown(path)}: {error.strerror}") from error
+        raise failure_of(path, error) from error
 
 
 def plan(data: bytes) -> List[str]:
@@ -52,33 +57,50 @@ def plan(data: bytes) -> List[str]:
 
 def ask(words: List[str], data: bytes, read: Callable[[IO[bytes]], Output]) -> Tuple[Output, int, str]:
     """Runs the program on a dump, of bytes. Returns what `read` makes of its standard output, its status, and what it
-    says on standard error. The program ends with the tool."""
-    path = program()
-    try:
-        with tempfile.TemporaryFile() as dump, tempfile.TemporaryFile() as errors:
-            dump.write(data)
-            dump.seek(0)
-            answer, status = read_output([path, *words], read, stdin=dump, stderr=errors)
-            errors.seek(0)
-            return answer, status, errors.read(1 << 16).decode("utf-8", "replace").strip()
-    except OSError as error:
-        raise Failure(f"{shown(path)} can't be run: {error.strerror or error}") from error
-
-
-def read_output(words: List[str], read: Callable[[IO[bytes]], Output], stdin: IO[bytes],
-                stderr: IO[bytes]) -> Tuple[Output, int]:
-    """Runs a command, and returns what `read` makes of its standard output, and its status. It has ended by then."""
-    ran = None
+    says on standard error. The program ends with the tool. All goes through pipes, so that no disk has to have room."""
+    path, ran = program(), None
     try:
         with SIGNALS.hold():
-            ran = subprocess.Popen(words, stdin=stdin, stdout=subprocess.PIPE, stderr=stderr)
+            ran = subprocess.Popen([path, *words], stdin=PIPE, stdout=PIPE, stderr=PIPE)
+        unbound_memory(ran.pid)
+        said = talk(ran, data)
         with ran.stdout as out:  # type: ignore[union-attr]
             answer = read(out)
-        return answer, ran.wait()
+        killed = signal_words(ran.wait())
+        if killed:
+            raise Failure(f"{shown(path)} {killed}")
+        return answer, ran.returncode, said()
+    except OSError as error:
+        raise Failure(f"{shown(path)} can't be run: {cause_of(error)}") from error
     finally:
         if ran:
             ran.kill()
             ran.wait()
+
+
+def talk(ran: "subprocess.Popen[bytes]", data: bytes) -> Callable[[], str]:
+    """Gives a program its input, and reads what it says on standard error, meanwhile. Returns what gets that."""
+    parts: List[bytes] = []
+
+    def give() -> None:
+        with contextlib.suppress(OSError), ran.stdin as file:  # type: ignore[union-attr]
+            file.write(data)
+
+    def listen() -> None:
+        with contextlib.suppress(OSError), ran.stderr as file:  # type: ignore[union-attr]
+            parts.append(file.read(MOST_SAID))
+            while file.read(MOST_SAID):
+                pass
+
+    threads = [Thread(target=target, daemon=True) for target in (give, listen)]
+    for thread in threads:
+        thread.start()
+
+    def said() -> str:
+        threads[1].join(PATIENCE)  # (what it has begun may still have the pipe)
+        return b"".join(parts).decode("utf-8", "replace").strip()
+
+    return said
 
 
 def deadlocked_names(data: bytes) -> Set[str]:

@@ -2,21 +2,21 @@
 user, its age and its command line. Who has stood still for longest comes first."""
 from __future__ import annotations
 
-import contextlib
-import mmap
 import os
 import re
 import time
 from typing import Dict, Iterator, List, NamedTuple, Optional, Tuple
 
 from cmh_linux.limits import Clocks
+from cmh_proc.elf import is_go
+from cmh_proc.process import (MOST_WORDS, bytes_of, environment_of, name_of, parent_of, pids, stat_of, threads_of,
+                              user_of)
 
-from .captures import answers, link_of, stat_of, way_to_python
+from .captures import answers, way_to_python
 from .files import shown
-from .folder import user_of
+from .folder import name_of_user
 
-RANK = re.compile(rb"(?:OMPI_COMM_WORLD|PMIX?|MV2_COMM_WORLD)_RANK=|SLURM_PROCID=")
-GO = b"\xff Go buildinf:"
+RANK = re.compile(rb"(?:OMPI_COMM_WORLD|PMIX?|MV2_COMM_WORLD)_RANK|SLURM_PROCID")
 WIDTH = 120  # of a command line
 UNITS = (86400, "days"), (3600, "hours"), (60, "minutes")
 AT_LEAST = 2  # of a unit, or a smaller one is named
@@ -29,16 +29,15 @@ class Row(NamedTuple):
     what: str
     command: str
     inside: str
-    pid: str
+    pid: int
 
 
 def proposals() -> List[str]:
     """Returns for each other process that a parser sees inside of some lines: what it is with the command that takes
     its state, and who runs it."""
     by_command: Dict[str, Row] = {}
-    others = {*filter(str.isdigit, os.listdir("/proc"))} - {link_of("/proc/self")}
-    for pid in sorted(others, key=int):
-        for row in rows_of(pid):
+    for pid in pids():
+        for row in rows_of(pid) if pid != os.getpid() else ():
             by_command.setdefault(row.command, row)
     clocks = Clocks()
     waits = {row.command: waits_of(row.pid, clocks) for row in by_command.values()}
@@ -54,10 +53,9 @@ def details(row: Row, waited: Optional[float]) -> str:
     return f"{user(row.pid)}, begun {in_words(age_of(row.pid))} ago{still}; {row.inside}: {line}"
 
 
-def user(pid: str) -> str:
-    with contextlib.suppress(OSError):
-        return shown(user_of(os.stat(f"/proc/{pid}").st_uid))
-    return "?"
+def user(pid: int) -> str:
+    number = user_of(pid)
+    return "?" if number is None else shown(name_of_user(number))
 
 
 def in_words(seconds: float) -> str:
@@ -66,40 +64,33 @@ def in_words(seconds: float) -> str:
     return f"{seconds / size:.0f} {unit}"
 
 
-def age_of(pid: str) -> float:
+def age_of(pid: int) -> float:
     """Returns for how many seconds a process has been there."""
-    begun = stat_of(pid, 19)
+    begun = (stat_of(f"/proc/{pid}")[19:] or ["?"])[0]
     return max(0.0, time.clock_gettime(time.CLOCK_BOOTTIME) - int(begun) / os.sysconf("SC_CLK_TCK")) \
         if begun.isdigit() else 0.0
 
 
-def waits_of(pid: str, clocks: Clocks) -> Optional[float]:
+def waits_of(pid: int, clocks: Clocks) -> Optional[float]:
     """Returns for how many seconds no thread of a process has run, or None if the kernel doesn't say that."""
     waits = [clocks.waited(f"/proc/{pid}/task/{tid}") for tid in threads_of(pid)]
     known = [seconds for seconds in waits if seconds is not None]
     return min(known) if known and len(known) == len(waits) else None
 
 
-def threads_of(pid: str) -> List[str]:
-    with contextlib.suppress(OSError):
-        return os.listdir(f"/proc/{pid}/task")
-    return []
+def words_of(pid: int) -> List[str]:
+    words = bytes_of(f"/proc/{pid}/cmdline", MOST_WORDS).split(b"\0")
+    return [word.decode(errors="backslashreplace") for word in words]
 
 
-def words_of(pid: str) -> List[str]:
-    return [word.decode(errors="backslashreplace") for word in bytes_of(f"/proc/{pid}/cmdline").split(b"\0")]
-
-
-def rows_of(pid: str) -> Iterator[Row]:
+def rows_of(pid: int) -> Iterator[Row]:
     for what, command, inside in commands_for(pid):
         yield Row(f"{what} {pid}", command, inside, pid)
 
 
-def commands_for(pid: str) -> Iterator[Tuple[str, str, str]]:
+def commands_for(pid: int) -> Iterator[Tuple[str, str, str]]:
     """Yields what a process is, the command for it, and what that sees."""
-    path = link_of(f"/proc/{pid}/exe")
-    name = os.path.basename(path)
-    words = words_of(pid)
+    name, words = name_of(pid), words_of(pid)
     if name == "java":
         yield ("java", f"cmh-stall jvm {pid}, or with --heap, which shows more and stops it for longer",
                "jvm and linux see inside")
@@ -111,14 +102,14 @@ def commands_for(pid: str) -> Iterator[Tuple[str, str, str]]:
         for option, node in zip(words, words[1:]):
             if option in ("-sname", "-name"):
                 yield "erlang", f"cmh-stall erlang {full_name(node)}", "erlang sees inside"
-    elif name == "postgres" and os.path.basename(link_of(f"/proc/{stat_of(pid, 1)}/exe")) != name:
+    elif name == "postgres" and name_of(parent_of(pid)) != name:
         yield "postgres", "cmh-stall postgres", "postgres and linux see inside"
     elif name in ("mariadbd", "mysqld"):
         yield name, "cmh-stall mariadb", "mariadb and linux see inside"
-    elif RANK.search(bytes_of(f"/proc/{pid}/environ")):
+    elif any(map(RANK.fullmatch, environment_of(pid))):
         yield f"rank of {name}", f"cmh-stall mpi {name}", "mpi and linux see inside"
     elif name.startswith("python"):
-        sees = answers(pid) or way_to_python([pid])
+        sees = answers(str(pid)) or way_to_python([str(pid)])
         yield "python", f"cmh-stall {'python' if sees else 'linux'} {pid}", \
             "python and linux see inside" if sees else LINUX
     elif is_go(f"/proc/{pid}/exe"):
@@ -129,16 +120,3 @@ def commands_for(pid: str) -> Iterator[Tuple[str, str, str]]:
 def full_name(node: str) -> str:
     return node if "@" in node else f"{node}@{os.uname().nodename.partition('.')[0]}"
 
-
-def bytes_of(path: str) -> bytes:
-    with contextlib.suppress(OSError), open(path, "rb") as file:
-        return file.read()
-    return b""
-
-
-def is_go(path: str) -> bool:
-    """Whether a program has the mark that Go writes into each."""
-    with contextlib.suppress(OSError, ValueError), open(path, "rb") as file:
-        with mmap.mmap(file.fileno(), 0, access=mmap.ACCESS_READ) as view:
-            return view.find(GO) >= 0
-    return False

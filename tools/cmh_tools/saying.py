@@ -11,7 +11,7 @@ from .dump import Dump
 from .explain import Explanation
 from .facts import Facts, read_facts
 from .files import Failure, Refusal, decode, shown
-from .folder import Folder, user_of
+from .folder import Folder, name_of_user
 from .model import HOWS
 
 NUMBERS = re.compile(r"[1-9][0-9]{0,8}(?:,[1-9][0-9]{0,8})*")
@@ -48,8 +48,8 @@ def say_true(folder: Folder, path: str, numbers: List[int], dump: Dump, anew: Ca
 def lines_of(explanation: Explanation, doubt: Doubt) -> str:
     """Returns the lines of facts that a doubt is none, below who said so and when."""
     waits = [explanation.waits.index[name] for name in doubt.waits]
-    said = f"# {time.strftime('%Y-%m-%d %H:%M:%S')}, {user_of(os.getuid())} by --true: no doubt {doubt.number}, that " \
-        f"{explanation.doubt_words(doubt, waits)}"
+    said = f"# {time.strftime('%Y-%m-%d %H:%M:%S')}, {name_of_user(os.getuid())} by --true: no doubt {doubt.number}, " \
+        f"that {explanation.doubt_words(doubt, waits)}"
     return "".join(f"{line}\n" for line in [shown(said), *doubt.lines])
 
 

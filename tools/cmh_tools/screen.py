@@ -15,7 +15,7 @@ from .cures import unit_words, words_of
 from .doubts import STAND_INS, Doubt
 from .explain import Explanation, number_of, runs_of
 from .files import short_name, shown
-from .model import Sign, Wakers
+from .model import Sign, Strength, Wakers
 from .nearness import MAY_HAVE
 from .rule import Headline
 from .sketch import ALL, ANY, ENDED, OF_SERVER, REST, UNREADABLE
@@ -482,13 +482,15 @@ class Screen:
         for wakers, waiting in users.values():
             for index in self.movers_of(wakers):
                 if index in movers or len(movers) < MOVERS:
-                    movers[index] = movers.get(index, set()) | waiting
+                    movers.setdefault(index, set()).update(waiting)
         return movers
 
     def movers_of(self, wakers: Wakers) -> List[int]:
-        """Returns those of some wakers who sleep or go on, and behind them who looks again and again."""
+        """Returns those of some wakers who sleep or go on, and behind them who looks again and again; one who is named
+        also where it ticks, as the holder of a lock that sleeps in its own loop."""
         there = [self.waits.index[name] for name in wakers.names() if name in self.waits.index]
-        return [index for signs in ((Sign.SLEEPS, Sign.GOES_ON), (Sign.POLLS,)) for index in there
+        again = (Sign.POLLS, Sign.TICKS) if wakers.strength is Strength.NAMED else (Sign.POLLS,)
+        return [index for signs in ((Sign.SLEEPS, Sign.GOES_ON), again) for index in there
                 if self.this.process(index).sign in signs]
 
     def idle_lines(self) -> List[str]:

@@ -4,6 +4,7 @@ from __future__ import annotations
 import argparse
 import contextlib
 import json
+import math
 import os
 import re
 import shlex
@@ -12,19 +13,22 @@ import signal
 import tempfile
 import time
 from dataclasses import replace
-from typing import Any, Dict, Iterator, List, NamedTuple, Optional, Sequence
+from typing import Any, Dict, Iterator, List, NamedTuple, Optional, Sequence, Tuple
+
+from cmh_proc.budget import BUDGET, size_in_words
 
 from .captures import (HEAP, SYSTEMS, Capture, captures_for, check_needs, fault_of, labels_of, listeners_at, take,
                        way_to_python, with_sockets, with_stacks, without_debugger)
-from .command import Parser, dump_of_notes, is_notes, known_doubts, notes_path, run
+from .command import Parser, dump_of_notes, is_notes, known_doubts, notes_path, put_away, run
 from .dump import Dump
 from .dump_command import NO_GUESSES, texts_of
 from .explain import Explanation
 from .explain_command import index_of, load_noted
 from .facts import Facts, read_facts
-from .files import Failure, Refusal, decode, say, shown, write_out
-from .folder import Folder, make_folder
+from .files import MOST_TOGETHER, Failure, Refusal, decode, failure_of, say, shown, write_out
+from .folder import Folder, NewFolder
 from .making import sketch_for
+from .memory import bound_memory
 from .model import Sign, Wakers
 from .proposals import Proposal, propose
 from .redact import redacted_texts
@@ -41,6 +45,7 @@ from .watch import KEPT, Check, watch
 
 RECORD = "stall.json"  # what a folder has, by which it is explained again
 SECONDS, LONGER = 5.0, 60.0  # from the first look to the last, and where only who sleeps leaves the answer open
+MOST, MOST_HELD = 120.0, 600.0  # besides, until all is read, and where something is held meanwhile
 LOOKS = 2  # as often it is looked anew, if that may decide what is open
 OPEN = (Headline.NOT_KNOWN, Headline.IDLE)
 # A process in a state of Linux that runs Python.
@@ -51,6 +56,8 @@ HEAP_SHOWS = (({"get", "join"}, "The heap shows who runs the task or computes th
               ({"lock", "lockInterruptibly"}, "The heap shows who reads under the lock"),
               ({"acquire", "take", "put", "await"}, "The heap shows who has a reference to what they wait at"))
 MOST_NAMES = 200  # names that stand in a file of facts, for people to choose from
+MOST_PARTS = 64  # systems, or groups of processes, that are joined
+MOST_LOOKS = 64  # states of one
 USAGE = """cmh-stall SYSTEM TARGET.. [--seconds S] [--with SYSTEM TARGET..] [-o FOLDER]
        cmh-stall linux PID.. --stacks
        cmh-stall go PID --kill
@@ -130,10 +137,16 @@ def main(words: Sequence[str]) -> int:
             made.error("--stacks is of Linux: linux PID --stacks")
         parts = [part for named in [asked.words, *asked.others] for part in captures_of(made, named, asked)]
         parts = without_debugger(with_sockets([with_stacks(part) for part in parts] if asked.stacks else parts))
-        return stall(parts, asked)
+        if asked.most_seconds is not None and asked.most_seconds <= (asked.seconds or SECONDS):
+            made.error("--most-seconds is no more than the time between the looks")
+        path = asked.output or f"stall-{parts[0].system}-{time.strftime('%Y%m%d-%H%M%S')}"
+        return stall(parts, asked, path, asked.output is not None)[0]
     if asked.others or asked.output or asked.words[1:] or not os.path.lexists(f"{asked.words[0]}/{RECORD}"):
         made.error(f"{asked.words[0]} is neither one of {', '.join(SYSTEMS)} nor a folder that cmh-stall has made")
     check_folder_words(made, asked)
+    if asked.most_memory:
+        BUDGET.give(BUDGET.seconds(), asked.most_memory << 20)
+        bound_memory()
     numbers = numbers_of(asked.true) if asked.true is not None else []
     with Folder(asked.words[0]) as folder:
         if asked.redact:
@@ -180,11 +193,11 @@ def look_at_service(parser: Parser, asked: argparse.Namespace) -> int:
     if asked.words or asked.others or asked.keep < 1:
         parser.error("--service UNIT stands alone: what is taken is its main process, and --keep is 1 or more")
 
-    def look(pid: str, path: str, check: Check) -> int:
-        more = {"output": path, "seconds": asked.seconds or SECONDS}
-        return stall(captures_for("linux", [pid], False, False), argparse.Namespace(**{**vars(asked), **more}), check)
+    def look(pid: str, path: str, check: Check) -> Tuple[int, str]:
+        asked.seconds = asked.seconds or SECONDS
+        return stall(captures_for("linux", [pid], False, False), asked, path, False, check)
 
-    return watch(asked.service, asked.output or f"stalls-{asked.service}", asked.keep, look)
+    return watch(asked.service, (asked.output or f"stalls-{asked.service}").rstrip("/"), asked.keep, look)
 
 
 def part_row(part: Capture, seconds: float) -> Dict[str, object]:
@@ -193,42 +206,59 @@ def part_row(part: Capture, seconds: float) -> Dict[str, object]:
             **({"beside": part.beside} if part.beside else {})}
 
 
-def stall(parts: List[Capture], asked: argparse.Namespace, check: Check = lambda: None) -> int:
-    """Takes the states, keeps them, and explains them, once they are checked."""
+def stall(parts: List[Capture], asked: argparse.Namespace, path: str, is_exact: bool,
+          check: Check = lambda: None) -> Tuple[int, str]:
+    """Takes the states, keeps them, and explains them, once they are checked. Returns the status of the answer, and
+    where the folder is: at a path, with a number behind it where others begin at the same second and it isn't to be
+    exact."""
     parts = [replace(part, label=label) for part, label in zip(parts, labels_of([part.system for part in parts]))]
     seconds = asked.seconds or SECONDS
+    limits = give_budget(parts, seconds, asked)
     for part in parts:
         check_needs(part)
-        say(f"{' '.join([part.system, *part.targets])}: {part.warning(seconds)}")
-    with new_folder(asked.output or f"stall-{parts[0].system}-{time.strftime('%Y%m%d-%H%M%S')}") as folder:
-        keep_states(folder, parts, seconds, asked, check)
-        made = look_on(folder, parts, asked) if asked.seconds is None else None
-        status = explain(folder, asked, made)
-    if status:
+        last = f". It takes some {seconds:g} s, at most {limits}" if part is parts[-1] else ""
+        say(f"{' '.join([part.system, *part.targets])}: {part.warning(seconds)}{last}")
+    with new_folder(path, is_exact) as folder:
+        parts = keep_states(folder, parts, seconds, asked, check=check)
+        status = explain(folder, asked, look_on(folder, parts, asked) if asked.seconds is None else None)
+    if status and not folder.unkept:
         say(f"This answer is kept in {shown(folder.path)}, with all that was seen")
-    return status
+    return status, folder.path
 
 
 def look_on(folder: Folder, parts: List[Capture], asked: argparse.Namespace) -> Dump:
     """Looks anew as often as that may decide what is open, and costs little. Returns the dump of what was seen last."""
     made, seconds = new_dump(folder), SECONDS
     for _ in range(LOOKS):
-        further = next_look(Explanation(made), parts, seconds)
+        further = next_look(Explanation(made), parts, seconds, asked.most_seconds or math.inf)
         if further is None or not has_more(folder, further, asked):
             break
+        number = made.waits.number
+        del made
+        put_away(number)
         made, parts, seconds = new_dump(folder), further.parts, further.seconds
     return made
 
 
-def next_look(explanation: Explanation, parts: List[Capture], seconds: float) -> Optional[Look]:
-    """Returns how to look anew, if that may decide what is open: at the other ends of connections, or for longer."""
+def give_budget(parts: List[Capture], seconds: float, asked: argparse.Namespace) -> str:
+    """Sets how long looks of so many seconds may take, and how much they may read. Returns both in words."""
+    usual = seconds + (MOST if all(part.is_light() for part in parts) else MOST_HELD)
+    most, size = asked.most_seconds or usual, (asked.most_memory or 0) << 20 or BUDGET.size
+    BUDGET.give(most, size)
+    bound_memory(2)
+    return f"{most:g} s and {size_in_words(size)}"
+
+
+def next_look(explanation: Explanation, parts: List[Capture], seconds: float, most: float) -> Optional[Look]:
+    """Returns how to look anew, if that may decide what is open, for so many seconds at most: at the other ends of
+    connections, or for longer."""
     if not all(part.is_light() for part in parts):
         return None
     pids = clients_in(parts[0], explanation) if len(parts) == 1 and explanation.headline in OPEN else []
     if pids:
         more = Capture("linux", pids, label="linux")
         return Look([*parts, more], seconds, "some wait at connections: looking at these too")
-    if explanation.is_hidden_by_sleepers() and seconds < LONGER:
+    if explanation.is_hidden_by_sleepers() and seconds < LONGER < most:
         return Look(parts, LONGER, f"who sleeps may only come back to its loop: looking for {LONGER:g} s")
     return None
 
@@ -241,22 +271,31 @@ def clients_in(part: Capture, explanation: Explanation) -> List[str]:
 
 
 def keep_states(folder: Folder, parts: List[Capture], seconds: float, asked: argparse.Namespace,
-                check: Check = lambda: None) -> None:
-    """Takes the states within some seconds, and keeps them once they are checked."""
+                needs_all: bool = False, check: Check = lambda: None) -> List[Capture]:
+    """Takes the states within some seconds, and keeps them once they are checked. Returns what could be taken. Raises
+    Failure if that is nothing, or not all where all is needed."""
+    faults: List[Failure] = []
     with home_with(asked.cookie_file) as env:
-        texts = {name: text for states in take(parts, seconds, env) for name, text in states.items()}
+        taken = list(take(parts, seconds, env, faults.append))
+    if faults and (needs_all or not taken):
+        raise Failure("\n".join(map(str, faults)))
     check()
-    record = {"version": 1, "parts": [part_row(part, seconds) for part in parts]}
+    for fault in faults:
+        say(f"warning: {fault}\nThe answer is without that")
+    texts = {name: text for _, states in taken for name, text in states.items()}
+    record = {"version": 1, "parts": [part_row(part, seconds) for part, _ in taken]}
     texts[RECORD] = json.dumps(record, indent=1) + "\n"
-    folder.write([(folder.at(name), text) for name, text in texts.items()])
+    folder.keep([(folder.at(name), text) for name, text in texts.items()])
+    return [part for part, _ in taken]
 
 
 def has_more(folder: Folder, look: Look, asked: argparse.Namespace) -> bool:
     """Takes the states anew. Returns whether they are there: Ctrl-C ends the look alone, and what has ended meanwhile
     leaves what was seen of it."""
     try:
-        say(f"Open so far, as {look.why}. Ctrl-C ends that")
-        keep_states(folder, look.parts, look.seconds, asked)
+        limits = give_budget(look.parts, look.seconds, asked)
+        say(f"Open so far, as {look.why}, at most {limits}. Ctrl-C ends that")
+        keep_states(folder, look.parts, look.seconds, asked, needs_all=True)
     except Failure as failure:
         say(f"{failure}. This is the answer by what was seen before")
         return False
@@ -269,18 +308,30 @@ def has_more(folder: Folder, look: Look, asked: argparse.Namespace) -> bool:
 
 
 @contextlib.contextmanager
-def new_folder(path: str) -> Iterator[Folder]:
+def new_folder(path: str, is_exact: bool) -> Iterator[Folder]:
     """Makes a folder, which goes again if it doesn't come to hold what is to be kept, also by a signal."""
-    folder: Optional[Folder] = None
+    folder: Optional[NewFolder] = None
     try:
         with SIGNALS.hold():
-            folder = make_folder(path)
+            folder = NewFolder(path, is_exact)
         yield folder
+    except Exception:
+        if folder is not None and folder.has_file(folder.at(RECORD)):
+            say(f"What was seen is kept in {shown(folder.path)}")
+        raise
     finally:
         if folder is not None:
-            if not folder.has(folder.at(RECORD)):
+            if not folder.has_file(folder.at(RECORD)):
                 folder.remove()
             folder.close()
+
+
+def say_unkept(folder: Folder) -> None:
+    """Says what ends with this command, where a folder has no room for it."""
+    if folder.fault is not None:
+        are_kept = folder.has_file(folder.at(RECORD))
+        states = f"the states are, in {shown(folder.path)}" if are_kept else "nor are the states that were taken"
+        say(f"warning: {folder.fault}: this answer isn't kept; {states}")
 
 
 @contextlib.contextmanager
@@ -290,12 +341,13 @@ def home_with(cookie: Optional[str]) -> Iterator[Dict[str, str]]:
     if not cookie:
         yield {}
         return
-    with tempfile.TemporaryDirectory(prefix="cmh-") as home:
+    with contextlib.ExitStack() as stack:
         try:
+            home = stack.enter_context(tempfile.TemporaryDirectory(prefix="cmh-"))
             shutil.copyfile(cookie, f"{home}/.erlang.cookie")
             os.chmod(f"{home}/.erlang.cookie", 0o400)
         except OSError as error:
-            raise Failure(f"{shown(cookie)}: {error.strerror}") from error
+            raise failure_of(cookie, error) from error
         yield {"HOME": home}
 
 
@@ -325,8 +377,12 @@ def explain(folder: Folder, asked: argparse.Namespace, made: Optional[Dump] = No
     made = made or Dump(sketch_of_parts(folder, parts, facts_of(folder, path)), numbers_in(folder))
     proposals = keep_dump(folder, made, folder.at("dump.json"))
     if is_one:
-        write_facts(folder, path, made.sketch, proposals)
+        write_facts(folder, facts_path(folder), made.sketch, proposals)
+    number = made.waits.number
+    del made, proposals
+    put_away(number)
     explanation = answer(folder, asked, look_of(parts) if asked.timeout is None else "")  # (or nobody is left)
+    say_unkept(folder)
     if asked.guesses:
         say(NO_GUESSES)
     ways = more_ways(parts, explanation, folder) if asked.timeout is None else ()  # (of --timeout nobody is left)
@@ -381,7 +437,7 @@ def facts_of(folder: Folder, path: str) -> Facts:
 def keep_dump(folder: Folder, dump: Dump, path: str) -> List[Proposal]:
     """Writes a dump and its notes into a folder, as cmh-dump does. Returns the facts that are asked for."""
     asked = propose(dump.waits)
-    folder.write(texts_of(dump, path, asked))
+    folder.keep(texts_of(dump, path, asked))
     for line in dump.sketch.warnings:
         say(f"warning: {line}")
     return asked
@@ -488,9 +544,13 @@ def parts_of(folder: Folder) -> List[Dict[str, Any]]:
         raise Refusal(f"{shown(path)}: cmh-stall has written something else there") from error
     if not parts or tree.get("version") != 1:
         raise Refusal(f"{shown(path)}: it isn't of a version that is known")
+    if parts[MOST_PARTS:]:
+        raise Refusal(f"{shown(path)}: it has {len(parts):,} parts, and at most {MOST_PARTS} are joined")
     for part, label in zip(parts, labels_of([part["system"] for part in parts])):
         check_part(folder, part)
         part["label"] = label
+    if sum(folder.size(folder.at(name)) for part in parts for name in part["states"]) > MOST_TOGETHER:
+        raise Refusal(f"{shown(path)}: its states have more than {MOST_TOGETHER:,} bytes together")
     return parts
 
 
@@ -501,6 +561,8 @@ def check_part(folder: Folder, part: Dict[str, Any]) -> None:
         raise Refusal(f"{path}: {quote(part['system'])} is none of {', '.join(SYSTEMS)}")
     if not part["states"]:
         raise Refusal(f"{path}: it names no state of {part['system']}")
+    if part["states"][MOST_LOOKS:]:
+        raise Refusal(f"{path}: it names {len(part['states']):,} states of {part['system']}, and no look has so many")
     for name in part["states"]:
         folder.name_of(folder.at(name))
 
@@ -508,13 +570,15 @@ def check_part(folder: Folder, part: Dict[str, Any]) -> None:
 def answer(folder: Folder, asked: Optional[argparse.Namespace] = None, look: str = "") -> Explanation:
     """Keeps the first screen of the answer to the dump of a folder there, and prints that, or what is asked of it, with
     colours on a terminal. `look` takes it anew. A copy, of which nothing is asked, has no name of its folder."""
-    path, called = folder.at("dump.json"), shlex.quote(folder.path)
+    path = folder.at("dump.json")
     dump, _ = load_noted(folder.read_bytes(path), path, notes_path(path), folder.read_text)
     has_all = asked is not None and (asked.all or asked.why is not None)
     explanation = Explanation(dump, has_all)
-    more = More(f"cmh-stall {called}", True, look) if asked else More("cmh-explain dump.json")
+    is_kept = folder.has_file(folder.at(RECORD))
+    more = More(f"cmh-stall {shlex.quote(folder.path)}", True, look) if is_kept else More(look, False, look)
+    more = more if asked else More("cmh-explain dump.json")
     index = None if asked is None or asked.why is None else index_of(dump, asked.why)
-    folder.write([(folder.at("answer"), screen(explanation, more))])
+    folder.keep([(folder.at("answer"), screen(explanation, more))])
     explanation.style = style_of_output()
     text = screen(explanation, more) if not has_all else explanation.text() if index is None else explanation.why(index)
     write_out(text)
@@ -530,7 +594,7 @@ def write_facts(folder: Folder, path: str, sketch: Sketch, asked: Sequence[Propo
     more = [f"# and {len(names) - MOST_NAMES:,} more"] if names[MOST_NAMES:] else []
     text = ["# Complete a line, and take away the # before it. FACTS.md says how facts are written.", *lines,
             "# The names:", *(f"#   {name}" for name in names[:MOST_NAMES]), *more]
-    folder.write([(path, "".join(f"{line}\n" for line in text))])
+    folder.keep([(path, "".join(f"{line}\n" for line in text))])
 
 
 def redact_folder(folder: Folder) -> int:
@@ -543,6 +607,8 @@ def redact_folder(folder: Folder) -> int:
     with folder.folder("redacted") as new:
         new.write([(new.at(name), text) for name, text in redacted_texts(sketch)])
         status = answer(new).status()
+        if new.fault is not None:
+            raise new.fault
     say(f"The copy is in {shown(new.path)}")
     return status
 

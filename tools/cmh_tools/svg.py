@@ -8,7 +8,7 @@ import xml.etree.ElementTree as ElementTree
 from typing import Dict, Iterator, List, Tuple
 
 from .dot import Plan, dot, in_svg
-from .files import Failure, shown
+from .files import Failure, cause_of, shown, signal_words
 from .folding import MOST
 from .picture import Picture
 from .start import SIGNALS
@@ -85,12 +85,12 @@ def lay_out(text: str) -> bytes:
         out, errors = ran.communicate(text.encode("utf-8", "backslashreplace"), SECONDS)
         if ran.returncode:
             said = shown(errors.decode("utf-8", "replace").strip())
-            raise Failure(f"dot ended with status {ran.returncode}: {said}")
+            raise Failure(f"dot {signal_words(ran.returncode) or f'ended with status {ran.returncode}: {said}'}")
         return out
     except subprocess.TimeoutExpired:
         raise Failure(f"dot takes longer than {SECONDS} s: without --all a picture has few boxes") from None
     except OSError as error:
-        raise Failure(f"dot can't be run: {error.strerror}") from error
+        raise Failure(f"dot can't be run: {cause_of(error)}") from error
     finally:
         if ran:
             ran.kill()

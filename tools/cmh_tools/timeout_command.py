@@ -15,9 +15,14 @@ import tempfile
 import time
 from typing import Dict, List, Mapping, NoReturn, Optional, Sequence, Set
 
-from .descendants import Descendant, adopt_orphans, descendants, row_of
-from .files import say, shown
+from cmh_proc.budget import BUDGET, MOST_SECONDS
+from cmh_proc.process import environment_of, name_of, user_of
 
+from .descendants import Descendant, adopt_orphans, descendants, row_of
+from .files import cause_of, say, shown
+from .start import shortage
+
+NOT_LOOKED_AT = "its processes couldn't be looked at"
 TIMED_OUT, FAULT, CANNOT_RUN, NOT_FOUND = 124, 125, 126, 127  # statuses, as timeout(1) has them
 PASSED_ON = {signal.SIGHUP, signal.SIGINT, signal.SIGQUIT, signal.SIGTERM, signal.SIGUSR1, signal.SIGUSR2,
              signal.SIGALRM, signal.SIGTSTP, signal.SIGCONT}
@@ -27,8 +32,10 @@ OF_KERNEL = 0x80  # the si_code of a signal that a terminal sends to its whole g
 NUMBER = re.compile(r"((?:\d+\.?\d*|\.\d+)(?:[eE][+-]?\d+)?)([smhd]?)")
 UNITS = {"": 1, "s": 1, "m": 60, "h": 3600, "d": 86400}
 LONGEST = 1e6  # seconds that the kernel is asked to wait at once
-LOOK = 60  # seconds that a look may take, besides those between its readings
+LOOK = 120  # seconds that a look may take, besides those between its readings: half of them until all is read
+LEAST, MOST = 64, 1 << 20  # megabytes that a look may read
 GRACE = 10.0
+LACKS = {errno.EAGAIN, errno.ENOMEM, errno.EMFILE, errno.ENFILE}  # errors by which nothing at all can be run
 STEP = 0.05  # seconds from one look at who has ended to the next
 USAGE = "cmh-stall --timeout TIME [--grace TIME] [--seconds S] [-o FOLDER] -- COMMAND [WORD..]"
 
@@ -57,7 +64,20 @@ def seconds_of(text: str) -> float:
     return seconds
 
 
+def megabytes_of(text: str) -> int:
+    """Returns how much a look may read. Raises ValueError if a text is no such number."""
+    number = int(text)
+    if not LEAST <= number <= MOST:
+        raise ValueError
+    return number
+
+
 def add_options(parser: argparse.ArgumentParser) -> None:
+    parser.add_argument("--most-seconds", metavar="S", type=seconds_of,
+                        help="the time in which all looks have to be over (120 s, or 600 where something is held, and "
+                        "the time between the looks besides): what isn't read by then is named")
+    parser.add_argument("--most-memory", metavar="MB", type=megabytes_of,
+                        help="how much is read, and how much memory that takes (512)")
     parser.add_argument("--timeout", metavar="TIME", type=duration,
                         help="run the COMMAND behind --, and look if it takes longer, such as 600 or 10m")
     parser.add_argument("--grace", metavar="TIME", type=duration, default=GRACE,
@@ -84,12 +104,7 @@ def parse(words: Sequence[str]) -> argparse.Namespace:
 
 def environment() -> Mapping[bytes, bytes]:
     """Returns the variables with which this process began. Python may have set LC_CTYPE since."""
-    try:
-        with open("/proc/self/environ", "rb") as file:
-            rows = file.read().split(b"\0")
-    except OSError:
-        return os.environb
-    return {name: value for name, is_set, value in (row.partition(b"=") for row in rows) if is_set}
+    return environment_of(os.getpid()) or os.environb
 
 
 def spawn(words: List[str], mask: Set[int]) -> int:
@@ -182,7 +197,11 @@ class Supervisor:
     def look(self, words: List[str], seconds: float) -> Optional[int]:
         """Runs cmh-stall with some words, and returns its status, or None if a signal ends that. It prints to standard
         error."""
-        pid = os.fork()
+        try:
+            pid = os.fork()
+        except OSError as error:
+            say(f"cmh-stall: nothing can be looked at: {cause_of(error)}")
+            return FAULT
         if not pid:
             run_stall(words, self.mask)
         until, end, is_hurried = time.monotonic() + LOOK + 2 * seconds, signal.SIGTERM, False
@@ -242,8 +261,15 @@ def run_stall(words: List[str], mask: Set[int]) -> NoReturn:
         status = stall(words)
     except SystemExit as ended:
         status = ended.code
+    except Exception as error:  # (before the command can say so itself)
+        say(f"cmh-stall: {what_failed(error)}")
     finally:
         os._exit(status if isinstance(status, int) else FAULT)
+
+
+def what_failed(error: Exception) -> str:
+    """Says what the machine lacks, or else that a fault is our own."""
+    return shortage(error) or f"this is a fault of cmh-stall: {type(error).__name__}: {error}"
 
 
 # The look
@@ -252,23 +278,19 @@ def run_stall(words: List[str], mask: Set[int]) -> NoReturn:
 def ways_to_look() -> List[List[str]]:
     """Returns the words by which cmh-stall takes the processes below this one: with all that sees inside of some, and
     as Linux sees them."""
-    from .captures import answers, has_record, link_of
+    from .captures import answers, has_record
     pids = [process.pid for process in descendants(os.getpid())]
     linux = ["linux", *(str(pid) for pid in pids if row_of(pid)[0] == os.getpid())]
     insides = {"python": [pid for pid in pids if answers(str(pid))],
-               "jvm": [pid for pid in pids if is_jvm(pid, link_of(f"/proc/{pid}/exe"))][-1:],
+               "jvm": [pid for pid in pids if is_jvm(pid)][-1:],
                "mpi": [pid for pid in pids if has_record(str(pid))]}
     more = [word for system, inside in insides.items() if inside for word in ("--with", system, *map(str, inside))]
     return [[*linux, *more], linux] if more else [linux]
 
 
-def is_jvm(pid: int, program: str) -> bool:
+def is_jvm(pid: int) -> bool:
     """Whether a process is a JVM that jstack, which is there, may ask."""
-    if os.path.basename(program) != "java" or not shutil.which("jstack"):
-        return False
-    with contextlib.suppress(OSError):
-        return os.stat(f"/proc/{pid}").st_uid == os.geteuid()
-    return False
+    return name_of(pid) == "java" and shutil.which("jstack") is not None and user_of(pid) == os.geteuid()
 
 
 def new_path(command: str) -> str:
@@ -281,21 +303,29 @@ def new_path(command: str) -> str:
 def time_out(supervisor: Supervisor, asked: argparse.Namespace) -> None:
     """Looks at the processes of a command that takes too long, and ends them."""
     name, path, status = shown(asked.words[0]), asked.output or new_path(asked.words[0]), None
+    folder = path
+    limits = ["--most-seconds", f"{asked.most_seconds or LOOK / 2 + asked.seconds:g}"]
+    limits += ["--most-memory", str(asked.most_memory)] if asked.most_memory else []
+    BUDGET.give(MOST_SECONDS)  # (its time has passed while the command ran)
     say(f"cmh-stall: {name} takes longer than {asked.timeout:g} s: its processes are looked at, and then ended")
     for number, words in enumerate(ways_to_look(), 1):
         folder = path if number == 1 else f"{path}-{number}"
-        more = ["--seconds", f"{asked.seconds:g}", "-o", folder, "--timeout", f"{asked.timeout:g}"]
+        more = ["--seconds", f"{asked.seconds:g}", "-o", folder, "--timeout", f"{asked.timeout:g}", *limits]
         status = supervisor.look([*words, *more], asked.seconds)
         if status in (0, 3, 5, None):
             break
     left = supervisor.end_all(asked.grace)
-    kept = f"what was seen is kept in {shown(folder)}" if status in (0, 3, 5) else "its processes couldn't be looked at"
-    say(f"cmh-stall: {name} is ended, and {kept}")
+    say(f"cmh-stall: {name} is ended, and {kept_words(folder) if status in (0, 3, 5) else NOT_LOOKED_AT}")
     if left:
         say(f"cmh-stall: these can't be ended: {', '.join(shown(process.name()) for process in left)}")
     if not supervisor.adopts:
         say("cmh-stall: processes whose parent had ended before aren't known, and may still run, since "
             "prctl(PR_SET_CHILD_SUBREAPER) fails here")
+
+
+def kept_words(folder: str) -> str:
+    """Returns where an answer is, which isn't in its folder where that has no room."""
+    return f"what was seen is kept in {shown(folder)}" if os.path.exists(folder) else "the answer stands above"
 
 
 def end_as(status: int) -> int:
@@ -317,14 +347,16 @@ def command(words: Sequence[str]) -> int:
     try:
         supervisor = Supervisor(asked.words, asked.timeout)
     except OSError as error:
-        say(f"cmh-stall: {shown(asked.words[0])} can't be run: {error.strerror}")
-        return NOT_FOUND if error.errno == errno.ENOENT else CANNOT_RUN
+        say(f"cmh-stall: {shown(asked.words[0])} can't be run: {cause_of(error)}")
+        return NOT_FOUND if error.errno == errno.ENOENT else FAULT if error.errno in LACKS else CANNOT_RUN
     try:
         if supervisor.wait_for_end():
             return end_as(supervisor.ended[supervisor.pid])
         time_out(supervisor, asked)
     except Exception as error:  # (one that nobody has thought of)
-        say(f"cmh-stall: this is a fault of cmh-stall: {type(error).__name__}: {error}")
-        supervisor.end_all(asked.grace)
+        say(f"cmh-stall: {what_failed(error)}")
+        with contextlib.suppress(OSError):  # (those below may not be found now)
+            os.kill(supervisor.pid, signal.SIGKILL)
+            supervisor.end_all(asked.grace)
         return FAULT
     return TIMED_OUT

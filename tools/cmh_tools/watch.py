@@ -8,28 +8,26 @@ import re
 import shutil
 import subprocess
 import time
-from typing import Callable, Dict, List
+from typing import Callable, Dict, List, Tuple
 
-from .files import Failure, Refusal, say, shown
+from .files import Failure, Refusal, cause_of, failure_of, say, shown, signal_words
 from .rule import Headline
 
 TRIES = 5  # looks at a service that is started anew during each
 PAUSE = 2.0  # seconds in which a service that is about to run gets its process
 KEPT = 10  # folders of stalls
 LAST = "last"  # a link to the folder of the last look
-NAME = re.compile(r"\d{8}-\d{6}")
+NAME = re.compile(r"\d{8}-\d{6}(-\d+)?")
 STALLS = tuple(f"{headline.value}:".encode() for headline in (Headline.DEADLOCK, Headline.LIKELY))
 Check = Callable[[], None]  # raises Failure if what was taken isn't of the service
 
 
-def watch(unit: str, room: str, keep: int, look: Callable[[str, str, Check], int]) -> int:
+def watch(unit: str, room: str, keep: int, look: Callable[[str, str, Check], Tuple[int, str]]) -> int:
     """Looks at the main process of a unit, with all below it, and returns the status of the answer. `look` takes a
-    process into a new folder, and asks whether it is still that of the unit before it says anything. Raises Failure if
-    there is no answer."""
-    try:
+    process into a new folder, and asks whether it is still that of the unit before it says anything: it returns the
+    status, and where the folder is. Raises Failure if there is no answer."""
+    with contextlib.suppress(OSError):  # (then the folder is made where there is room)
         os.makedirs(room, 0o700, exist_ok=True)
-    except OSError as error:
-        raise Failure(f"{shown(room)}: {error.strerror}") from error
     for _ in range(TRIES):
         state = state_of(unit)
         pid = state["MainPID"]
@@ -39,14 +37,15 @@ def watch(unit: str, room: str, keep: int, look: Callable[[str, str, Check], int
         name = time.strftime("%Y%m%d-%H%M%S")
         try:
             check_process(unit, pid)
-            status = look(pid, f"{room}/{name}", lambda: check_process(unit, pid))
+            status, path = look(pid, f"{room}/{name}", lambda: check_process(unit, pid))
         except (Failure, Refusal):
             if pid == state_of(unit)["MainPID"] != "0":
                 raise
             say(f"{shown(unit)} is started anew meanwhile: it is looked at again")
             time.sleep(PAUSE if pid == "0" else 0)
             continue
-        keep_folders(room, name, keep)
+        if os.path.dirname(path) == room:
+            keep_folders(room, os.path.basename(path), keep)
         return status
     raise Failure(f"{shown(unit)} is started anew again and again, so there is no answer")
 
@@ -58,8 +57,11 @@ def state_of(unit: str) -> Dict[str, str]:
         ran = subprocess.run(["systemctl", "show", f"--property={','.join(names)}", "--", unit], check=False,
                              stdout=subprocess.PIPE, stderr=subprocess.PIPE, encoding="utf-8", errors="replace")
     except OSError as error:
-        raise Failure(f"systemctl: {error.strerror}") from error
+        raise failure_of("systemctl", error) from error
     rows = dict(line.partition("=")[::2] for line in ran.stdout.splitlines())
+    killed = signal_words(ran.returncode)
+    if killed:
+        raise Failure(f"systemctl {killed}")
     if ran.returncode or not {*names} <= {*rows} or rows["LoadState"] != "loaded":
         why = ran.stderr.strip() or rows.get("LoadState") or "it says nothing of its main process"
         raise Failure(f"systemctl has no service {shown(unit)}: {shown(why)}")
@@ -80,11 +82,17 @@ def keep_folders(room: str, name: str, keep: int) -> None:
         os.symlink(name, f"{room}/.{LAST}")
         os.replace(f"{room}/.{LAST}", f"{room}/{LAST}")
     except OSError as error:
-        raise Failure(f"{shown(room)}/{LAST}: {error.strerror}") from error
-    old: List[str] = sorted(filter(NAME.fullmatch, os.listdir(room)), reverse=True)
+        say(f"warning: {shown(room)}/{LAST}: {cause_of(error)}")
+        return
+    old: List[str] = sorted(filter(NAME.fullmatch, os.listdir(room)), key=numbers_of, reverse=True)
     stalls = [folder for folder in old if is_stall(f"{room}/{folder}")]
     for folder in {*old} - {*stalls[:keep], name}:
         shutil.rmtree(f"{room}/{folder}", ignore_errors=True)
+
+
+def numbers_of(name: str) -> List[int]:
+    """Returns the day, the time and the number of a folder, by which it is older or newer than others."""
+    return [*map(int, name.split("-"))]
 
 
 def is_stall(path: str) -> bool:

@@ -9,12 +9,13 @@ import shlex
 import shutil
 import signal
 import sys
-from typing import Any, Callable, NamedTuple, Sequence
+from typing import Any, Callable, NamedTuple, Optional, Sequence
+from unittest import mock
 
 sys.dont_write_bytecode = True
 TOOLS = os.path.dirname(os.path.dirname(os.path.realpath(__file__)))
 sys.path[:0] = [f"{os.path.dirname(TOOLS)}/tests", TOOLS]
-from harness import PROGRAM, Case, Ran, run, write  # noqa: E402
+from harness import PROGRAM, Case, Ran, check_faults, run, write  # noqa: E402
 
 os.environ["CMH"] = PROGRAM
 from cmh_tools import dump_command, explain_command  # noqa: E402
@@ -71,14 +72,16 @@ def without_heap(text):
 
 
 def call(command: Callable[[Sequence[str]], int], words: Sequence[str]) -> Ran:
-    """Calls a tool's command, and returns what it says."""
+    """Calls a tool's command, and returns what it says. The limit on memory is for a process of its own."""
     out, err = (io.TextIOWrapper(io.BytesIO(), encoding="utf-8", write_through=True) for _ in range(2))
-    with contextlib.redirect_stdout(out), contextlib.redirect_stderr(err):
+    with contextlib.redirect_stdout(out), contextlib.redirect_stderr(err), \
+            mock.patch("cmh_tools.command.bound_memory"), mock.patch("cmh_tools.stall_command.bound_memory"):
         try:
             status: Any = command(words)
         except SystemExit as ended:  # (argparse ends so where the words are refused)
             status = ended.code
     said = [it.buffer.getvalue().decode() for it in (out, err) if isinstance(it.buffer, io.BytesIO)]
+    check_faults(["cmh_tools", *words], *said)
     return Ran(status, *said)
 
 
@@ -106,7 +109,7 @@ class ToolCase(Case):
         self.same("alone", (ran.status, ran.err * ran.status), (0, ""))
         return True
 
-    def make(self, system, *states, facts=None):
+    def make(self, system: str, *states: Any, facts: Optional[str] = None) -> Ran:
         """Makes the dump of texts or trees, and returns what cmh-dump says."""
         texts = [state if isinstance(state, (str, bytes)) else json.dumps(state) for state in states]
         paths = [self.write(f"state-{at}", text) for at, text in enumerate(texts)]
