@@ -1,7 +1,9 @@
 #!/usr/bin/env python3
 """Echoes the lines of each connection, by a thread for each and one that does their work for all.
 
-usage: echo.py [FOLDER OF cmh_state]
+usage: echo.py [FOLDER OF cmh_state [THREADS]]
+
+So many more threads have a lock each, and wait.
 """
 from __future__ import annotations
 
@@ -33,7 +35,14 @@ def serve(connection: socket.socket) -> None:
             connection.sendall(answers.get())
 
 
+def wait(lock: threading.Lock) -> None:
+    with lock:
+        threading.Event().wait()
+
+
 def main() -> None:
+    for _ in range(int(sys.argv[2]) if sys.argv[2:] else 0):
+        threading.Thread(target=wait, args=(threading.Lock(),), daemon=True).start()
     threading.Thread(target=work, daemon=True).start()
     listener = socket.create_server(("127.0.0.1", 0), backlog=100)
     print("ready", listener.getsockname()[1], os.getpid(), flush=True)
