@@ -14,8 +14,8 @@ from .files import (MOST_OF_LINE, Failure, Refusal, decode, hindrance, read_byte
 from .making import sketch_for
 from .program import identity, judge
 from .proposals import Proposal, legend, propose
-from .parsers import MODULES
 from .sketch import KINDS, UNKNOWN, FactRow, Sketch, reason_of
+from .systems import MODULES
 
 DID = {HOLDS: "is held by", FREES: "is freed by"}  # what names have to do with a word of a fact, by its kind
 SHOWN, NAMES = 8, 5  # as many unknown ones and lines of facts are shown, and names in one; the notes have all

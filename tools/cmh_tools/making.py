@@ -11,10 +11,10 @@ from .files import Refusal, read_text, shown
 from .idle import leave_out
 from .model import Sign, Strength
 from .nearness import owners_of
-from .parsers import MODULES, State, parser_of
 from .sketch import Process, Sketch, has_how
 from .sketch_json import read_sketch
 from .snapshots import both
+from .systems import MODULES, State, parser_of
 
 
 def sketch_for(system: str, paths: Sequence[str], facts: Facts, read: Read = read_text) -> Sketch:

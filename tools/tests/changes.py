@@ -149,7 +149,7 @@ def words_of(tree: ast.AST) -> List[str]:
 
 def meant_words() -> FrozenSet[str]:
     """Returns the words that a tool knows: all others are names that somebody has chosen."""
-    paths = [path for pattern in ("*.py", "*/*.py", "*/*/*.py") for path in glob.glob(f"{TOOLS}/{pattern}")
+    paths = [path for path in glob.glob(f"{TOOLS}/**/*.py", recursive=True)
              if os.sep + "tests" + os.sep not in path]
     found = [word for path in paths for word in words_of(ast.parse(read(path)))]
     others = [word.lower() for path in (f"{TOOLS}/cmh_state_reader.erl", f"{TOOLS}/cmh_mpi.c")

@@ -1,0 +1,63 @@
+"""Erlang: what of two looks at a node can't be true of both. A process has one pid, which no earlier one has had,
+whoever runs is counted, and who is linked or monitored is there.
+"""
+from __future__ import annotations
+
+from typing import Dict, Iterator, List, Set, Tuple
+
+from ...snapshots import PARTS, Reading
+from .text import PID, Block
+
+NEWER = "it wasn't there before, and processes that are newer were"
+NAMED = "it doesn't have {}, to which a process of it is linked, or which one monitors"
+
+
+def doubt_blocks(readings: List[Reading]) -> None:
+    """Says of processes that they aren't understood, where two texts can't be of one."""
+    before: Dict[Tuple[str, str], Block] = {}
+    for block in (block for reading in readings for block in reading.rows):
+        first = before.setdefault((block.node, block.pid), block)
+        why = first.contradicts(block)
+        if why:
+            first.fault, block.fault = first.fault or why, block.fault or why
+
+
+def doubt_readings(readings: List[Reading]) -> None:
+    """Says of those that came between two looks that they aren't understood, where newer ones were there before; and of
+    a look that it lacks processes, where those of it name one that another look has."""
+    for first, second in pairs_of(readings):
+        there, later = ({block.pid for block in reading.rows} for reading in (first, second))
+        newest = max(map(age_of, there), default=())
+        doubt_newcomers([block for block in second.rows if block.pid not in there and age_of(block.pid) < newest])
+        lack_named(first, later - there)
+        lack_named(second, there - later)
+
+
+def pairs_of(readings: List[Reading]) -> Iterator[Tuple[Reading, Reading]]:
+    """Yields each two looks at a node of which one follows the other."""
+    last: Dict[str, Reading] = {}
+    for reading in readings:
+        if reading.source in last:
+            yield last[reading.source], reading
+        last[reading.source] = reading
+
+
+def age_of(pid: str) -> Tuple[int, ...]:
+    """Returns what is higher for a later process of a node: its serial, and then its number."""
+    _, number, serial = pid[1:-1].split(".")
+    return int(serial), int(number)
+
+
+def doubt_newcomers(blocks: List[Block]) -> None:
+    for block in blocks:
+        block.fault = block.fault or NEWER
+
+
+def lack_named(reading: Reading, others: Set[str]) -> None:
+    """Says of a look that it isn't whole, if processes of it name one of some that it doesn't have."""
+    named = (pid for block in reading.rows for key in ("links", "monitors") for pid in PID.findall(
+        block.items.get(key, "")))
+    lost = next((pid for pid in named if pid in others), "")
+    if lost:
+        reading.extent = PARTS
+        reading.missing = reading.missing or NAMED.format(lost)

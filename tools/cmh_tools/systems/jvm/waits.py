@@ -1,0 +1,444 @@
+"""What each thread of a JVM does in one state, and who may end its wait, how.
+
+Named are the owner of a monitor or of a ReentrantLock or one of its kin, who initialises a class, and with a heap who
+runs a task, computes a future, reads under a lock or is joined. At any other object of the runtime those are able who
+have a reference to it by a heap, or else all other threads of the JVM. Who may interrupt or cancel is against.
+"""
+from __future__ import annotations
+
+import re
+from typing import Dict, Iterable, List, Optional, Set
+
+from ...model import Part, Sign, Wakers, all_of, any_of, unseen, wakers
+from ...sketch import INNER, LIMIT, REST, SYSTEM, TIMER, Process, blocked, garbled, goes_on, premise, rests, unknown
+from ...snapshots import ONCE
+from ..base import Snapshot, duration
+from .frames import (AGAIN, BARRIER, CLEANER, COMPUTES, CONDITION, FROM_OUTSIDE, FUTURE, HAS_TASK, HAS_TIMER,
+                     INTERRUPTIBLY, LONG, MEETS, NEVER_MEANT, OF_LOCKS, OF_QUEUES, OUTSIDE, POOLS_OWN, READS,
+                     READS_OUTSIDE, READS_PIPE, REENTRANT, RUNS_TASK, SLEEP, SOCKETS, YIELDS, Place, awaits_task,
+                     caller_of, has_jobs, has_limit, is_for_the_end, is_in, is_own_loop, is_receive, place_of,
+                     short)
+from .heap import FUTURES, HOOK, JOIN, LOST, POOL, QUEUED, READERS, STREAM, SUPPLIED, HeapView, Reached, Wait
+from .locks import Locks
+from .rows import label_of
+from .text import PARKED, Dump, Thread, stack_of
+
+NATIVE, INITIALISER, QUEUE, TIMED = "native", "initialiser", "queued", "processor-time"
+POOLS, COMPLETES, REACHES = "pools", "completes", "reaches"
+RESTS_ON: Dict[str, List[str]] = {QUEUED: [POOLS], SUPPLIED: [POOLS, COMPLETES], "future": [COMPLETES],
+                                  FUTURES: [COMPLETES]}
+OF_THE_JDK = "java.util.concurrent.locks."
+END, MAIN = "waits for the end of the JVM", "main"
+CLOSES = re.compile(r"io\.netty\.channel\.\w+\$CloseFuture")
+UNSHOWN, TO_COME = "unshown", "to-come"
+
+
+class Everybody:
+    """Those who may end the wait of any thread, in lists that all share: the job's threads, but for those that do
+    nothing until one of these gives it to them. `periodic` do again and again what they have to do, by the heap, and
+    `newcomers` came after the first state, so that the heap may lack them."""
+
+    def __init__(self, names: List[str], periodic: List[str], newcomers: List[str], main: str = "") -> None:
+        self.periodic = set(periodic)
+        others = [name for name in names if name not in self.periodic]
+        self.able = wakers("same-process", others, premise(INNER))
+        self.able_but_main = self.able.without([main])
+        self.cancels = wakers("cancels", others)
+        self.repeats: Part = (wakers("repeats", periodic),) if periodic else ()
+        self.newcomers: Part = (wakers(TO_COME, newcomers),) if newcomers else ()
+
+
+class Threads(Snapshot):
+    """The dump of one time. `limited` are the keys of those whose wait has a limit, and `breakers` the names of those
+    at a barrier; `meetings` has by key at which barrier one waits, if the state shows that of all who wait at one.
+    `counts` says that processor times tell one wait from the next. `moved` has at what some wait who haven't stood, or
+    in another way than for a ReentrantLock, and `shows_owners` says that whoever owns one is shown. `timers` are
+    the JDK's own with something to do for futures. `scheduled` are the keys of those that take tasks of a schedule, and
+    wait with a limit in one state at least: its threads take turns in that. `of_file` has the names of those that were
+    read by themselves, beside what jstack prints."""
+
+    dump: Dump
+    threads: List[Thread]
+    by_key: Dict[str, Thread]
+    names: Dict[str, str]
+    everybody: Everybody
+    locks: Locks
+    heap: HeapView
+    limited: Set[str]
+    breakers: List[str]
+    meetings: Dict[str, str]
+    counts: bool
+    moved: Set[str]
+    shows_owners: bool
+    known_owners: Dict[str, Part]
+    known_runners: Dict["re.Pattern[str]", Part]
+    known_able: Dict[str, Wakers]
+    timers: List[str]
+    scheduled: Set[str]
+    of_file: Set[str]
+
+    def left_out(self) -> Part:
+        """Those who may be missing, beside those that are named: whoever is found by a search has them anyway."""
+        return (wakers("left-out", [REST]),) if self.lacks() else ()
+
+    def able(self, thread: Thread) -> Part:
+        """Returns who may end the wait of a thread at an object of the runtime."""
+        reached = self.heap.reach_of(thread)
+        if reached is None:
+            able = self.everybody.able_but_main if thread.name == MAIN else self.able_beside(parked_at(thread))
+            return (able, *self.everybody.repeats)
+        return self.reaching("reaches", reached)
+
+    def able_beside(self, lock: str) -> Wakers:
+        """Returns all who may end a wait at an object. Who waits to read with a lock has nothing of it: a reader that
+        has it gets it once more at once."""
+        if lock not in self.locks.readers:
+            return self.everybody.able
+        if lock not in self.known_able:
+            names = (self.names[key] for key in self.locks.readers[lock])
+            self.known_able[lock] = self.everybody.able.without(names)
+        return self.known_able[lock]
+
+    def cancelling(self, thread: Thread) -> Part:
+        """Returns who may interrupt a thread, or cancel what it waits for."""
+        reached = self.heap.reach_of(thread)
+        if reached is None:
+            return (self.everybody.cancels, *self.everybody.repeats)
+        return () if reached.is_alone else self.reaching("cancels", reached)
+
+    def reaching(self, how: str, reached: Reached) -> Part:
+        """Returns those who have a reference. What does the same again and again, finalizes objects or came later may
+        have one too."""
+        periodic = [name for name in reached.names if name in self.everybody.periodic]
+        others = [name for name in reached.names if name not in self.everybody.periodic]
+        return (wakers(how, others, premise(REACHES)), *([wakers("repeats", periodic)] if periodic else []),
+                *([wakers("finalizes", reached.inner)] if reached.inner else []), *self.everybody.newcomers)
+
+    def owners(self, thread: Thread) -> Part:
+        """Returns who has a lock of the JDK's: one at a condition that was signalled still stands there until it gets
+        the lock. The JDK's own queues give their locks back at once, unless code of the job runs within."""
+        if CONDITION not in thread.parked_class:
+            return ()
+        inside = inside_of(thread)
+        if inside not in self.known_owners:
+            names = [self.names[other.key] for other in self.threads if has_lock(other)
+                     and any(frame.method.startswith(inside) for frame in other.frames)]
+            names += [REST] if self.lacks() else []
+            self.known_owners[inside] = (wakers("releases", names),) if names else ()
+        return self.known_owners[inside]
+
+    def runners(self, place: Place) -> Part:
+        """Returns those who run a task of the kind that one waits for: what one of them runs, or has still to run."""
+        task = next((task for call, task in RUNS_TASK if call.fullmatch(place.call)), None)
+        if task is None:
+            return ()
+        if task not in self.known_runners:
+            names = [self.names[thread.key] for thread in self.threads
+                     if is_in(task, stack_of(thread)) and not place_of(thread).idle]
+            self.known_runners[task] = (wakers("guess", names),) if names else ()
+        return self.known_runners[task]
+
+    def breaking(self, place: Place) -> Part:
+        """Returns who may end a wait at a barrier or for a future by a limit: that of a thread that waits there too, or
+        one of which a thread of the JDK takes care."""
+        names = self.breakers if MEETS.fullmatch(place.call) else self.timers
+        names = [*names, *([REST] if self.lacks() else [])]
+        has_limits = MEETS.fullmatch(place.call) or FUTURE.fullmatch(place.call)
+        return (wakers("cancels", names),) if names and has_limits else ()
+
+
+def wait_of(thread: Thread, name: str, snapshot: Threads) -> Process:
+    """Returns what a thread does, as a process with its sign and its wait alone."""
+    place = place_of(thread)
+    is_limited = has_limit(thread) or thread.key in snapshot.scheduled and place.has(HAS_TIMER)
+    if place.idle and not (is_limited and (place.has(HAS_TIMER) or place.has(HAS_TASK))):
+        is_outside = place.idle in FROM_OUTSIDE or place.idle == CLEANER
+        return rests(name, place.idle, any_of(unseen("outside" if is_outside else TO_COME)), [])
+    if thread.state == "BLOCKED":
+        return wait_for_monitor(thread, name, snapshot)
+    if is_limited:
+        return wait_with_limit(thread, place, name, snapshot)
+    if thread.far:
+        return wait_for_ages(thread, place, name, snapshot)
+    if thread.state == "WAITING":
+        return wait_without_limit(thread, place, name, snapshot)
+    if thread.state == "RUNNABLE":
+        return run_or_wait(thread, place, name, snapshot)
+    return unknown(name, f"its state is {thread.state}" if thread.state else "the text has no state of it")
+
+
+def named(name: str, how: str, whom: List[str], because: List[str], *beside: Part) -> Process:
+    """One that any one of those ends of which the system says that one of them has to."""
+    return blocked(name, any_of(wakers(how, whom), *(more for part in beside for more in part)), because)
+
+
+def owned(name: str, owner: str, because: List[str], snapshot: Threads, *beside: Part) -> Process:
+    """One that waits for what another owns, which alone gives it back: one moment shows that."""
+    snapshot.moments[name] = ONCE
+    return named(name, "owns", [owner], because, *beside)
+
+
+def wait_for_monitor(thread: Thread, name: str, snapshot: Threads) -> Process:
+    """One that waits to enter a monitor. One that may have given it back in Object.wait() may have it."""
+    wanted = snapshot.locks.wanted.get(thread.key)
+    if wanted is None:
+        return undecided(name, (snapshot.everybody.able,), "it waits for a monitor, and the state doesn't show which")
+    holders = snapshot.locks.monitor_holders(wanted, thread.key)
+    if len(holders) == 1:
+        return owned(name, snapshot.names[holders[0]], [SYSTEM], snapshot, snapshot.left_out())
+    perhaps = [snapshot.names[key] for key in snapshot.locks.perhaps.get(wanted, []) if key != thread.key]
+    names = [snapshot.names[key] for key in holders] or perhaps
+    shows = "shows several holders of it" if holders else "shows no holder of it"
+    more = f": {perhaps[0]} may have given it back in Object.wait()" if perhaps and not holders else ""
+    why = f"it waits for the monitor {wanted}, and the state {shows}{more}"
+    return undecided(name, (wakers("inside", names),) if names else (), why)
+
+
+def undecided(name: str, part: Part, why: str) -> Process:
+    """One of which the state doesn't show all who may end its wait."""
+    return blocked(name, any_of(*part, unseen(UNSHOWN, why)), [], reason=why)
+
+
+def wait_with_limit(thread: Thread, place: Place, name: str, snapshot: Threads) -> Process:
+    """A wait with a limit, or with one that only waits again. A limit that has ended between two states is no long one.
+    """
+    if place.has(AGAIN):
+        is_piped = place.has(READS_PIPE) and not place.call.startswith("Piped")
+        process = wait_for_some(thread, place, name, snapshot)
+        process.operation = "PipedInputStream.read" if is_piped else place.call
+        return process
+    if place.has(LONG) and not (snapshot.counts and thread.has_ticked):
+        process = wait_for_pool(thread, name, snapshot)
+        process.operation = place.call
+        return process
+    why = "sleeps" if place.has(SLEEP) else TIMER if place.has(HAS_TIMER) else "waits with a limit"
+    return goes_on(name, why, [premise(LIMIT)], Sign.TICKS if is_own_loop(stack_of(thread)) else Sign.SLEEPS,
+                   operation=f"timed {place.call}" if place.call else "")
+
+
+def wait_for_ages(thread: Thread, place: Place, name: str, snapshot: Threads) -> Process:
+    """A wait whose limit is none, as it ends in more than an hour: of one that only sleeps that is all."""
+    ends = unseen("limit", f"its limit ends in {duration(thread.far)}")
+    if place.has(SLEEP):
+        return rests(name, f"sleeps for {duration(thread.far)}", any_of(*snapshot.cancelling(thread), ends), [SYSTEM],
+                     operation=place.call)
+    process = wait_without_limit(thread, place, name, snapshot)
+    process.parts = [(*part, ends) for part in process.parts]
+    return process
+
+
+def wait_for_pool(thread: Thread, name: str, snapshot: Threads) -> Process:
+    """One that waits for the end of a pool: of all its threads, if the heap shows these."""
+    why = "it has a limit that the state doesn't show, and that may be one of centuries"
+    wait = snapshot.heap.wait_of(thread)
+    workers = snapshot.heap.names_of(wait.whom) if wait is not None and wait.kind == POOL else []
+    if not workers:
+        return undecided(name, snapshot.able(thread), why)
+    return blocked(name, all_of(workers, "ends", beside=(*snapshot.left_out(), unseen(UNSHOWN, why))), [], reason=why)
+
+
+def wait_without_limit(thread: Thread, place: Place, name: str, snapshot: Threads) -> Process:
+    owner, parked = snapshot.locks.owner(thread), parked_at(thread)
+    beside = (*(snapshot.cancelling(thread) if place.has(INTERRUPTIBLY) else ()), *snapshot.left_out())
+    if owner is not None and (thread.parked_class or parked).startswith(OF_THE_JDK):
+        return owned(name, snapshot.names[owner], [SYSTEM], snapshot, beside)
+    if parked and snapshot.dump.has_owners and READS.fullmatch(place.call) and snapshot.locks.writers[parked]:
+        return wait_to_read(parked, name, beside, snapshot)
+    wait = snapshot.heap.wait_of(thread)
+    process = wait_by_heap(thread, wait, place, name, snapshot) if wait is not None else None
+    if process is not None:
+        return process
+    if snapshot.dump.has_owners and REENTRANT.fullmatch(thread.parked_class):
+        is_lost = snapshot.shows_owners and parked not in snapshot.moved
+        more = ", and it woke nobody, as if its owner had ended" if is_lost else ""
+        return undecided(name, beside, f"{place.call}: no thread owns {parked}{more}")
+    if CONDITION in (thread.parked_class or parked) and not inside_of(thread) and not snapshot.dump.has_owners:
+        return garbled(name, f"{place.call or 'its wait'}: it may have been signalled, and wait for whoever has the "
+                             "lock: only `jstack -l` shows that")
+    return wait_for_some(thread, place, name, snapshot)
+
+
+def awaits_close(thread: Thread) -> bool:
+    """Whether a thread waits until a channel of Netty is closed, as main does that has begun a server."""
+    return any(map(CLOSES.fullmatch, thread.monitors))
+
+
+def parked_at(thread: Thread) -> str:
+    """Returns the object at which a thread is parked, or nothing."""
+    return next((thing for frame in thread.frames[:1] for kind, thing in frame.marks if kind == PARKED), "")
+
+
+def wait_for_some(thread: Thread, place: Place, name: str, snapshot: Threads) -> Process:
+    """One that waits at an object of the runtime. One that takes its next message in the loop of its own thread rests,
+    and where no heap says that nobody else may end its wait, a signal or a hook of the program's may. If nobody has a
+    reference to what it waits at, it may be meant to wait for ever, but at no queue that is full, nor where several
+    meet. Where it alone runs tasks like the one that it waits for, somebody else may give what it waits for."""
+    if place.has(OUTSIDE):
+        return wait_for_outside(thread, name, f"{place.call}: the state doesn't show what is outside of the JVM")
+    reached = snapshot.heap.reach_of(thread)
+    near = tuple(group for group in snapshot.runners(place) if group.names() != [name]) if reached is None else ()
+    part = (*near, *snapshot.able(thread), *snapshot.owners(thread), *snapshot.breaking(place))
+    because = [premise(INNER if reached is None else REACHES)]
+    is_receiver = is_receive(place) and is_own_loop(stack_of(thread))
+    is_meant = reached is not None and reached.is_alone and not awaits_task(thread) and not NEVER_MEANT.fullmatch(
+        place.call)
+    is_at_end = thread.name == MAIN and (is_meant or awaits_close(thread) or reached is None and is_for_the_end(
+        place) and is_own_loop(stack_of(thread)))
+    if is_meant or is_at_end or reached is None and is_receiver:
+        part = (*part, unseen("outside"))
+    if not has_jobs(stack_of(thread)):
+        part = (*part, unseen(UNSHOWN, "no frame of it is the job's own, so that it may have nothing to do"))
+    if is_receiver or is_at_end:
+        return rests(name, "waits for its next message" if is_receiver else END, any_of(*part), because)
+    return blocked(name, any_of(*part), because)
+
+
+def wait_to_read(lock: str, name: str, beside: Part, snapshot: Threads) -> Process:
+    """One that waits to read with a lock that nobody owns stands in its queue behind one that waits to write. One that
+    came later doesn't end its wait. Where that one has a limit, it may be another who never gives the lock back: one
+    who has ended."""
+    keys = snapshot.locks.writers[lock]
+    writers = [snapshot.names[key] for key in keys]
+    if snapshot.limited.issuperset(keys):
+        why = "who waits to write with this lock has a limit, and may have come later"
+        return undecided(name, (wakers("guess", writers), *beside), why)
+    if len(writers) > 1:
+        return blocked(name, any_of(wakers("listed", writers), *beside), [premise(QUEUE)])
+    return named(name, "owns", writers, [premise(QUEUE)], beside)
+
+
+def wait_by_heap(thread: Thread, wait: Wait, place: Place, name: str, snapshot: Threads) -> Optional[Process]:
+    """Returns what a thread waits for without a limit, or None if the heap doesn't say more than who reaches that."""
+    heap = snapshot.heap
+    if wait.kind == HOOK or wait.kind == JOIN and wait.whom == [label_of(thread)]:
+        return rests(name, END, any_of(unseen("outside")), [])
+    if wait.kind == LOST:
+        return blocked(name, any_of(), [SYSTEM])
+    if not wait.whom:
+        return None
+    gone: Part = () if all(label in heap.there for label in [*wait.whom, *wait.besides]) else (
+        unseen(UNSHOWN, "a thread that may end this wait by the heap dump isn't in this state"),)
+    if wait.kind == READERS:
+        return wait_for_readers(thread, wait, place, name, snapshot)
+    whom = heap.names_of(wait.whom)
+    beside = (*snapshot.cancelling(thread), *besides(wait, place, snapshot), *gone, *snapshot.left_out())
+    because = [SYSTEM, *map(premise, RESTS_ON.get(wait.kind, []))]
+    if wait.kind == STREAM:  # (whoever runs a part of it may end it by failing)
+        beside = (wakers("cancels", whom), *beside)
+    if wait.kind in (FUTURES, STREAM):
+        return blocked(name, all_of(whom, "ends", beside=beside), because)
+    return named(name, "ends", whom, because, beside)
+
+
+def besides(wait: Wait, place: Place, snapshot: Threads) -> Part:
+    """Returns who may end a wait besides those that have to, by what the heap shows of it: whoever has a task or future
+    in its frames, a timer of the JDK's, a thread that a pool may begin, and who has moved since."""
+    others = snapshot.heap.names_of(wait.besides)
+    may_grow = wait.kind in (QUEUED, SUPPLIED) and not wait.is_full
+    may_move = wait.kind in ("future", FUTURES, STREAM) and not wait.is_direct and len(
+        snapshot.heap.standing(wait.whom)) < len(wait.whom)
+    return (*([wakers("cancels", others)] if others else []), *snapshot.breaking(place),
+            *([wakers("starts", snapshot.everybody.able.who)] if may_grow else []),
+            *([unseen(UNSHOWN, "who has to end what it waits for has moved since the heap was dumped")]
+              if may_move else []))
+
+
+def wait_for_readers(thread: Thread, wait: Wait, place: Place, name: str, snapshot: Threads) -> Process:
+    """One that waits to write waits for those who read, and still stand where they did when the heap was dumped:
+    another one may have given the lock back since."""
+    standing = snapshot.heap.standing(wait.whom)
+    beside = (*(snapshot.cancelling(thread) if place.has(INTERRUPTIBLY) else ()), *snapshot.left_out())
+    if not standing:
+        readers = wakers("guess", snapshot.heap.names_of(wait.whom))
+        why = "those who read under this lock have moved since the heap was dumped"
+        return undecided(name, (readers, *beside), why)
+    return blocked(name, all_of(snapshot.heap.names_of(standing), "owns", beside=beside), [SYSTEM])
+
+
+def run_or_wait(thread: Thread, place: Place, name: str, snapshot: Threads) -> Process:
+    if snapshot.locks.class_of(thread) or "in Object.wait" in thread.status:
+        return wait_for_class(thread, name, snapshot)
+    if not thread.frames:
+        return unknown(name, "it has no frames")
+    top = thread.frames[0]
+    if YIELDS.fullmatch(top.method):
+        return goes_on(name, "yields", [premise(LIMIT)], Sign.TICKS if is_own_loop(stack_of(thread)) else Sign.SLEEPS,
+                       operation=f"timed {short(top.method)}")
+    if top.native and not COMPUTES.fullmatch(top.method):
+        return wait_in_native(thread, place, name, top.method)
+    if thread.status not in ("", "runnable"):
+        return unknown(name, f"it is RUNNABLE and yet '{thread.status}'")
+    if not top.native and thread.has_stood:
+        return unknown(name, "it is RUNNABLE, and yet used no processor time between the states")
+    return goes_on(name, "computes", [premise(NATIVE) if top.native else SYSTEM])
+
+
+def wait_in_native(thread: Thread, place: Place, name: str, method: str) -> Process:
+    """One in a native method: the outside ends it where that reads, connects or waits for a child."""
+    why = (f"it is in {short(method)}, and the state doesn't show whether that waits, and what for: the other end may "
+           "be in the dump")
+    return wait_for_outside(thread, name, why) if place.has(OUTSIDE) else unknown(name, why)
+
+
+def wait_for_outside(thread: Thread, name: str, why: str) -> Process:
+    """One that waits for what is outside of the JVM. One that reads in the loop of its own thread rests."""
+    stack = stack_of(thread)
+    if is_in(READS_OUTSIDE, stack) and is_own_loop(stack):
+        return rests(name, "waits for the outside", any_of(unseen("outside")), [])
+    return blocked(name, any_of(unseen("outside", why)), [], reason=why)
+
+
+def wait_for_class(thread: Thread, name: str, snapshot: Threads) -> Process:
+    """One that waits until another has initialised a class."""
+    initialisers = snapshot.locks.initialisers.get(snapshot.locks.class_of(thread), [])
+    keys = [key for key in dict.fromkeys(initialisers) if key != thread.key]
+    if not keys:
+        return undecided(name, (snapshot.everybody.able,),
+                         "it waits until a class is initialised, and the state doesn't show by which thread")
+    others = [key for key in dict.fromkeys([*keys, *snapshot.locks.beginners]) if key != thread.key]
+    why = other_initialiser(thread, snapshot)
+    if why:
+        return undecided(name, (wakers("guess", [snapshot.names[key] for key in others]),), why)
+    return owned(name, snapshot.names[keys[0]], [premise(INITIALISER)], snapshot, snapshot.left_out())
+
+
+def meetings_of(threads: Iterable[Thread], locks: Locks) -> Dict[str, str]:
+    """Returns at which barrier each thread waits, by key, if the state shows that of all. A Phaser has no such object:
+    each thread is parked at one of its own."""
+    here = {thread.key: locks.objects.get(thread.key, []) for thread in threads
+            if (CONDITION in thread.parked_class or not thread.parked_class) and is_in(BARRIER, stack_of(thread))}
+    return {key: things[0] for key, things in here.items()} if all(here.values()) else {}
+
+
+def has_lock(thread: Thread) -> bool:
+    """Whether a thread owns a lock besides that of its pool, and that of the socket at which it is in a call."""
+    locks = [name for name in thread.owned.values() if name != POOLS_OWN]
+    return len(locks) > is_in(SOCKETS, stack_of(thread))
+
+
+def inside_of(thread: Thread) -> str:
+    """Returns the class of the JDK within which a thread waits, with a dot, or nothing."""
+    caller = caller_of(thread)
+    return caller.rpartition(".")[0] + "." if caller.startswith(OF_QUEUES) else ""
+
+
+def is_locking(thread: Thread) -> bool:
+    """Whether a thread takes a lock of the JDK or gives one back just now, so that it isn't parked."""
+    return thread.state not in ("WAITING", "TIMED_WAITING") and is_in(OF_LOCKS, stack_of(thread))
+
+
+def has_stood(thread: Thread, snapshot: Threads) -> str:
+    return "it used no processor time between the states" if thread.has_stood else ""
+
+
+def other_initialiser(thread: Thread, snapshot: Threads) -> str:
+    """Returns what shows that a class of this name of another loader may be meant, or nothing. Whoever initialises that
+    may still be in the initialiser of a class from which it derives, or wait for another class: in the end somebody
+    runs an initialiser and waits for no class."""
+    name = snapshot.locks.class_of(thread)
+    keys = set(snapshot.locks.initialisers.get(name, []))
+    if len(keys) > 1:
+        return f"several threads initialise a class {name}"
+    other = next((key for key in snapshot.locks.beginners if key not in keys and key != thread.key), None)
+    return (f"{snapshot.names[other]} initialises a class too, from which a {name} of another class loader may derive"
+            if other else "")

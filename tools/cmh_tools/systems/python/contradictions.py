@@ -1,0 +1,98 @@
+"""Python: what of two looks at a process can't be true of both. The kernel's number of a thread and the number of a
+task are of one alone, and no count of either falls.
+"""
+from __future__ import annotations
+
+from typing import Any, Dict, Iterable, List, Set
+
+from .text import Look, Row
+
+OTHERS = "its number is another one's in another look"
+KEPT = {"thread": ("main", "daemon"), "task": ("loop",)}  # what a thread or a task has as long as it lives
+COUNTS = {"thread": "stops", "task": "wait"}
+OF_CALL = ("words", "how", "module", "function", "named")  # what the code says of a call
+NUMBERS = {"thread": "native", "task": "number"}
+
+
+def doubt_looks(looks: List[Look]) -> None:
+    """Says of threads and tasks of a process that they aren't understood, where two of its looks contradict each other
+    in them. Such a one is called in each look as in the first."""
+    for first, second in zip(looks, looks[1:]):
+        doubt_rows("thread", first.threads, second.threads)
+        doubt_rows("task", first.tasks, second.tasks)
+
+
+def doubt_rows(kind: str, first: Dict[Any, Row], second: Dict[Any, Row]) -> None:
+    before, after = (numbers_of(kind, rows.values()) for rows in (first, second))
+    for key, row in second.items():
+        was = first.get(key)
+        why = fault_in(kind, was, row, before, after) if was is not None else ""
+        if was is not None and why:
+            was.fault = row.fault = was.fault or why
+            row.name, row.more = was.name, {**row.more, **{word: was.more[word] for word in (
+                NUMBERS[kind], *KEPT[kind]) if word in was.more}}
+        elif was is not None and was.more.get(NUMBERS[kind]) == row.more.get(NUMBERS[kind]):
+            row.name = was.name  # (a program may rename one)
+        elif was is None and row.more.get(NUMBERS[kind]) in before:
+            row.fault = row.fault or OTHERS
+            for other in (it for it in first.values() if it.more[NUMBERS[kind]] == row.more[NUMBERS[kind]]):
+                other.fault = other.fault or OTHERS
+
+
+def numbers_of(kind: str, rows: Iterable[Row]) -> Set[int]:
+    return {row.more[NUMBERS[kind]] for row in rows if isinstance(row.more.get(NUMBERS[kind]), int)}
+
+
+def fault_in(kind: str, was: Row, row: Row, before: Set[int], after: Set[int]) -> str:
+    """Returns what two rows with one address contradict each other in, or nothing. At the address of one that has ended
+    there may be another one, which is newer than all before, and not just like it."""
+    number, later = was.more.get(NUMBERS[kind]), row.more.get(NUMBERS[kind])
+    if number != later:
+        is_other = isinstance(number, int) and isinstance(later, int) and later > max(before) and number not in after
+        is_other &= any(was.more.get(word) != row.more.get(word) for word in (*COUNTS.values(), "frames"))
+        return "" if is_other else f"its looks differ in {NUMBERS[kind]}, and it is no newer one"
+    key = next((key for key in KEPT[kind] if was.more.get(key) != row.more.get(key)), None)
+    counts = was.more.get(COUNTS[kind]), row.more.get(COUNTS[kind])
+    if key is not None:
+        return f"its looks differ in {key}"
+    if isinstance(counts[0], int) and isinstance(counts[1], int) and counts[1] < counts[0]:
+        return f"its count of {COUNTS[kind]} is lower than before"
+    if bool(was.frames) != bool(row.frames) and counts[0] is not None and counts[0] == counts[1]:
+        return "one of its looks lacks its frames"
+    if kind == "thread" and says_two(call_of(was), call_of(row)) and lines_of(was) == lines_of(row):
+        return "it is at one call, of which its looks say different things"
+    is_still = kind == "thread" and counts[0] is not None and counts[0] == counts[1] and all(
+        one.more.get("asleep") is True for one in (was, row))
+    if is_still and place_of(was) != place_of(row):
+        return "it is at two places, and hasn't woken between its looks"
+    waits: List[Any] = [one.more.get("waits") for one in (was, row)]
+    is_undone = kind == "task" and all(isinstance(one, dict) for one in waits) and waits[0].get("id") == waits[1].get(
+        "id") and waits[0].get("done") is True and waits[1].get("done") is False
+    return "what it waits for was done before, and isn't now" if is_undone else ""
+
+
+def place_of(row: Row) -> List[Any]:
+    """Returns where a thread stands: by its frames with the things that they have, and by the call of the topmost one.
+    """
+    return [lines_of(row), [things_in(frame.has) for frame in row.frames], *map(call_of(row).get, OF_CALL)]
+
+
+def lines_of(row: Row) -> List[Any]:
+    return [(frame.at, frame.file, frame.line) for frame in row.frames]
+
+
+def call_of(row: Row) -> Dict[str, Any]:
+    call = row.more.get("call")
+    return call if isinstance(call, dict) else {}
+
+
+def says_two(call: Dict[str, Any], later: Dict[str, Any]) -> bool:
+    """Whether two looks at a call in one line, by its words, differ in what the code says of it."""
+    words = call.get("words")
+    return bool(words) and words == later.get("words") and any(call.get(key) != later.get(key) for key in OF_CALL)
+
+
+def things_in(has: Dict[str, Any]) -> Dict[str, List[Any]]:
+    """Returns what tells the things that a frame has from others, by the names that they have there."""
+    lists = {name: value if isinstance(value, list) else [value] for name, value in has.items()}
+    return {name: [it.get("id") for it in things if isinstance(it, dict)] for name, things in lists.items()}
