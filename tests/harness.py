@@ -27,6 +27,7 @@ SHARE = 1 if IS_WHOLE else 3  # of many cases of a kind, one in so many is tried
 SECONDS = 900  # no command of a test takes so long, also on a busy machine
 PYTHONS = [f"3.{minor}" for minor in range(8, 14)]  # by which the tools run
 DEAREST = 6  # tests of a script whose processor time is said
+TOLD = 600  # characters of what is said of a failure in its line
 JAVAC = ["javac", "-J-XX:TieredStopAtLevel=1", "-J-XX:+UseSerialGC"]  # in half the processor time
 CLOSING = re.compile(r"(\d+) passed, (\d+) failed(?:, (\d+) skipped)?\n?")
 # What is said of a fault of the tools: by themselves, and by Python where they haven't caught it.
@@ -163,8 +164,12 @@ def processor_time() -> float:
     return sum(spent[:4])
 
 
+def name_of(test: Any) -> str:
+    return str(test.id()).replace("__main__.", "")
+
+
 class Result(unittest.TextTestResult):
-    """Counts each comparison, tells at once what is skipped, and keeps what each test costs."""
+    """Counts each comparison, tells at once what fails and what is skipped, and keeps what each test costs."""
 
     def __init__(self, *more: Any, **named: Any) -> None:
         super().__init__(*more, **named)
@@ -177,7 +182,7 @@ class Result(unittest.TextTestResult):
 
     def stopTest(self, test: Any) -> None:
         super().stopTest(test)
-        self.costs.append((processor_time() - self.before, test.id().replace("__main__.", "")))
+        self.costs.append((processor_time() - self.before, name_of(test)))
 
     def dearest(self) -> str:
         """The tests that have taken most processor time, if they took more than a second."""
@@ -185,7 +190,10 @@ class Result(unittest.TextTestResult):
 
     def addSubTest(self, test: Any, subtest: Any, err: Any) -> None:
         super().addSubTest(test, subtest, err)
-        self.count(err is None)
+        if err is None:
+            self.count(True)
+        else:
+            self.tell(subtest, err)
 
     def addSuccess(self, test: Any) -> None:
         super().addSuccess(test)
@@ -193,15 +201,21 @@ class Result(unittest.TextTestResult):
 
     def addError(self, test: Any, err: Any) -> None:
         super().addError(test, err)
-        self.count(False)
+        self.tell(test, err)
 
     def addFailure(self, test: Any, err: Any) -> None:
         super().addFailure(test, err)
-        self.count(False)
+        self.tell(test, err)
 
     def addSkip(self, test: Any, reason: str) -> None:
         super().addSkip(test, reason)
-        print(f"skipped {test.id().replace('__main__.', '')}: {reason}", flush=True)
+        print(f"skipped {name_of(test)}: {reason}", flush=True)
+
+    def tell(self, test: Any, err: Any) -> None:
+        """Counts what fails, and says it in a line."""
+        self.count(False)
+        why = " ".join(f"{err[0].__name__}: {err[1]}".split())
+        print(f"failed {name_of(test)}: {why[:TOLD]}", flush=True)
 
     def count(self, is_well: bool) -> None:
         self.passed, self.failed = self.passed + is_well, self.failed + (not is_well)
@@ -268,17 +282,19 @@ def version_of(python: str) -> str:
 PIPES: dict[str, Any] = {"stdin": subprocess.DEVNULL, "stdout": subprocess.PIPE, "stderr": subprocess.STDOUT,
                          "encoding": "utf-8", "errors": "replace"}
 SUMMARY = "== summary"
+LAST = 5  # lines that are said of a command that ends without its closing line
 
 
 def minutes(seconds: float) -> str:
     return f"{int(seconds) // 60}:{int(seconds) % 60:02}"
 
 
-def skipped_of(lines: list[str]) -> list[str]:
-    """The lines of a command that name what it skipped: where it has a summary, those of this, each with its script."""
+def named_in(lines: list[str], word: str) -> list[str]:
+    """The lines of a command that name what it skipped, or what has failed: where it has a summary, those of this, each
+    with its script."""
     if SUMMARY in lines:
-        return [it for it in lines[lines.index(SUMMARY):] if ": skipped " in it]
-    return [it for it in lines if it.startswith("skipped ")]
+        return [it for it in lines[lines.index(SUMMARY):] if f": {word} " in it]
+    return [it for it in lines if it.startswith(f"{word} ")]
 
 
 class Measured(NamedTuple):
@@ -308,6 +324,7 @@ class Summary:
 
     def __init__(self) -> None:
         self.passed, self.failed = 0, 0
+        self.failures: list[str] = []
         self.skipped: list[str] = []
         self.lines: list[str] = []
         self.start = time.monotonic()
@@ -342,8 +359,10 @@ class Summary:
         if not last or (status and not failed):
             failed += 1
         self.add(f"{name}: {last[0] if last else 'no closing line'}, status {status}{cost}", passed, failed)
-        names = [*skipped_of(lines), *["skipped without a name"] * skipped]
+        names = [*named_in(lines, "skipped"), *["skipped without a name"] * skipped]
         self.skipped += [f"{name}: {it}" for it in names[:skipped]]
+        told = [*named_in(lines, "failed"), *([] if last else ["failed at its end: " + "; ".join(lines[-LAST:])])]
+        self.failures += [f"{name}: {it}" for it in told[:failed]]
         return not failed
 
     def add(self, line: str, passed: int, failed: int) -> None:
@@ -351,10 +370,10 @@ class Summary:
         self.passed, self.failed = self.passed + passed, self.failed + failed
 
     def close(self) -> int:
-        """Prints the summary, with all that was skipped, and returns the status of the whole."""
+        """Prints the summary, with all that was skipped or has failed, and returns the status of the whole."""
         own, children = resource.getrusage(resource.RUSAGE_SELF), resource.getrusage(resource.RUSAGE_CHILDREN)
         spent = sum(it.ru_utime + it.ru_stime for it in (own, children))
-        print(SUMMARY, *self.lines, *self.skipped, sep="\n")
+        print(SUMMARY, *self.lines, *self.skipped, *self.failures, sep="\n")
         took, processors = minutes(time.monotonic() - self.start), len(os.sched_getaffinity(0))
         print(f"took {took} on {processors} processors, and {minutes(spent)} of their time")
         print(closing(self.passed, self.failed, len(self.skipped)), flush=True)
