@@ -8,9 +8,9 @@ import time
 from typing import Dict, Iterator, List, NamedTuple, Optional, Tuple
 
 from cmh_linux.limits import Clocks
-from cmh_proc.elf import is_go
 from cmh_proc.process import (MOST_WORDS, bytes_of, environment_of, name_of, parent_of, pids, stat_of, threads_of,
                               user_of)
+from cmh_unwind.elf import is_go
 
 from .captures import answers, way_to_python
 from .files import shown

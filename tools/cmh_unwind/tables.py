@@ -7,7 +7,8 @@ import bisect
 import struct
 from typing import Callable, Dict, List, Optional, Tuple
 
-from .words import Unclear, Words, result_of
+from .cursor import Cursor, Unclear, result_of
+from .elf import Read
 
 FRAME_POINTER, STACK_POINTER, RETURN = 6, 7, 16  # numbers of registers in these tables
 PLAIN_TABLE = b"\x01\x1b\x03\x3b"  # the head of one of the kind that linkers write
@@ -16,7 +17,6 @@ LONGEST_ENTRY, MOST_REGISTERS, DEEPEST = 1 << 16, 256, 32  # what compilers writ
 SIZES = {0: 8, 2: 2, 3: 4, 4: 8, 10: 2, 11: 4, 12: 8}  # of pointers, by the low bits of how they are written
 IS_NEAR, IS_SIGNED = 0x10, 8  # bits of that: a pointer counts from its own place; it may be below
 Registers = Dict[int, Optional[int]]
-Read = Callable[[int, int], bytes]
 Frame = Tuple[int, int, bytes]  # a register and how far off, or what is to be computed
 
 
@@ -110,20 +110,21 @@ class Entry:
         letters, _, rest = common[1:].partition(b"\0")
         if common[:1] not in (b"\x01", b"\x03") or letters[:1] not in (b"z", b""):
             raise Unclear
-        words = Words(rest)
+        words = Cursor(rest)
         self.unit, self.step, self.at_return = words.number(), words.signed(), words.number()
         self.kind, self.is_signal = 0, b"S" in letters
         if letters:
-            more = Words(words.take(words.number()))
+            more = Cursor(words.take(words.number()))
             self.read_kinds(letters[1:], more)
         self.common = rest[words.place:]
-        self.words = Words(read(place + 8, size - 4))
-        self.start = self.pointer(self.words, place + 8)
-        self.length = self.words.fixed(SIZES[self.kind & 7])
+        words = Cursor(read(place + 8, size - 4))
+        self.start = self.pointer(words, place + 8)
+        self.length = words.fixed(SIZES[self.kind & 7])
         if letters:
-            self.words.take(self.words.number())
+            words.take(words.number())
+        self.own = words.data[words.place:]
 
-    def read_kinds(self, letters: bytes, words: Words) -> None:
+    def read_kinds(self, letters: bytes, words: Cursor) -> None:
         """Reads how pointers are written."""
         for letter in letters:
             if letter == ord("R"):
@@ -135,7 +136,7 @@ class Entry:
             elif letter not in b"SB":
                 raise Unclear
 
-    def pointer(self, words: Words, place: int) -> int:
+    def pointer(self, words: Cursor, place: int) -> int:
         if self.kind & 15 not in SIZES or self.kind & 0x70 != IS_NEAR:
             raise Unclear
         return place + words.fixed(SIZES[self.kind & 15], bool(self.kind & IS_SIGNED))
@@ -144,16 +145,16 @@ class Entry:
         """Returns what the entry says of a place of its function."""
         if not self.start <= place < self.start + self.length or self.at_return != RETURN:
             raise Unclear
-        first = State(self, place, Rule(self.start))
-        first.run(Words(self.common))
-        state = State(self, place, first.rule)
+        first = Interpreter(self, place, Rule(self.start))
+        first.run(Cursor(self.common))
+        state = Interpreter(self, place, first.rule)
         state.first = dict(first.rule.saved)
-        state.run(self.words)
+        state.run(Cursor(self.own))
         state.rule.is_signal = self.is_signal
         return state.rule
 
 
-class State:
+class Interpreter:
     """Follows what the tables say of a function, up to a place of it."""
 
     def __init__(self, entry: Entry, last: int, rule: Rule) -> None:
@@ -161,7 +162,7 @@ class State:
         self.first: Dict[int, int] = {}
         self.kept: List[Tuple[Frame, Dict[int, int], bool]] = []
 
-    def run(self, words: Words) -> None:
+    def run(self, words: Cursor) -> None:
         while words.place < len(words.data) and self.place <= self.last:
             code = words.byte()
             kind, low = code & 0xC0, code & 0x3F
@@ -186,7 +187,7 @@ class State:
         self.rule.saved.pop(register, None)
         self.rule.saved.update({number: place for number, place in self.first.items() if number == register})
 
-    def set_frame(self, code: int, words: Words) -> None:
+    def set_frame(self, code: int, words: Cursor) -> None:
         """Sets where the frame is: a register and how far off, or one of both, or what is to be computed."""
         register, offset, _ = self.rule.frame
         if code == 0x0F:
@@ -197,7 +198,7 @@ class State:
             offset = self.entry.step * words.signed() if code in (0x12, 0x13) else words.number()
         self.rule.frame = register, offset, b""
 
-    def note(self, code: int, words: Words) -> None:
+    def note(self, code: int, words: Cursor) -> None:
         """Notes one thing that the tables say of registers."""
         rule = self.rule
         if code == 0x05:

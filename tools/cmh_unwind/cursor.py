@@ -1,4 +1,4 @@
-"""Numbers as the tables have them by which stacks are unwound, one behind the other, and what these have computed."""
+"""Numbers and expressions of DWARF, one behind the other, as the tables have them by which stacks are unwound."""
 from __future__ import annotations
 
 import sys
@@ -12,8 +12,8 @@ class Unclear(Exception):
     """A stack isn't as the tables say, or the thread has gone on."""
 
 
-class Words:
-    """Numbers as these tables have them, one behind the other."""
+class Cursor:
+    """Reads numbers, one behind the other."""
 
     def __init__(self, data: bytes) -> None:
         self.data, self.place = data, 0
@@ -51,7 +51,7 @@ def result_of(text: bytes, registers: Dict[int, Optional[int]], word: Callable[[
     """Returns what an expression of the tables comes to. Raises Unclear for what compilers don't write there."""
     if len(text) > LONGEST:
         raise Unclear
-    words = Words(text)
+    words = Cursor(text)
     stack: List[int] = [] if first is None else [first]
     while words.place < len(text):
         code = words.byte()
