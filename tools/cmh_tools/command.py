@@ -10,7 +10,7 @@ import traceback
 from typing import Any, Callable, Dict, List, NoReturn, Optional, Sequence, Tuple
 
 from . import VERSION
-from .dump import Dump
+from .dump import Dump, is_marked, without_mark
 from .files import FULL, Failure, Refusal, read_text, say, shown, write_out
 from .memory import bound_memory
 from .sketch import BARE, OLDER, Sketch, read_json
@@ -97,7 +97,9 @@ def read_any(path: str, read: Read = read_text) -> Sketch:
     if not is_dump(tree):
         return sketch_of(tree, path)
     notes = notes_path(path)
-    return dump_of_notes(text, path, notes)[0].sketch if os.path.exists(notes) else sketch_of_dump(tree, path, False)
+    if os.path.exists(notes):
+        return dump_of_notes(text, path, notes)[0].sketch
+    return sketch_of_dump(tree, path, not is_marked(tree))
 
 
 def dump_of_notes(text: str, path: str, notes: str, read: Read = read_text) -> Tuple[Dump, Any]:
@@ -109,7 +111,7 @@ def dump_of_notes(text: str, path: str, notes: str, read: Read = read_text) -> T
     dump = Dump(sketch_of(noted.pop("sketch"), notes, OLDER), known)
     shown_dump = dump.likely if noted.get("guesses") is True else dump  # (as version 1.1.0 wrote it where it guessed)
     low = shown_dump.low
-    if text != shown_dump.text(low) and read_json(text, path) != shown_dump.tree(low):
+    if text != shown_dump.text(low) and without_mark(read_json(text, path)) != without_mark(shown_dump.tree(low)):
         raise Refusal(f"{shown(path)}: it isn't the dump of {shown(notes)}: one of them was changed. Make both "
                       "again with cmh-dump, or move the notes away")
     return dump, noted

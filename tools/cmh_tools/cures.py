@@ -78,8 +78,7 @@ class Cures:
         pids = {pid_of(self.answer.waits.processes[index]) for index in self.members.get(unit, ())} - {""}
         if self.system in ALONE and pids:
             return f"{name} (PID {pids.pop()})"
-        is_by_hand = not self.system and " " not in unit
-        return f"node {name}" if self.system == "erlang" else f"site {name}" if is_by_hand else name
+        return f"node {name}" if self.system == "erlang" else name
 
     def is_of_machine(self, unit: str, pid: str) -> bool:
         """Whether a unit is a process of the machine with this number."""

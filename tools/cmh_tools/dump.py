@@ -20,6 +20,7 @@ from .stuck import Answer, Waits
 
 NAME = re.compile(rf"[A-Za-z0-9][A-Za-z0-9_.:/-]{{0,{LONGEST - 1}}}")
 NO_SITE = "no-site"
+MARK = "made-by-cmh-dump"  # a site of each dump that these tools make, mostly one without processes
 HUB, STUCK, RUNNING = "list", "stuck-elsewhere", "runs-elsewhere"
 
 
@@ -40,6 +41,29 @@ def program_names(names: List[str]) -> Dict[str, str]:
         named[name] = new
         taken.add(new)
     return named
+
+
+def mark_sites(rows: List[Dict[str, Any]]) -> List[str]:
+    """Returns the sites of the rows of a dump, and the mark. Where there is no room for one more, the last one is called
+    so."""
+    sites = {row["site"] for row in rows}
+    if MARK not in sites and len(sites) >= ENTRIES:
+        last = max(sites)
+        sites.remove(last)
+        for row in rows:
+            row["site"] = MARK if row["site"] == last else row["site"]
+    return sorted({*sites, MARK})
+
+
+def is_marked(tree: Any) -> bool:
+    """Whether a dump, or its tree, says that these tools have made it."""
+    sites = tree.get("sites") if isinstance(tree, dict) else None
+    return isinstance(sites, list) and MARK in sites
+
+
+def without_mark(tree: Any) -> Any:
+    """Returns the tree of a dump as versions up to 1.2.0 made it."""
+    return {**tree, "sites": [site for site in tree["sites"] if site != MARK]} if is_marked(tree) else tree
 
 
 class LikelyAnswer(NamedTuple):
@@ -127,7 +151,7 @@ class Dump:
     def tree(self, answer: Answer, part: int = 0) -> Dict[str, Any]:
         """Returns the dump of a part with the picks of an answer, which is `low` or `high`, as a tree of JSON."""
         rows, pairs = self.rows(answer, part), self.pairs(answer, part)
-        return {"version": 2 if pairs else 1, "sites": sorted({row["site"] for row in rows}), "processes": rows,
+        return {"version": 2 if pairs else 1, "sites": mark_sites(rows), "processes": rows,
                 **({"in_transit": pairs} if pairs else {})}
 
     def text(self, answer: Answer, part: int = 0) -> str:

@@ -5,16 +5,17 @@ import os
 from typing import Any, Optional, Sequence, Tuple
 
 from .command import Parser, Read, dump_of_notes, is_dump, is_notes, notes_path, run, sketch_of_dump
-from .dump import Dump
+from .dump import Dump, is_marked
 from .explain import Explanation
 from .files import Failure, Refusal, hindrance, read_bytes, read_text, say, shown, text_of_bytes, write_out
 from .screen import screen
 from .program import compare, confirm, deadlocked_names, identity
-from .sketch import near_name, quote, read_json
+from .sketch import BARE, near_name, quote, read_json
 from .terminal import show, style_of_output
 
-ASK_NOTES = "the dump has no notes, so its active processes may be unknown ones: put NAME.notes.json of cmh-dump " \
-    "beside NAME.json, or say --without-notes of a dump that was written by hand"
+ASK_NOTES = "cmh-dump made this dump, and its notes are gone: its active processes may be unknown ones. Put " \
+    "NAME.notes.json beside NAME.json, or say --without-notes if all of them run"
+BY_HAND = "the dump has no notes: its active processes are taken as running"
 ABOUT = """Says in words what is known of a dump, from the notes that cmh-dump wrote beside it. The program cmh has to
 confirm it on two dumps, with all unknown ones active and with all idle, and what is likely on two more."""
 MORE = """status: 0 no process is stuck, 3 some process is stuck, 5 LIKELY DEADLOCK, IDLE OR STALLED or NOT KNOWN,
@@ -40,17 +41,17 @@ def parser() -> Parser:
     add("--color", choices=("auto", "always", "never"), default="auto", metavar="WHEN",
         help="always, never, or auto: on a terminal, unless NO_COLOR is set (auto)")
     add("--pager", action="store_true", help="show a long answer on a terminal through $PAGER (less)")
-    add("--without-notes", action="store_true", help="the dump was written by hand: who is active runs")
+    add("--without-notes", action="store_true", help="of a dump whose notes are gone: who is active runs")
     made.add_version()
     return made
 
 
-def load(path: str, is_by_hand: bool) -> Tuple[Dump, Optional[str]]:
+def load(path: str, has_no_notes: bool) -> Tuple[Dump, Optional[str]]:
     """Returns the dump that a file has, once the program has confirmed both its answers, and the SHA-256 of the program
     that its notes name."""
     data, notes = read_bytes(path), notes_path(path)
-    if is_by_hand or path == "-" or not os.path.exists(notes):
-        return load_bare(data, path, is_by_hand), None
+    if has_no_notes or path == "-" or not os.path.exists(notes):
+        return load_bare(data, path, has_no_notes), None
     return load_noted(data, path, notes)
 
 
@@ -75,21 +76,22 @@ def compare_programs(noted: Any) -> Optional[str]:
     return named
 
 
-def load_bare(data: bytes, path: str, is_by_hand: bool) -> Dump:
-    """Returns the dump of a file without notes."""
+def load_bare(data: bytes, path: str, is_said: bool) -> Dump:
+    """Returns the dump of a file without notes: what stands in it is what is so, if that is said or these tools haven't
+    made it."""
     refuse_other(data, path)
     try:
         deadlocked = deadlocked_names(data)
     except Refusal as fault:
         from .check import describe_fault
         raise Refusal(describe_fault(path, str(fault), data)) from None
-    dump = Dump(sketch_of_dump(read_json(data.decode(), path), path, is_by_hand))
+    tree = read_json(data.decode(), path)
+    is_by_hand = is_said or not is_marked(tree)
+    dump = Dump(sketch_of_dump(tree, path, is_by_hand))
     compare(dump, dump.low, deadlocked, "low")
-    if is_by_hand:
-        compare(dump, dump.high, deadlocked, "high")
-    else:
-        compare(dump, dump.high, deadlocked_names(dump.text(dump.high).encode()), "high")
-        dump.sketch.warnings.append(ASK_NOTES)
+    of_high = deadlocked if is_by_hand else deadlocked_names(dump.text(dump.high).encode())
+    compare(dump, dump.high, of_high, "high")
+    dump.sketch.warnings += [] if is_said else [BY_HAND if is_by_hand else ASK_NOTES]
     return dump
 
 
@@ -149,6 +151,8 @@ def main(words: Sequence[str]) -> int:
     elif not asked.quiet:
         text = explanation.text() if asked.all else screen(explanation)
         show(text if index is None else explanation.why(index), asked.pager)
+        if dump.sketch.system in ("", BARE) and dump.sketch.warnings and not asked.all:
+            say("\n".join(dump.sketch.warnings))
     return status
 
 
