@@ -15,6 +15,7 @@ from .sketch import ENDED, Process
 WITH_NUMBER = re.compile(r"(?P<name>.+)-(?P<pid>\d+)")
 JVM = re.compile(r"JVM (?P<pid>\d+)")
 PID = re.compile(r" \(PID (\d+)\)")  # as a unit is called
+BY_NUMBER = re.compile(r"\bpid\W{0,2}\d+", re.I)  # in a site by hand that is no machine, but a process of one
 MOST = 64  # members of a root that are looked at
 WIDE = 72  # characters of a word that has no room in a line
 STEPS = 60_000  # looks at roots in which fewer units are looked for
@@ -96,7 +97,7 @@ class Cures:
             return WHOLE[self.system]
         if self.system == "erlang" and process.site and "/" in process.name:
             return f"{process.name.split('/')[0]}@{process.site}"
-        if self.system in ALONE:
+        if self.system in ALONE or not self.system and not BY_NUMBER.search(process.site or ""):
             pid = pid_of(process)
             return self.by_pid.setdefault(pid, process.name) if pid else process.name
         return self.top_of(process.site or "")

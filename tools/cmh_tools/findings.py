@@ -24,7 +24,7 @@ RUNNING, MESSAGE, COME = "runs", "message_in_transit", "all_have_come"  # why on
 # Systems of which nothing less can be restarted.
 WHOLE = {"mpi": "the MPI job"}
 # Systems whose processes can be restarted by themselves: a site is a machine, which others may share.
-ALONE = {"", BARE, "rabbitmq"}
+ALONE = {BARE, "rabbitmq"}
 
 
 END_OF_WHAT = re.compile(r"; | at | in |: | \[|, which | \(descriptor")

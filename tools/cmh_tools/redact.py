@@ -9,7 +9,7 @@ import re
 from dataclasses import replace
 from typing import Any, Dict, Iterator, List, Sequence, Tuple
 
-from .dump import NO_SITE, RUNNING, STUCK, Dump
+from .dump import MARK, NO_SITE, RUNNING, STUCK, Dump
 from .making import known_premises
 from .model import HOWS, Anybody, Sign, Strength, Wakers, Who, once
 from .sketch import BARE, BY_HAND, DONE, FACT, NEEDED, OLDER, PREMISE, REST, SYSTEM, WORK, FactRow, Process, Sketch
@@ -64,7 +64,7 @@ OPERATIONS = {
         asyncio.wait_for threading.wait threading.shutdown futures.wait""",
     "rabbitmq": "consume handle reply publish take",
 }
-WORDS = {"", HIDDEN, BARE, BY_HAND, DONE, NEEDED, OLDER, REST, SYSTEM, NO_SITE, STUCK, RUNNING, "idle", "active",
+WORDS = {"", HIDDEN, BARE, BY_HAND, DONE, NEEDED, OLDER, REST, SYSTEM, MARK, NO_SITE, STUCK, RUNNING, "idle", "active",
          *HOWS, *(sign.value for sign in Sign), *(strength.value for strength in Strength), *RUNS,
          ENDED, "chan send", "chan receive", "IO wait", "MPI_Sendrecv sends",
          "MPI_Sendrecv receives", "traced by", "no call",
