@@ -44,8 +44,7 @@ def program_names(names: List[str]) -> Dict[str, str]:
 
 
 def mark_sites(rows: List[Dict[str, Any]]) -> List[str]:
-    """Returns the sites of the rows of a dump, and the mark. Where there is no room for one more, the last one is called
-    so."""
+    """Returns the sites of the rows of a dump, and the mark. Without room for one more the last one is called so."""
     sites = {row["site"] for row in rows}
     if MARK not in sites and len(sites) >= ENTRIES:
         last = max(sites)
