@@ -17,7 +17,7 @@ import sys
 import tempfile
 import time
 import unittest
-from concurrent.futures import ThreadPoolExecutor
+from concurrent.futures import ThreadPoolExecutor, as_completed
 from typing import Any, Iterable, Iterator, NamedTuple, NoReturn, Sequence
 
 TOP = os.path.dirname(os.path.dirname(os.path.realpath(__file__)))
@@ -35,6 +35,8 @@ OWN_FAULT = re.compile(rb"this is a fault of cmh")
 TRACEBACK = re.compile(rb"^Traceback \(most recent call last\):", re.M)
 TOOL = re.compile(r"\b(?:cmh-(?:dump|explain|stall)|cmh_[a-z]+|take-[a-z]+)\b")
 MEANT: list[bool] = []  # has something while a test has the tools show a fault
+# What `go build` and others keep lies in one's home, and without its name they refuse.
+os.environ.setdefault("HOME", os.path.expanduser("~"))
 
 
 # Tests
@@ -342,11 +344,13 @@ class Summary:
     def run_side_by_side(self, commands: Sequence[tuple[str, Sequence[str]]], waiting: Iterable[str],
                          **how: Any) -> None:
         """Runs commands, each a name and its words, as many at a time as there are processors, and beside them as many
-        of those whose names are given as ones that mostly wait. Passes on what each has printed, in their order."""
+        of those whose names are given as ones that mostly wait. Passes on what each has printed, once it ends."""
         number, apart = len(os.sched_getaffinity(0)), {*waiting}
         with ThreadPoolExecutor(number) as pool, ThreadPoolExecutor(number) as beside:
-            running = [(beside if name in apart else pool).submit(measured, words, **how) for name, words in commands]
-            for (name, _), done in zip(commands, (it.result() for it in running)):
+            running = {(beside if name in apart else pool).submit(measured, words, **how): name
+                       for name, words in commands}
+            for ended in as_completed(running):
+                name, done = running[ended], ended.result()
                 print(f"== {name}\n{done.out}", end="", flush=True)
                 self.judge(name, done.out, done.status, f", {done.cost()}")
 
