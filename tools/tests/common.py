@@ -5,17 +5,19 @@ import contextlib
 import io
 import json
 import os
+import re
 import shlex
 import shutil
 import signal
 import sys
+import time
 from typing import Any, Callable, NamedTuple, Optional, Sequence
 from unittest import mock
 
 sys.dont_write_bytecode = True
 TOOLS = os.path.dirname(os.path.dirname(os.path.realpath(__file__)))
 sys.path[:0] = [f"{os.path.dirname(TOOLS)}/tests", TOOLS]
-from harness import PROGRAM, Case, Ran, check_faults, run, write  # noqa: E402
+from harness import PROGRAM, SECONDS, Case, Ran, check_faults, read, run, write  # noqa: E402
 
 os.environ["CMH"] = PROGRAM
 from cmh_tools import dump_command, explain_command  # noqa: E402
@@ -27,6 +29,7 @@ from plain import plain_edges, plain_roots  # noqa: E402
 
 DUMP, EXPLAIN = ([sys.executable, f"{TOOLS}/{name}"] for name in ("cmh-dump", "cmh-explain"))
 WORDS = {"waits_for_any": "any", "waits_for_all": "all"}  # how expected ones are written
+RESTING = 20  # looks, 0.05 s apart, in each of which one that rests has done nothing
 ALONE = ["unshare", "--user", "--map-root-user", "--pid", "--mount-proc", "--fork", "--kill-child"]
 
 
@@ -69,6 +72,40 @@ def truth_of(text):
 def without_heap(text):
     """Returns the text of a JVM's threads alone."""
     return "".join(line for line in text.splitlines(True) if not line.startswith("# cmh "))
+
+
+def await_that(holds: Callable[[], object]) -> None:
+    """Waits until something holds, however long that takes on a busy machine."""
+    last = time.monotonic() + SECONDS
+    while not holds():
+        if time.monotonic() > last:
+            raise AssertionError(f"it doesn't hold after {SECONDS} s")
+        time.sleep(0.05)
+
+
+def await_rest(pid: int, threads: int = 1) -> None:
+    """Waits until a process has so many threads, and none has run for a while: each has come to the place where it
+    waits for long."""
+    looks: list[tuple[str, ...]] = []
+
+    def rests() -> bool:
+        marks = marks_of(pid)
+        looks[:] = [*looks[-RESTING + 1:], marks]
+        return len(marks) >= threads and "" not in marks and looks == [marks] * RESTING
+
+    await_that(rests)
+
+
+def marks_of(pid: int) -> tuple[str, ...]:
+    """Returns how often each thread of a process has stopped, or nothing for one that isn't asleep."""
+    marks = []
+    for tid in os.listdir(f"/proc/{pid}/task"):
+        text = ""
+        with contextlib.suppress(OSError):  # (a thread may have ended)
+            text = read(f"/proc/{pid}/task/{tid}/status")
+        counts = re.findall(r"_ctxt_switches:\t(\d+)", text)
+        marks.append(" ".join([tid, *counts]) if "(sleeping)" in text else "")
+    return tuple(marks)
 
 
 def call(command: Callable[[Sequence[str]], int], words: Sequence[str]) -> Ran:
