@@ -18,21 +18,17 @@ import sys
 from collections import Counter
 from typing import Dict, Iterable, Iterator, List, Sequence, Tuple, Union
 
-from cmh_linux.calls import EPOLLS, WRITES
-from cmh_linux.proc import Row, int32, try_slurp
+from cmh_linux.proc import Row, try_slurp
 from cmh_linux.processes import CARRIES, RING, Machine
 from cmh_linux.readers import read_all
 from cmh_linux.reading import inode_of
 from cmh_linux.sockets import Sockets, address, plain, tcp_of
 from cmh_proc import process
+from cmh_proc.calls import MACHINES, READ, SETS, WRITES, has_limit
 from cmh_proc.process import pids
 
 Files = Dict[int, List[int]]  # the processes that have a socket, by its number
-POINTERS = {"ppoll": 2, "select": 4, "pselect6": 4, "epoll_pwait2": 3, "futex": 3, "rt_sigtimedwait": 2}
-NUMBERS = {"poll": 2, **dict.fromkeys(EPOLLS[:2], 3)}  # which argument is a limit in milliseconds, -1 for none
-SLEEPS = ("nanosleep", "clock_nanosleep")
 ITSELF = "itself"
-READING = ("read", "readv", "recvfrom", "recvmsg", "poll", "ppoll", "select", "pselect6")
 # Handlers of what a process does itself, of what threads send each other within glibc, and of signals that end it.
 HARMLESS = (1, 2, 3, 4, 5, 6, 7, 8, 11, 13, 15, 16, 24, 25, 31, 32, 33)
 
@@ -68,13 +64,6 @@ def files_of(numbers: Iterable[int]) -> Files:
         for number in {inode_of(it) for it in process.files_of(pid).values()}.intersection(found):
             found[number].append(pid)
     return found
-
-
-def has_limit(call: str, args: Sequence[int]) -> bool:
-    """Whether a wait ends by itself."""
-    if call in NUMBERS:
-        return int32(args[NUMBERS[call]]) >= 0
-    return call in SLEEPS or call in POINTERS and args[POINTERS[call]] != 0
 
 
 class Process:
@@ -136,7 +125,7 @@ class Process:
 
 def waits_there(thread: Row, row: Row, connections: Dict[int, str]) -> bool:
     """Whether a thread waits to read from one connection, and for nothing else."""
-    if thread["state"] != "S" or thread["pending"] or thread.get("call") not in READING:
+    if thread["state"] != "S" or thread["pending"] or thread.get("call") not in (*READ, *SETS):
         return False
     files = [(inode_of(row["fds"].get(str(fd), [""])[0]), events) for fd, events in thread.get("set") or ()]
     is_limited = has_limit(thread["call"], [int(it, 16) for it in thread["args"]])
@@ -181,7 +170,7 @@ def connections_of(process: Process, numbers: List[int], connections: Dict[int, 
 def main() -> int:
     rows = json.load(sys.stdin)
     rows = rows["value"]["ends"] if isinstance(rows, dict) else rows
-    rows = rows if platform.machine() in ("x86_64", "aarch64") else []  # (whose calls are known)
+    rows = rows if platform.machine() in MACHINES else []  # (whose calls are known)
     print(json.dumps([*clients(rows)]).replace("}, {\"connection", "}\n,{\"connection"))
     return 0
 

@@ -24,6 +24,7 @@ import time
 from typing import Any, Dict, Iterator, List, Optional, Sequence, Set, Tuple
 
 from cmh_proc.budget import BUDGET
+from cmh_proc.calls import BY_CLOCK, FUTEX_WAITS, PRIVATE, SLEEPS, calls_of, has_limit
 from cmh_proc.door import at, head, kernel_bytes, open_kernel, plain
 from cmh_proc.process import (bytes_of, environment_of, files_in_memory, files_of, inner_number, link_of, name_of,
                               parent_of, pids, stat_of, status_of, text_of, threads_of, user_of)
@@ -45,18 +46,6 @@ RECORDS_AT = HEAD.size + COMMS * COMM.size
 KNOWN_AT = RECORDS_AT + THREADS * RECORD_SIZE
 RANKS_AT = KNOWN_AT + PLACES * OPERATION.size
 RECEIVE, SEND, OTHER, ALL_OF, ANY_OF, POLL, KEPT = 1, 2, 8, 9, 10, 11, 16
-# The calls of the kernel that may have a limit, by their numbers: at which argument, and whether that is a number, of
-# which -1 is none, or an address. A sleep has one anyway.
-LIMITS: Dict[str, Dict[int, Tuple[int, bool]]] = {
-    "x86_64": {7: (2, True), 23: (4, False), 202: (3, False), 232: (3, True), 270: (4, False), 271: (2, False),
-               281: (3, True)},
-    "aarch64": {22: (3, True), 72: (4, False), 73: (2, False), 98: (3, False)},
-}
-SLEEPS = {"x86_64": (35, 230), "aarch64": (101, 115)}
-# A wait without a limit at a futex: the number of the call, and what its operation is then, of one that no other
-# process sees, or may see, as that of a join: its value is the number of the joined thread.
-FUTEX, WAITS = {"x86_64": 202, "aarch64": 98}, {0x80: "private", 0x89: "private", 0: "shared", 9: "shared"}
-CLOCK_REALTIME = 0x100  # of an operation
 ALARMS = sum(1 << number - 1 for number in (14, 26, 27, 29))  # SIGALRM, SIGVTALRM, SIGPROF, SIGIO
 TRIES = 50  # to read a record that is being written
 MOST_RANKS = 1 << 22  # of all communicators of a rank together
@@ -289,16 +278,14 @@ def switches_of(folder: str) -> int:
 
 def name_of_call(number: int, words: Sequence[int]) -> str:
     """Returns "sleep" or "limit" of a call of the kernel that ends by itself, "private" of a wait that threads of the
-    process alone end, "shared" with its value of another one at a futex, and its number of any other call."""
-    machine = platform.machine()
-    kind = WAITS.get(words[1] & ~CLOCK_REALTIME) if number == FUTEX.get(machine) and not words[3] else None
-    if kind:
-        return kind if kind == "private" else f"{kind} {words[2] & 0xffffffff}"
-    if number in SLEEPS.get(machine, ()):
-        return "sleep"
-    place, is_number = LIMITS.get(machine, {}).get(number, (0, False))
-    has_limit = words[place] & 1 << 31 == 0 if is_number else words[place] != 0
-    return "limit" if place and has_limit else str(number)
+    process alone end, "shared" with its value of another one at a futex, which other processes may see, as that of a
+    join, whose value is the number of the joined thread; and its number of any other call."""
+    call = calls_of(platform.machine()).get(number, "")
+    if has_limit(call, words):
+        return "sleep" if call in SLEEPS else "limit"
+    if call == "futex" and words[1] & ~(PRIVATE | BY_CLOCK) in FUTEX_WAITS:
+        return "private" if words[1] & PRIVATE else f"shared {words[2] & 0xffffffff}"
+    return str(number)
 
 
 # Places in the source

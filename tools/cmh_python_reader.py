@@ -6,7 +6,7 @@
 `py-spy dump --nonblocking` reads the memory of a process, and stops nothing. gdb stops it while it reads it, and needs
 the symbols of that very Python, and its script for gdb (Debian: python3-dbg). The kernel's counts of each thread, which
 show that it was at one wait, are read after the first stack and before the second, and its call before each. It needs
-Python 3.8, and cmh_linux beside it. The state has names of functions, files and threads: look at it before you mail
+Python 3.8, and cmh_proc beside it. The state has names of functions, files and threads: look at it before you mail
 it.
 """
 from __future__ import annotations
@@ -21,8 +21,8 @@ import sys
 import time
 from typing import Any, Dict, List, Sequence, Tuple, Type, Union
 
-from cmh_linux.calls import calls_of
 from cmh_proc.budget import BUDGET
+from cmh_proc.calls import calls_of
 from cmh_proc.process import link_of, stat_of, text_of, threads_of
 from cmh_proc.programs import Limits, Session, heed_signals, run
 

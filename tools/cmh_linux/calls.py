@@ -1,5 +1,4 @@
-"""The calls of the kernel that may wait: their numbers, the descriptors that they wait at, and what else of them stands
-in memory."""
+"""What a call of the kernel waits at: its descriptors, and what else of it stands in memory."""
 from __future__ import annotations
 
 import ctypes
@@ -10,61 +9,31 @@ import struct
 import sys
 from typing import Counter, Dict, List, Optional
 
+from cmh_proc.calls import (AT_FIRST, EPOLLS, EVENTS, IPC, ONESHOT, OPENS, PAIRS, QUEUES, READS, SETS, WRITE, WRITES,
+                            int32)
 from cmh_proc.door import field, kernel_row, kernel_text
 from cmh_proc.memory import Memory
 
-from .proc import KCMP_EPOLL, LIBC, MOST_TEXT, Row, int32, kcmp, pid_of, sysvipc_row, try_lines
+from .proc import KCMP_EPOLL, LIBC, MOST_TEXT, Row, kcmp, pid_of, sysvipc_row, try_lines
 from .sockets import in_words, key_of_connect
 
-# The numbers of the calls that may wait, by architecture.
-X86_64 = """read 0 write 1 open 2 poll 7 pread64 17 pwrite64 18 readv 19 writev 20 select 23 pause 34 nanosleep 35
-    sendfile 40 connect 42 accept 43 sendto 44 recvfrom 45 sendmsg 46 recvmsg 47 clone 56 fork 57 vfork 58 exit 60
-    wait4 61 semop 65 msgsnd 69 msgrcv 70 fcntl 72 flock 73 fsync 74 fdatasync 75 ptrace 101 rt_sigtimedwait 128
-    rt_sigsuspend 130 futex 202 io_getevents 208 restart_syscall 219 semtimedop 220 clock_nanosleep 230 exit_group 231
-    epoll_wait 232 mq_timedsend 242 mq_timedreceive 243 waitid 247 openat 257 pselect6 270 ppoll 271 splice 275 tee 276
-    vmsplice 278 epoll_pwait 281 accept4 288 preadv 295 pwritev 296 recvmmsg 299 sendmmsg 307"""
-AARCH64 = """io_getevents 4 epoll_pwait 22 fcntl 25 flock 32 openat 56 read 63 write 64 readv 65 writev 66 pread64 67
-    pwrite64 68 preadv 69 pwritev 70 sendfile 71 pselect6 72 ppoll 73 vmsplice 75 splice 76 tee 77 fsync 82 fdatasync 83
-    exit 93 exit_group 94 waitid 95 futex 98 nanosleep 101 clock_nanosleep 115 ptrace 117 restart_syscall 128
-    rt_sigsuspend 133 rt_sigtimedwait 137 mq_timedsend 182 mq_timedreceive 183 msgrcv 188 msgsnd 189 semtimedop 192
-    semop 193 accept 202 connect 203 sendto 206 recvfrom 207 sendmsg 211 recvmsg 212 clone 220 accept4 242 recvmmsg 243
-    wait4 260 sendmmsg 269"""
-SHARED = " io_uring_enter 426 clone3 435 openat2 437 epoll_pwait2 441 futex_waitv 449"
-READS, WRITES = 1, 4  # POLLIN and POLLOUT
-ONESHOT = 1 << 30  # of epoll: a file that is seen once
-IPC = {"semop": "sem", "semtimedop": "sem", "msgsnd": "msg", "msgrcv": "msg"}  # of System V
 GETPID = 11
 ENTRY_SIZE = 120  # bytes that a descriptor of a set takes here
 MOST_SEMAPHORES = 1 << 16
 NOT_EMPTY = re.compile(rb"[^\0]")
 LONGEST_NAME = 110  # bytes of the address of a Unix socket
-AT_FIRST = ("read", "write", "pread64", "pwrite64", "readv", "writev", "preadv", "pwritev", "recvfrom", "recvmsg",
-            "recvmmsg", "sendto", "sendmsg", "sendmmsg", "vmsplice", "accept", "accept4", "connect", "flock", "fcntl",
-            "mq_timedsend", "mq_timedreceive")
-QUEUES = ("mq_timedsend", "mq_timedreceive")
-PAIRS = {"sendfile": (1, 0), "splice": (0, 2), "tee": (0, 1)}  # which arguments are descriptors: from, to
-EPOLLS = ("epoll_wait", "epoll_pwait", "epoll_pwait2")
-SLEEPS = ("nanosleep", "clock_nanosleep")
-
-
-def calls_of(machine: str) -> Dict[int, str]:
-    """Returns the names of the calls by their numbers."""
-    words = ((X86_64 if machine == "x86_64" else AARCH64) + SHARED).split()
-    return {int(number): name for name, number in zip(words[::2], words[1::2])}
 
 
 def set_of(call: str, args: List[int], memory: Memory) -> Optional[List[List[int]]]:
     """Returns each descriptor of a call with the events that it waits for, or None if its set can't be read."""
-    if call in ("poll", "ppoll"):
-        return polled(args, memory)
-    if call in ("select", "pselect6"):
-        return selected(args, memory)
+    if call in SETS:
+        return polled(args, memory) if call.endswith("poll") else selected(args, memory)
     if call in EPOLLS:
         return epolled(int32(args[0]), memory)
     if call in PAIRS:
         source, target = PAIRS[call]
         return [[int32(args[source]), READS], [int32(args[target]), WRITES]]
-    way = WRITES if call.startswith(("write", "pwrite", "send", "mq_timedsend")) else READS
+    way = WRITES if call in (*WRITE, QUEUES[0]) else READS
     return [[int32(args[0]), way]] if call in AT_FIRST else None
 
 
@@ -112,7 +81,7 @@ def epolled(fd: int, memory: Memory) -> Optional[List[List[int]]]:
     for target, events, number in rows:  # (one stands there twice if it is of two files)
         slot = (ctypes.c_uint32 * 3)(fd, int(target), times[target])
         is_other = kcmp(pid, pid, KCMP_EPOLL, int(target), ctypes.byref(slot)) > 0
-        files.append([int(target), int(events, 16) & (0xFFFF | ONESHOT), -1 if is_other else int(number or "0", 16)])
+        files.append([int(target), int(events, 16) & (EVENTS | ONESHOT), -1 if is_other else int(number or "0", 16)])
         times[target] += 1
     return files
 
@@ -126,13 +95,13 @@ def besides(call: str, args: List[int], memory: Memory) -> Row:
         data = memory.read(args[2], 24)
         return {"range": list(struct.unpack("=hhxxxxqq", data))} if len(data) == 24 else {}
     if call in IPC:
-        return ipc_of(IPC[call], int32(args[0]), memory)
+        return ipc_of(call[:3], int32(args[0]), memory)
     if call == "rt_sigtimedwait":
         data = memory.read(args[0], 8)
         return {"mask": f"{int.from_bytes(data, sys.byteorder):x}"} if len(data) == 8 else {}
     if call in ("sendmsg", "sendmmsg"):
         return {"addressed": call == "sendmmsg" or memory.read(args[1], 8) != bytes(8)}
-    if call in ("open", "openat", "openat2"):
+    if call in OPENS:
         return {"path": memory.text(args[0] if call == "open" else args[1])}
     if call == "connect":
         data = memory.read(args[1], min(args[2], LONGEST_NAME))

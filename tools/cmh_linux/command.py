@@ -13,6 +13,7 @@ import traceback
 from typing import Iterable, List, Sequence, Set
 
 from cmh_proc.budget import BUDGET, UNTIL, Budget
+from cmh_proc.calls import MACHINES
 from cmh_proc.door import link
 
 from .debugger import debugger, stacks_of
@@ -31,7 +32,7 @@ SECONDS_OF_ONE, LEAST = 60.0, 1 << 25  # seconds of one look at all processes, a
 def collect(pids: Sequence[int], seconds: float = 5.0, stacks: bool = False, looks: int = 2) -> str:
     """Returns the state of some processes as a text, with so many readings some seconds apart. Raises LookupError if
     one isn't there, OSError if /proc isn't."""
-    if platform.machine() not in ("x86_64", "aarch64"):
+    if platform.machine() not in MACHINES:
         raise OSError(f"the numbers of calls aren't known on {platform.machine()}")
     if stacks and not debugger():
         raise LookupError("for --stacks eu-stack or gdb is needed, and neither is there (Debian: apt-get install "

@@ -9,18 +9,13 @@ import struct
 import time
 from typing import Dict, Iterable, List, Optional, Tuple
 
+from cmh_proc.calls import (BY_CLOCK, FUTEX_LOCKS, FUTEX_WAITS, IN_MILLISECONDS, LIMITS, OPERATION, QUEUES, calls_of,
+                            int32)
 from cmh_proc.door import field, names
 from cmh_proc.memory import Memory
 
-from .calls import QUEUES, calls_of
-from .proc import Row, int32, try_slurp
+from .proc import Row, try_slurp
 
-IN_MILLISECONDS = {"poll": 2, "epoll_wait": 3, "epoll_pwait": 3}  # calls with their limit's argument, as a number
-AS_TIMES = {"ppoll": 2, "pselect6": 4, "select": 4, "epoll_pwait2": 3, "rt_sigtimedwait": 2, "semtimedop": 3,
-            "io_getevents": 4, "nanosleep": 0, "clock_nanosleep": 2, "futex": 3, "mq_timedsend": 4,
-            "mq_timedreceive": 4}  # and those where a time stands in memory
-OPERATION, BY_CLOCK = 127, 256  # of a futex: what it does, and that its limit is by the clock
-WAIT, LOCK = 0, 6  # of these a limit is how long, or a time of the clock; of others when it ends
 IS_A_TIME = 1  # TIMER_ABSTIME
 FAR = 3600.0  # seconds
 MOST_THREADS = 1 << 20
@@ -36,9 +31,9 @@ def limit_of(call: str, args: List[int], memory: Memory) -> Row:
 
 def limits_of(call: str, args: List[int], memory: Memory) -> Tuple[Optional[float], Optional[float]]:
     if call in IN_MILLISECONDS:
-        number = int32(args[IN_MILLISECONDS[call]])
+        number = int32(args[LIMITS[call]])
         return (number / 1000, None) if number >= 0 else (None, None)
-    place = args[AS_TIMES[call]] if call in AS_TIMES else 0
+    place = args[LIMITS[call]] if call in LIMITS else 0
     data = memory.read(place, 16) if place else b""
     if len(data) < 16:
         return None, None
@@ -73,9 +68,9 @@ def clock_of(call: str, args: List[int]) -> Optional[int]:
         return int32(args[0]) if args[1] & IS_A_TIME else None
     if call in QUEUES:
         return time.CLOCK_REALTIME
-    if call != "futex" or args[1] & OPERATION == WAIT:
+    if call != "futex" or args[1] & OPERATION == FUTEX_WAITS[0]:
         return None
-    is_real = args[1] & BY_CLOCK or args[1] & OPERATION == LOCK
+    is_real = args[1] & BY_CLOCK or args[1] & OPERATION == FUTEX_LOCKS[0]
     return time.CLOCK_REALTIME if is_real else time.CLOCK_MONOTONIC
 
 

@@ -8,6 +8,7 @@ from typing import Dict, Iterator, List, Optional, Tuple
 
 from cmh_proc import door
 from cmh_proc.budget import OF_ONE, Budget
+from cmh_proc.calls import PRIVATE
 
 from .proc import DELETED, KCMP_VM, Row, kcmp, sysvipc_row, try_text
 
@@ -16,7 +17,6 @@ MAPPING = re.compile(r"^([0-9a-f]+)-([0-9a-f]+) ...([ps]) [0-9a-f]+ ([0-9a-f]+:[
 NAMELESS = re.compile(r"/(dev/zero|memfd:.*) \(deleted\)")  # memory that never had a name
 SEGMENT = re.compile(r"/SYSV[0-9a-f]{8} \(deleted\)")  # memory of System V
 DESTROYED = 0o1000  # SHM_DEST: a segment that goes with the last one who has it
-PRIVATE = 128  # the flag of a futex of one process alone
 MOST_OF_ONE, SECONDS_OF_ONE = 1 << 27, 5.0  # of what is read of the memory of one process, and isn't kept
 MAPPING_SIZE = 600  # bytes that a row takes here
 

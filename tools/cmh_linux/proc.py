@@ -64,10 +64,6 @@ def sysvipc_row(kind: str, number: int, folder: str, budget: Budget) -> Optional
     return row[0].split() if row else None
 
 
-def int32(value: int) -> int:
-    return ctypes.c_int32(value & 0xFFFFFFFF).value
-
-
 def pid_of(folder: str) -> int:
     number = folder.rpartition("/")[2]
     return os.getpid() if number == "self" else int(number)

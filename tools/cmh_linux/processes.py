@@ -12,10 +12,11 @@ from typing import Dict, Iterator, List, Optional, Tuple
 
 from cmh_proc import door
 from cmh_proc.budget import BUDGET, OF_ONE, Budget, Refused
+from cmh_proc.calls import LOCKS, QUEUES, calls_of
 from cmh_proc.door import field, kernel_row, kernel_text
 from cmh_proc.memory import Memory
 
-from .calls import QUEUES, besides, calls_of, set_of
+from .calls import besides, set_of
 from .limits import limit_of
 from .memory import mappings, names_of_memory
 from .proc import KCMP_FILE, KCMP_FILES, MOST_TEXT, Row, kcmp, lines_of, pid_of, try_lines, try_link, try_slurp
@@ -134,7 +135,7 @@ class Machine:
     def add_locks(self, rows: List[Row]) -> None:
         """Adds the locks of each file at whose lock a thread waits, or that is locked while another process has it open
         and may poll for that, to all that have it open."""
-        for them in [*self.waited(rows, ("flock", "fcntl"), "file"), *self.locked()]:
+        for them in [*self.waited(rows, LOCKS, "file"), *self.locked()]:
             for descriptor in them:
                 self.add_locks_of(descriptor)
             name_open_files(them)

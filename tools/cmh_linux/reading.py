@@ -7,19 +7,18 @@ import time
 from typing import Dict, Iterable, Iterator, List, Sequence, Set
 
 from cmh_proc.budget import BUDGET, Budget
+from cmh_proc.calls import EPOLLS, OWNER, PRIVATE, SLEEPS, int32
 from cmh_proc.door import names
 from cmh_proc.programs import below
 
-from .calls import EPOLLS, SLEEPS
-from .memory import PRIVATE, add_kin
-from .proc import Row, int32
+from .memory import add_kin
+from .proc import Row
 from .processes import CARRIES, NO_KEYS, RING, Machine, name_open_files
 from .readers import read_all
 from .sockets import Sockets
 
 MOST_PROCESSES = 1 << 22
 NO_KEY = 0  # what has no key in System V
-TID = 0x3FFFFFFF  # the bits of an owner in the word of a futex
 
 
 class Reading:
@@ -179,7 +178,7 @@ def owner_of(thread: Row) -> int:
     if thread.get("call") != "futex" or int(thread["args"][1], 16) & PRIVATE or len(words) < 12:
         return 0
     word, owner = (int.from_bytes(words[start:start + 4], sys.byteorder) for start in (0, 8))
-    return owner if word == 2 else word & TID if word >> 31 else 0
+    return owner if word == 2 else word & OWNER if word >> 31 else 0
 
 
 def may_carry(words: Sequence[str]) -> bool:

@@ -3,17 +3,17 @@ from __future__ import annotations
 
 from typing import List, Optional, Sequence, Tuple
 
+from cmh_proc.calls import EPOLLS, int32
+
 from ...model import Part, Sign, Strength, any_of, unseen, wakers
 from ...sketch import LIMIT
 from .text import Machine, Owner, Thread
-from .waits import AT_FILES, EPOLLS, FILES, UNTIMED, Ease, Wait, against, has_limit, int32, \
-    not_shown, not_understood, only_sleeps, users_of, with_end
+from .waits import AT_FILES, FILES, UNTIMED, Ease, Wait, against, not_shown, not_understood, only_sleeps, \
+    users_of, with_end
 
 GROUP, SHELL, KEYLESS = "group", "shell", "keyless"  # assumptions
 OWN_CHILDREN = 0x20000000  # __WNOTHREAD: those of the thread alone
 SIGINT, SIGCHLD = 2, 17
-FORKS = ("clone", "clone3", "fork", "vfork")
-IPC = ("semop", "semtimedop", "msgsnd", "msgrcv")  # of System V
 SHELLS = ("ash", "bash", "busybox", "dash", "ksh", "ksh93", "mksh", "sh", "zsh")
 BOURNE = ("ash", "bash", "dash", "sh")  # which wait for all of a foreground pipeline
 CLOCK_IS_OFF = 200  # hundredths of a second
@@ -262,7 +262,7 @@ def timed_parents(machine: Machine, owner: Owner) -> List[Thread]:
     call that isn't understood. After that they may end it, as the module subprocess of Python does."""
     parent = machine.by_pid.get(owner.parent)
     timed = [thread for thread in parent.living if thread.events and thread.arguments
-             and (has_limit(thread) or thread.call not in AT_FILES)] if parent else []
+             and (thread.has_limit or thread.call not in AT_FILES)] if parent else []
     pipes = {words[0] for words in owner.files.values() if words[0].startswith("pipe:[")} if timed else set()
     return [thread for thread in timed
             if any(thread.owner.files.get(str(fd), [""])[0] in pipes for fd, *_ in thread.events)]

@@ -5,10 +5,11 @@ from __future__ import annotations
 
 from typing import Dict, Iterator, List, Set, Tuple
 
+from cmh_proc.calls import EPOLLS, READ, SETS, int32
+
 from .files import AT_LISTENER
 from .frames import OWN_THREADS
 from .text import Machine, Owner, Row, Thread
-from .waits import EPOLLS, READ, SETS, int32
 
 Connections = Dict[str, Dict[str, List[str]]]
 # Programs whose states say who is at the other end.

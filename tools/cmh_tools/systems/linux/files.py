@@ -4,22 +4,23 @@ from __future__ import annotations
 import re
 from typing import List, Sequence
 
+from cmh_proc.calls import EPOLLS, EVENTS, MOVES, ONESHOT, READS, SETS, WRITES, int32
+
 from ...model import Part, Sign, Wakers, any_of, unseen, wakers
 from ...sketch import LIMIT
 from .children import FOR_SIGNAL, wait_for_end, wait_for_signals
 from .frames import is_of_system
 from ..base import FAR, duration
 from .limits import far_limit, timer_comes_in
-from .text import EPOLL, MASTER, READS, SIGMASK, TERMINAL, WRITES, Machine, Owner, Row, Thread
-from .waits import COMES, EPOLLS, FILES, MOVES, SETS, UNTIMED, Ease, Wait, against, int32, names_of_epoll, \
-    not_shown, not_understood, users_of, with_end, with_sleeper
+from .text import EPOLL, MASTER, SIGMASK, TERMINAL, Machine, Owner, Row, Thread
+from .waits import (COMES, FILES, UNTIMED, Ease, Wait, against, names_of_epoll, not_shown, not_understood, users_of,
+                    with_end, with_sleeper)
 
 INOTIFY = "anon_inode:inotify"
 TERMINALS = ("/dev/tty", TERMINAL, MASTER, "/dev/console")
 UNARMED, AT_LISTENER = "it_value: (0, 0)", "LISTEN"
 LOOPS = re.compile(r".*/lib(event|ev|uv|glib-2)\b[^/]*")  # libraries with a loop for events
 POLLS = re.compile("uv__io_poll|uv_run|ev_run|event_base_loop")  # the same where it is a part of the program
-ONESHOT, EVENTS = 1 << 30, 0xFFFF  # of epoll: a file that is seen once, and what it is seen for
 
 
 def wait_at(machine: Machine, thread: Thread, fd: int, events: int) -> Wait:

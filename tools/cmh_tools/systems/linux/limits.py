@@ -6,10 +6,11 @@ from __future__ import annotations
 import re
 from typing import Optional, Tuple
 
+from cmh_proc.calls import SLEEPS
+
 from ...model import Part, wakers
 from ..base import FAR, duration
 from .text import Machine, Thread
-from .waits import SLEEPS, has_limit
 
 LEAST = 10.0  # so far off may the clocks of processors be by which it is known when a thread ran last
 COMES_IN = re.compile(r"it_value: \((\d+), (\d+)\)")  # of a timer of a descriptor
@@ -30,7 +31,7 @@ def waited_of(thread: Thread) -> Optional[float]:
 
 def is_far(thread: Thread) -> bool:
     """Whether the limit of a wait ends in more than an hour."""
-    return has_limit(thread) and (limit_of(thread)[1] or 0.0) > FAR
+    return thread.has_limit and (limit_of(thread)[1] or 0.0) > FAR
 
 
 def far_limit(machine: Machine, thread: Thread, seconds: float) -> Part:

@@ -5,12 +5,13 @@ import re
 from dataclasses import dataclass
 from typing import Dict, Iterator, List, Optional, Tuple
 
+from cmh_proc.calls import SETLKW, int32
+
 from ...model import Part, any_of, unseen
 from .text import OPEN, Machine, Owner, Thread, some_names
-from .waits import FILES, Wait, against, int32, not_understood, users_of, with_end, with_sleeper
+from .waits import FILES, Wait, against, not_understood, users_of, with_end, with_sleeper
 
 NUMBER = re.compile(r"[0-9]{1,19}")
-SETLKW = (7, 38)  # F_SETLKW and F_OFD_SETLKW
 LOCK_OF = "lock of"
 
 

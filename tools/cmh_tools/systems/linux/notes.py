@@ -3,13 +3,14 @@ from __future__ import annotations
 
 from typing import List
 
+from cmh_proc.calls import CHILDREN, FORKS, SUSPENDS
+
 from ..base import one_line
-from .children import FORKS
 from .frames import call_of, has_names, own_frames, word_of
 from .limits import age_of
 from .locks import LOCK_OF
 from .text import Thread, some_names
-from .waits import SUSPENDS, Wait, has_limit
+from .waits import Wait
 
 WIDTH = 100  # as much of a command line stands in a note
 
@@ -26,7 +27,7 @@ def whole_note(thread: Thread, wait: Wait) -> str:
     command = one_line(str(thread.owner.row.get("command", "")), WIDTH)
     is_told = thread.is_first and " " in command
     told = f" [{command}]" if is_told else f" [thread {thread.tid}]" if thread.called else ""
-    age = "" if has_limit(thread) else age_of(thread)
+    age = "" if thread.has_limit else age_of(thread)
     return ", ".join(filter(None, [" in ".join([note_of(thread, wait), *places]), age])) + told
 
 
@@ -35,7 +36,7 @@ def note_of(thread: Thread, wait: Wait) -> str:
     place = f"{wait.operation or call_of(thread)} {word_of(thread) if is_word(thread, wait) else wait.what}".strip()
     others = [owner for owner in wait.others if owner is not thread.owner]
     names, verb = some_names(others), "has" if len(others) == 1 else "have"
-    if thread.call in ("wait4", "waitid"):
+    if thread.call in CHILDREN:
         return f"{wait.what or 'a child'}'s end{': ' + names if others else ''}"
     if thread.call in (*SUSPENDS, *FORKS):
         return f"{place}: {names}" if others else place

@@ -10,6 +10,9 @@ import os
 import re
 from typing import Any, Dict, Iterable, List, Optional, Set, Tuple, Union
 
+from cmh_proc.calls import (ACCEPTS, CHILDREN, EPOLLS, FORKS, IN_MILLISECONDS, IPC, LIMITS, MOVES, OPENS, QUEUES, READ,
+                            READS, SETLKW, SETS, SLEEPS, SUSPENDS, WRITE, WRITES, int32)
+
 from ...files import Refusal, shown
 from ...model import Part, Sign, any_of, unseen, wakers
 from ...sketch import (DONE, LIMIT, SYSTEM, UNREADABLE, Process, Sketch, blocked, garbled, goes_on, lists_of_wakers,
@@ -17,22 +20,20 @@ from ...sketch import (DONE, LIMIT, SYSTEM, UNREADABLE, Process, Sketch, blocked
 from ...snapshots import APART, Reading
 from .. import State
 from ..base import Break, Parser, Snapshot
-from .children import (FOR_SIGNAL, FORKS, IPC, SHELL, SIGCHLD, SIGINT, is_shell, timed_parents,
-                       wait_at_ipc, wait_for_any_signal, wait_for_children, wait_for_fork, wait_for_signals,
-                       wait_to_connect)
+from .children import (FOR_SIGNAL, SHELL, SIGCHLD, SIGINT, is_shell, timed_parents, wait_at_ipc, wait_for_any_signal,
+                       wait_for_children, wait_for_fork, wait_for_signals, wait_to_connect)
 from .connections import connections_of
 from .files import self_connections, wait_at, wait_at_set
 from .frames import OWN_THREADS, has_names, is_known, nameless_programs, own_frames, sleeps_in_own_loop
 from .limits import far_limit, is_far, limit_of, words_of
-from .locks import SETLKW, locks_besides, wait_for_lock
+from .locks import locks_besides, wait_for_lock
 from .notes import frames_of, whole_note
 from .stacks import BARRIER, add_stacks, hint, lend_calls, meeting_of, wait_at_futex
 from .text import ENDED as GONE
-from .text import READS, WRITES, Machine, Owner, Row, Thread, call_owners, call_threads, keep_calls, \
+from .text import Machine, Owner, Row, Thread, call_owners, call_threads, keep_calls, \
     readings_of, rows_of, some_names, unread_in
 from .unread import Branches, unread_name, unread_one
-from .waits import (ACCEPTS, EPOLLS, LIMITS, MOVES, NUMBERS, QUEUES, READ, SETS, SLEEPS, SUSPENDS, WRITE, Ease,
-                    Wait, against, has_limit, int32, is_in_call, not_shown, not_understood, with_end)
+from .waits import Ease, Wait, against, is_in_call, not_shown, not_understood, with_end
 
 NO_FACT = ", and no fact on its place decides that"
 WITH_HELPERS = ("erlang",)  # of these, those whose folder has other programs that the runtime begins
@@ -213,7 +214,7 @@ class LinuxParser(Parser):
         wait for what is left of some seconds. Nor does where one that only sleeps keeps that time."""
         if thread.call in SLEEPS:
             more["objects"] = [thread.call]
-        elif thread.call in NUMBERS and has_limit(thread):
+        elif thread.call in IN_MILLISECONDS and thread.has_limit:
             words, place = thread.row["args"], LIMITS[thread.call]
             more["objects"] = [" ".join([thread.call, *words[:place], *words[place + 1:]])]
         if thread.call == "futex":
@@ -224,7 +225,7 @@ class LinuxParser(Parser):
         more["note"] += f"; {locks}" if locks else ""
         is_one_wait = len(thread.counts) == 2 and thread.counts[0] == thread.counts[1]
         is_timed = wait.sign in (Sign.SLEEPS, Sign.TICKS)
-        if is_timed and (is_one_wait or has_limit(thread)) and not is_of_runtime(thread):
+        if is_timed and (is_one_wait or thread.has_limit) and not is_of_runtime(thread):
             more["operation"] = f"timed {thread.call}"
             return goes_on(thread.name, wait.why, [premise(LIMIT)], wait.sign, **more)
         if not is_one_wait:
@@ -337,7 +338,7 @@ def polls(thread: Thread, is_awake: bool) -> str:
     system = thread.owner.system
     if system == "mpi" and is_awake:
         return f"it computes, or waits awake{hint(thread)}"
-    if system in OWN_THREADS and not is_awake and thread.arguments and has_limit(thread):
+    if system in OWN_THREADS and not is_awake and thread.arguments and thread.has_limit:
         return f"it waits with a limit, as threads of a runtime do{hint(thread)}"
     return ""
 
@@ -354,7 +355,7 @@ def wait_of(machine: Machine, thread: Thread) -> Wait:
     if is_far(thread):
         wait.parts = [(*part, *far_limit(machine, thread, limit_of(thread)[1] or 0.0)) for part in wait.parts or [()]]
         wait.why = wait.why or words_of(thread)
-    elif has_limit(thread):
+    elif thread.has_limit:
         is_idle = wait.sign is Sign.RESTS or may_tick(thread)
         wait.sign, wait.why = Sign.TICKS if is_idle else Sign.SLEEPS, words_of(thread)
     return wait
@@ -438,7 +439,7 @@ def opens_to_write(thread: Thread) -> bool:
     return thread.call in OPENS[:2] and bool(thread.arguments[OPENS.index(thread.call) + 1] & os.O_ACCMODE)
 
 
-OPENS, AT_FIFO = ("open", "openat", "openat2"), "wait_for_partner"
-WAYS = {**dict.fromkeys((*SETS, *EPOLLS, *MOVES), wait_at_set), **dict.fromkeys(("wait4", "waitid"), wait_for_children),
+AT_FIFO = "wait_for_partner"
+WAYS = {**dict.fromkeys((*SETS, *EPOLLS, *MOVES), wait_at_set), **dict.fromkeys(CHILDREN, wait_for_children),
         "futex": wait_at_futex, "flock": wait_for_lock, **dict.fromkeys(IPC, wait_at_ipc), "connect": wait_to_connect,
         **dict.fromkeys(SUSPENDS, wait_for_any_signal), **dict.fromkeys(FORKS, wait_for_fork)}

@@ -9,11 +9,13 @@ import re
 from functools import lru_cache
 from typing import Dict, Iterable, List, Optional, Tuple
 
+from cmh_proc.calls import FUTEX_LOCKS, FUTEX_WAITS, OPERATION, OWNER, PRIVATE, int32
+
 from ...model import Sign, any_of, unseen, wakers
 from .children import SIGCHLD
 from .frames import KEPT, is_known, library_names, takes_next
 from .text import CONDITION, ENDED, Machine, Owner, Row, Thread
-from .waits import FILES, Wait, against, int32
+from .waits import FILES, Wait, against
 
 STACK = "stack"
 TID = re.compile(r"^(?:TID (\d+):|Thread \d+ \(.*?LWP (\d+)\).*)$")
@@ -28,10 +30,6 @@ BARRIER = "pthread_barrier_wait"
 INSIDE = re.compile(r"(futex|lll_(mutex_)?(lock|wait)|syscall|pthread_rwlock_\w+_full)")
 NAMELESS = re.compile(r"$|\?\?|0x")  # a frame of a library without its names
 HELD = 2  # what glibc's mutex has in its word while it is held and somebody waits; of a robust one that is its owner
-OWNER = 0x3FFFFFFF  # the owner in the word of a robust mutex, or of one of which the kernel itself keeps that
-PRIVATE = 128  # the flag of a futex of one process alone
-WAITS, LOCKS = (0, 9), (6, 13)  # FUTEX_WAIT and FUTEX_WAIT_BITSET, FUTEX_LOCK_PI and FUTEX_LOCK_PI2
-OPERATION = 127  # the operation of a futex without its flags
 JOINS = ("_ZNSt6thread4joinEv", "std::thread::join")
 
 
@@ -103,7 +101,7 @@ def operation_within(thread: Thread) -> str:
     """Returns the call of glibc that a thread is in by where its stack was unwound to, or nothing. In the wait for a
     condition it may be at that's lock."""
     for name in (thread.within, *(WORDS.sub("", name) for name in library_names(thread))):
-        if CONDITION.fullmatch(name) and thread.arguments[1] & OPERATION in WAITS[:1]:
+        if CONDITION.fullmatch(name) and thread.arguments[1] & OPERATION in FUTEX_WAITS[:1]:
             return "pthread_mutex_cond_lock"
         if name in (*JOIN, *JOINS):
             return "pthread_join"
@@ -117,7 +115,7 @@ def wait_at_futex(machine: Machine, thread: Thread) -> Wait:
     wait = owner_of_futex(machine, thread)
     if wait.sign is Sign.UNKNOWN and thread.is_late and not thread.stack and not wait.operation:
         wait.why = "there was no time to read its stack"
-    elif wait.sign is Sign.UNKNOWN and int32(thread.arguments[1]) & OPERATION in (*WAITS, *LOCKS):
+    elif wait.sign is Sign.UNKNOWN and int32(thread.arguments[1]) & OPERATION in (*FUTEX_WAITS, *FUTEX_LOCKS):
         set_wakers(machine, thread, wait)
         is_calm = not wait.operation and not thread.owner.system and takes_next(thread)
         wait.sign = Sign.RESTS if is_calm else Sign.BLOCKED
@@ -156,9 +154,9 @@ def owner_of_futex(machine: Machine, thread: Thread) -> Wait:
     """
     word = f"{thread.arguments[0]:#x}"
     kind, operation = int32(thread.arguments[1]) & OPERATION, operation_of(thread)
-    if kind in LOCKS:
+    if kind in FUTEX_LOCKS:
         return owned(Wait(what=word, operation=operation), with_number(machine, thread, thread.word(0) & OWNER), "owns")
-    if not operation or kind not in WAITS:
+    if not operation or kind not in FUTEX_WAITS:
         more = hint(thread) or ("" if machine.has_stacks or is_known(thread) else "; `--stacks` may show more")
         return Wait(what=word, sign=Sign.UNKNOWN, why=f"the kernel doesn't know who ends it{more}")
     if operation == BARRIER:

@@ -7,6 +7,8 @@ from dataclasses import dataclass, field
 from functools import cached_property
 from typing import AbstractSet, Any, Callable, Dict, Iterable, Iterator, List, NamedTuple, Sequence, Set, Tuple
 
+from cmh_proc.calls import ARGUMENTS, MOST_ARGUMENTS, has_limit
+
 from ...files import Refusal, shown
 from ...sketch import quote
 from ..base import misfits, row_in
@@ -15,7 +17,6 @@ Row = Dict[str, Any]
 MARK = "cmh-linux "
 VERSION = 1
 EXPECTED = "lines of cmh_linux are expected, as `cmh-dump linux --pid PID --save STATE` keeps them"
-READS, WRITES = 1, 4  # the events of poll for what can be read and what can be written
 CARRIES, RING = "scm_fds:", "UserFiles:"  # a socket with descriptors on their way, an io_uring that keeps files
 SIGMASK = "sigmask:"  # which signals a descriptor of them takes
 NO_KEYS = ("lock:", CARRIES, RING, SIGMASK)  # what of a descriptor doesn't tell its file from others
@@ -28,11 +29,6 @@ KEEPS_NONE = re.compile(r"(?!anon_inode:).*|anon_inode:(\[(event(poll|fd)|timerf
 PARSERS = {"python": "python", "java": "jvm", "beam": "erlang", "go": "go", "mpi": "mpi"}  # by how programs are called
 OF_JAVA = "/libjvm.so"
 OPEN = "open "  # how the name of an open file begins, which several descriptors may share
-# How many arguments tell those calls from others that often come back to one place, without a limit that is a number;
-# the other registers have what was left in them.
-ARGUMENTS = {"nanosleep": 2, "poll": 2, "clock_nanosleep": 4, "epoll_wait": 3, "epoll_pwait": 3, "select": 5,
-             "ppoll": 5}
-MOST_ARGUMENTS = 6
 WORD = 4  # how far the two words are apart at which threads wait for a condition of glibc
 CONDITION = re.compile(r"pthread_cond_\w*wait|_ZNSt18condition_variable\d+wait\w+|std::condition_variable::wait")
 ENDED = "ZX"  # the states of those that have ended
@@ -232,6 +228,11 @@ class Thread:
     @property
     def is_first(self) -> bool:
         return self.tid == self.owner.pid
+
+    @property
+    def has_limit(self) -> bool:
+        """Whether the arguments of its call have a limit."""
+        return has_limit(self.call, self.arguments)
 
     @property
     def is_addressed(self) -> bool:

@@ -10,10 +10,11 @@ from __future__ import annotations
 from collections import Counter
 from typing import Dict, Iterator, List, Optional, Set, Tuple
 
+from cmh_proc.calls import EPOLLS, IPC, int32
+
 from ...sketch import UNREADABLE, Process, garbled, unknown
-from .children import IPC, tops_of
+from .children import tops_of
 from .text import ODD_THREADS, Machine, Owner, Thread, keys_of
-from .waits import EPOLLS, int32
 
 BELOW = "below "  # what stands for whatever is used below a process
 

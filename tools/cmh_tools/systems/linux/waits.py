@@ -1,43 +1,29 @@
 """What a wait of a thread is, and who may end it as those do who have a file or who end themselves."""
 from __future__ import annotations
 
-import ctypes
 import re
 from dataclasses import dataclass, field
 from enum import IntEnum
 from typing import Iterable, List
 
+from cmh_proc.calls import ACCEPTS, CHILDREN, EPOLLS, MOVES, READ, SETS, SLEEPS, SUSPENDS, WRITE, int32
+
 from ...model import Part, Sign, any_of, unseen, wakers
 from .text import OPEN, Machine, Owner, Thread
 
 FILES, SLEEPER, UNTIMED = "files", "sleeper", "untimed"  # assumptions
-READ = ("read", "readv", "pread64", "preadv", "recvfrom", "recvmsg", "recvmmsg")
-SEND = ("sendto", "sendmsg", "sendmmsg")
-WRITE = ("write", "writev", "pwrite64", "pwritev", "vmsplice", *SEND)
-ACCEPTS = ("accept", "accept4")
-SETS = ("poll", "ppoll", "select", "pselect6")
-EPOLLS = ("epoll_wait", "epoll_pwait", "epoll_pwait2")
-MOVES = ("sendfile", "splice", "tee")
 AT_FILES = (*READ, *WRITE, *ACCEPTS, *SETS, *EPOLLS, *MOVES)  # calls that wait at files
-SLEEPS = ("nanosleep", "clock_nanosleep")
-SUSPENDS = ("pause", "rt_sigsuspend")
-QUEUES = ("mq_timedsend", "mq_timedreceive")
-LIMITS = {"poll": 2, "ppoll": 2, "select": 4, "pselect6": 4, "epoll_wait": 3, "epoll_pwait": 3, "epoll_pwait2": 3,
-          "futex": 3, "rt_sigtimedwait": 2, "semtimedop": 3, "mq_timedsend": 4, "mq_timedreceive": 4,
-          "io_getevents": 4}  # at which argument a call has its limit (that of recvmmsg ends no wait for the first)
 # The calls that may wait in a function of the kernel, by the names of those of several versions.
 CALLS_IN = ((re.compile(r"futex_\w+|rt_mutex_schedule"), ("futex",)),
             (re.compile(r"(do_|hrtimer_)nanosleep"), SLEEPS),
             (re.compile(r"(do_epoll_wait|ep_poll)\b.*"), EPOLLS),
             (re.compile(r"(poll_schedule_timeout|do_sys_poll|do_select)\b.*"), SETS),
-            (re.compile(r"do_wait"), ("wait4", "waitid")),
+            (re.compile(r"do_wait"), CHILDREN),
             (re.compile(r"(anon_)?pipe_(wait_)?read(able)?|unix_stream_read_generic|__skb_wait_for_more_packets"),
              (*READ, *ACCEPTS, *MOVES)),
             (re.compile(r"(anon_)?pipe_(wait_)?writ(e|able)|sock_alloc_send_pskb"), (*WRITE, *MOVES)),
             (re.compile(r"unix_wait_for_peer"), ("connect", *WRITE, *MOVES)),
             (re.compile(r"inet_csk_accept"), ACCEPTS))
-NUMBERS = ("poll", "epoll_wait", "epoll_pwait")  # whose limit is a number, and none is below 0
-FOREVER = 0x7FFFFFFF  # a limit of 24 days, which programs write for none
 SLEEP, FOLDERS, OF_MANY_NAMES = "sleep", ("/bin", "/usr/bin"), ("busybox", "coreutils")
 COMES = "waits for whoever comes next"  # why one rests
 
@@ -81,21 +67,6 @@ def not_understood(why: str, what: str = "", operation: str = "") -> Wait:
 def not_shown(why: str, what: str, how: str = "unshown", ease: Ease = Ease.NONE) -> Wait:
     """A wait that somebody may end who isn't in the state."""
     return Wait(any_of(unseen(how)), what, why=why, ease=ease)
-
-
-def int32(value: int) -> int:
-    return ctypes.c_int32(value & 0xFFFFFFFF).value
-
-
-def has_limit(thread: Thread) -> bool:
-    """Whether the arguments of a call have a limit."""
-    if thread.call in SLEEPS:
-        return True
-    place = LIMITS.get(thread.call)
-    if place is None:
-        return False
-    value = thread.arguments[place]
-    return 0 <= int32(value) < FOREVER if thread.call in NUMBERS else value != 0
 
 
 def only_sleeps(owner: Owner) -> bool:

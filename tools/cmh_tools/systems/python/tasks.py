@@ -9,6 +9,8 @@ import re
 from dataclasses import replace
 from typing import Any, Callable, Dict, List, Optional, Sequence, Tuple
 
+from cmh_proc.calls import LIMITS, PRIVATE, has_limit
+
 from ...model import Part, Sign, any_of, unseen, wakers
 from .cancel import Cancellers
 from .futures import all_waits, any_waits, by_future, by_futures, wait_of_frame
@@ -24,14 +26,6 @@ EVENTS = "waits for events"  # how a loop is idle
 COMING = {"server": "waits for a client", "signal": "waits for a signal", "timer": "waits for its time",
           "reader": "waits for data", "connection": "waits for data"}
 LIMITED_CALLS = {"asyncio.tasks.sleep", "asyncio.tasks.wait_for"}
-# The calls of the kernel that end by themselves where an argument says so, by its place, and those whose limit is a
-# number, and none is below 0.
-LIMITS = {"poll": 2, "ppoll": 2, "select": 4, "pselect6": 4, "epoll_wait": 3, "epoll_pwait": 3, "epoll_pwait2": 3,
-          "futex": 3, "rt_sigtimedwait": 2, "semtimedop": 3}
-NUMBERS, FOREVER = ("poll", "epoll_wait", "epoll_pwait"), 0x7FFFFFFF
-SLEEPS = ("nanosleep", "clock_nanosleep")
-LIMIT_OF_FUTEX = 3  # which argument that is
-OF_PROCESS = 128  # in what is done at a futex: it is one of this process alone
 # Frames of a thread that runs an event loop, also of one that isn't asyncio's own.
 RUN = re.compile(r"asyncio\.(base_events\.(\w+\.)?(run_forever|run_until_complete|_run_once)|runners\.(\w+\.)?run"
                  r"|events\.(\w+\.)?_run)$")
@@ -99,9 +93,9 @@ class Waits:
         row = standing.row
         if self.computes:
             return None
-        if row.more.get("call") != "futex" or len(row.more.get("args", ())) < LIMIT_OF_FUTEX + 1 or is_limited(row):
+        if row.more.get("call") != "futex" or len(row.more.get("args", ())) <= LIMITS["futex"] or is_limited(row):
             return None
-        if not int(row.more["args"][1], 16) & OF_PROCESS:  # (as a semaphore of multiprocessing is)
+        if not int(row.more["args"][1], 16) & PRIVATE:  # (as a semaphore of multiprocessing is)
             return None
         why = f"{self.tool()} doesn't show who has what it waits for"
         return Wait(Sign.BLOCKED, any_of(*standing.job.same_process(standing.name), unseen("unshown", why)), why)
@@ -259,9 +253,4 @@ def in_kernel(standing: Standing) -> Optional[Wait]:
 
 def is_limited(row: Row) -> bool:
     """Whether the call of the kernel that a thread is in ends by itself."""
-    call, words = row.more.get("call"), row.more.get("args", ())
-    place = LIMITS.get(call) if isinstance(call, str) else None
-    if place is None:
-        return call in SLEEPS
-    limit = int(words[place], 16)
-    return limit & 0xFFFFFFFF < FOREVER if call in NUMBERS else limit != 0
+    return has_limit(str(row.more.get("call")), [int(word, 16) for word in row.more.get("args", ())])
