@@ -15,12 +15,12 @@ from .making import sketch_for
 from .program import identity, judge
 from .proposals import Proposal, legend, propose
 from .sketch import KINDS, UNKNOWN, FactRow, Sketch, reason_of
-from .systems import MODULES
+from .systems import KERNEL, NAMES, described
 
 DID = {HOLDS: "is held by", FREES: "is freed by"}  # what names have to do with a word of a fact, by its kind
-SHOWN, NAMES = 8, 5  # as many unknown ones and lines of facts are shown, and names in one; the notes have all
-USAGE = """cmh-dump SYSTEM STATE.. [--facts FILE] -o DUMP
-       cmh-dump linux --pid PID.. [--seconds S] [--stacks] [--save STATE] [--facts FILE] -o DUMP
+SHOWN, FEW = 8, 5  # as many unknown ones and lines of facts are shown, and names in one; the notes have all
+USAGE = f"""cmh-dump SYSTEM STATE.. [--facts FILE] -o DUMP
+       cmh-dump {KERNEL} --pid PID.. [--seconds S] [--stacks] [--save STATE] [--facts FILE] -o DUMP
        cmh-dump check FILE"""
 ABOUT = """Makes a dump for cmh, and beside it DUMP.notes.json with all that is known of it: cmh-explain reads both.
 A process that isn't understood is unknown, and active in this dump. Nothing is written if something is refused."""
@@ -35,7 +35,6 @@ STALLS.md, in the documents of cmh, leads to the commands that print the state o
 status: 0 the dump is written or accepted, 1 the input is refused, 2 the command line is, 4 out of memory or an I/O
 error"""
 SKETCH = "a sketch, written by hand as JSON"
-LIVE = "linux"  # the system whose processes may be read at once
 BOTH = "two sketches, notes or dumps, one after the other: what has moved runs"
 JOIN = "notes of several systems of one machine, read at one time: what one knows counts where another doesn't"
 CHECK = "a dump: whether cmh accepts it, or where its fault is"
@@ -48,9 +47,9 @@ def parser(words: Sequence[str]) -> Parser:
     systems = made.add_subparsers(title="SYSTEM is one of", metavar="SYSTEM", dest="system", required=True,
                                   prog=made.prog)
     states = {"metavar": "STATE", "nargs": "+", "help": "a file with the state; - is standard input"}
-    for system, printed in MODULES.items():
-        is_live = system == LIVE and LIVE in words
-        more = add_system(systems, system, printed, {**states, "nargs": "*"} if is_live else states)
+    for system in sorted(NAMES):
+        is_live = system == KERNEL in words  # (its processes may be read at once)
+        more = add_system(systems, system, described(system).states, {**states, "nargs": "*"} if is_live else states)
         if is_live:
             more.add_argument("--save", metavar="FILE", help="keep the state that is read, to be given as STATE")
             from cmh_linux import add_options
@@ -114,8 +113,8 @@ def fact_line(row: FactRow, number: int) -> str:
 
 
 def some_names(names: List[str]) -> str:
-    more = f" and {len(names) - NAMES:,} more" if names[NAMES:] else ""
-    return (", ".join(map(short_name, names[:NAMES])) or "nobody") + more
+    more = f" and {len(names) - FEW:,} more" if names[FEW:] else ""
+    return (", ".join(map(short_name, names[:FEW])) or "nobody") + more
 
 
 def check_outputs(parser: Parser, asked: Any) -> None:
@@ -156,7 +155,7 @@ def check_live(parser: Parser, asked: Any) -> None:
     is_live = bool(getattr(asked, "pid", None))
     if is_live == bool(asked.states):
         parser.error("either STATE or --pid PID is needed")
-    if asked.system == LIVE and asked.save and not is_live:
+    if asked.system == KERNEL and asked.save and not is_live:
         parser.error(f"--save keeps what --pid reads; {asked.save}: nothing is read")
 
 

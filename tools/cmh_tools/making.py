@@ -14,7 +14,7 @@ from .nearness import owners_of
 from .sketch import Process, Sketch, has_how
 from .sketch_json import read_sketch
 from .snapshots import both
-from .systems import MODULES, State, parser_of
+from .systems import NAMES, State, parser_of
 
 
 def sketch_for(system: str, paths: Sequence[str], facts: Facts, read: Read = read_text) -> Sketch:
@@ -91,4 +91,4 @@ def record(system: str, states: List[State]) -> Sketch:
 def known_premises() -> List[Tuple[str, str, str]]:
     """Returns the assumptions that a sketch may have: of each a system that uses it, its name, and its sentence."""
     return [(system, name, row.sentence) for name, row in ASSUMPTIONS.items()
-            for system in (MODULES if row.systems == "all" else row.systems.split())]
+            for system in (NAMES if row.systems == "all" else row.systems.split())]

@@ -3,24 +3,19 @@ user, its age and its command line. Who has stood still for longest comes first.
 from __future__ import annotations
 
 import os
-import re
 import time
 from typing import Dict, Iterator, List, NamedTuple, Optional, Tuple
 
 from cmh_linux.limits import Clocks
-from cmh_proc.process import (MOST_WORDS, bytes_of, environment_of, name_of, parent_of, pids, stat_of, threads_of,
-                              user_of)
-from cmh_unwind.elf import is_go
+from cmh_proc.process import MOST_WORDS, bytes_of, name_of, pids, stat_of, threads_of, user_of
 
-from .captures import answers, way_to_python
 from .files import shown
 from .folder import name_of_user
+from .systems import NAMES, taker_of
 
-RANK = re.compile(rb"(?:OMPI_COMM_WORLD|PMIX?|MV2_COMM_WORLD)_RANK|SLURM_PROCID")
 WIDTH = 120  # of a command line
 UNITS = (86400, "days"), (3600, "hours"), (60, "minutes")
 AT_LEAST = 2  # of a unit, or a smaller one is named
-LINUX = "only Linux sees it"
 
 
 class Row(NamedTuple):
@@ -88,35 +83,8 @@ def rows_of(pid: int) -> Iterator[Row]:
         yield Row(f"{what} {pid}", command, inside, pid)
 
 
-def commands_for(pid: int) -> Iterator[Tuple[str, str, str]]:
-    """Yields what a process is, the command for it, and what that sees."""
+def commands_for(pid: int) -> List[Tuple[str, str, str]]:
+    """Returns what a process is, the command for it, and what that sees, by the first system that knows it."""
     name, words = name_of(pid), words_of(pid)
-    if name == "java":
-        yield ("java", f"cmh-stall jvm {pid}, or with --heap, which shows more and stops it for longer",
-               "jvm and linux see inside")
-    elif name == "beam.smp" and any("rabbit" in word for word in words):
-        node = next((full_name(node) for option, node in zip(words, words[1:]) if option in ("-sname", "-name")), "")
-        own = "" if node in ("", full_name("rabbit")) else f" {node}"
-        yield "rabbitmq", f"cmh-stall rabbitmq{own}", "rabbitmq and erlang see inside"
-    elif name == "beam.smp":
-        for option, node in zip(words, words[1:]):
-            if option in ("-sname", "-name"):
-                yield "erlang", f"cmh-stall erlang {full_name(node)}", "erlang sees inside"
-    elif name == "postgres" and name_of(parent_of(pid)) != name:
-        yield "postgres", "cmh-stall postgres", "postgres and linux see inside"
-    elif name in ("mariadbd", "mysqld"):
-        yield name, "cmh-stall mariadb", "mariadb and linux see inside"
-    elif any(map(RANK.fullmatch, environment_of(pid))):
-        yield f"rank of {name}", f"cmh-stall mpi {name}", "mpi and linux see inside"
-    elif name.startswith("python"):
-        sees = answers(str(pid)) or way_to_python([str(pid)])
-        yield "python", f"cmh-stall {'python' if sees else 'linux'} {pid}", \
-            "python and linux see inside" if sees else LINUX
-    elif is_go(f"/proc/{pid}/exe"):
-        yield ("go", f"cmh-stall go HOST:PORT of net/http/pprof, or cmh-stall linux {pid}",
-               "go sees inside if it serves net/http/pprof, and linux")
-
-
-def full_name(node: str) -> str:
-    return node if "@" in node else f"{node}@{os.uname().nodename.partition('.')[0]}"
-
+    made = (list(taker_of(system).commands(pid, name, words)) for system in NAMES)
+    return next(filter(None, made), [])

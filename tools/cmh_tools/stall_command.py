@@ -6,30 +6,26 @@ import contextlib
 import json
 import math
 import os
-import re
 import shlex
-import shutil
 import signal
-import tempfile
+import textwrap
 import time
 from dataclasses import replace
-from typing import Any, Dict, Iterator, List, NamedTuple, Optional, Sequence, Tuple
+from typing import Any, Callable, Dict, Iterator, List, NamedTuple, Optional, Sequence, Tuple
 
 from cmh_proc.budget import BUDGET, size_in_words
 
-from .captures import (HEAP, SYSTEMS, Capture, captures_for, check_needs, fault_of, labels_of, listeners_at, take,
-                       way_to_python, with_sockets, with_stacks, without_debugger)
+from .captures import captures_for, labels_of, take
 from .command import Parser, dump_of_notes, is_notes, known_doubts, notes_path, put_away, run
 from .dump import Dump
 from .dump_command import NO_GUESSES, texts_of
 from .explain import Explanation
 from .explain_command import index_of, load_noted
 from .facts import Facts, read_facts
-from .files import MOST_TOGETHER, Failure, Refusal, decode, failure_of, say, shown, write_out
+from .files import MOST_TOGETHER, Failure, Refusal, decode, say, shown, write_out
 from .folder import Folder, NewFolder
 from .making import sketch_for
 from .memory import bound_memory
-from .model import Sign, Wakers
 from .proposals import Proposal, propose
 from .redact import redacted_texts
 from .rule import STATUSES, Headline
@@ -39,6 +35,9 @@ from .screen import More, screen
 from .sketch import Sketch, quote, read_json
 from .sketch_json import sketch_of
 from .start import SIGNALS
+from .systems import KERNEL, NAMES, described, taker_of
+from .systems.descriptor import Option
+from .systems.taking import Capture, Part, Sight, command_words
 from .terminal import style_of_output
 from .timeout_command import add_options, seconds_of
 from .watch import KEPT, Check, watch
@@ -48,31 +47,25 @@ SECONDS, LONGER = 5.0, 60.0  # from the first look to the last, and where only w
 MOST, MOST_HELD = 120.0, 600.0  # besides, until all is read, and where something is held meanwhile
 LOOKS = 2  # as often it is looked anew, if that may decide what is open
 OPEN = (Headline.NOT_KNOWN, Headline.IDLE)
-# A process in a state of Linux that runs Python.
-PYTHON = re.compile(r'^cmh-linux \{"pid": (\d+),.*"exe": "([^"]*/python3[^"/]*)"', re.M)
-NO_STACKS = '"with_stacks": false'  # in a state of Linux
-# What of a JVM's heap tells who ends waits by these calls.
-HEAP_SHOWS = (({"get", "join"}, "The heap shows who runs the task or computes the future, or in which queue it stands"),
-              ({"lock", "lockInterruptibly"}, "The heap shows who reads under the lock"),
-              ({"acquire", "take", "put", "await"}, "The heap shows who has a reference to what they wait at"))
 MOST_NAMES = 200  # names that stand in a file of facts, for people to choose from
 MOST_PARTS = 64  # systems, or groups of processes, that are joined
 MOST_LOOKS = 64  # states of one
-USAGE = """cmh-stall SYSTEM TARGET.. [--seconds S] [--with SYSTEM TARGET..] [-o FOLDER]
-       cmh-stall linux PID.. --stacks
-       cmh-stall go PID --kill
-       cmh-stall jvm PID --heap --yes
+SYSTEMS = [described(name) for name in sorted(NAMES)]
+OPTIONS = [(system, option) for system in SYSTEMS for option in system.options]
+WAYS = "\n".join(f"       cmh-stall {system.name} {option.usage}" for system, option in OPTIONS if option.usage)
+USAGE = f"""cmh-stall SYSTEM TARGET.. [--seconds S] [--with SYSTEM TARGET..] [-o FOLDER]
+{WAYS}
        cmh-stall FOLDER [--true 1,3] [--all | --why NAME]
        cmh-stall FOLDER --redact
        cmh-stall --service UNIT [--keep N] [--seconds S] [-o FOLDER]
        cmh-stall --timeout TIME [--grace TIME] [--seconds S] [-o FOLDER] -- COMMAND [WORD..]
        cmh-stall"""
-ABOUT = """Takes the state of a system that hangs twice, and says who is stuck. All that it saw is kept in a new folder.
-SYSTEM TARGET is one of: linux PID.., jvm PID, go HOST:PORT, python PID.., erlang NODE.. [MODULE..], mpi PROGRAM,
-rabbitmq [NODE], postgres [CONNINFO [CONSOLE]], mariadb [HOST]. linux with --stacks and jvm with --heap show more, and
-stop more meanwhile. With a FOLDER that it made, it says the answer again, with the facts that you have written there.
-Alone, it says what runs here, and the command for each. With --service it looks at a service of systemd, as a timer may
-do. With --timeout it runs a command, looks at all its processes if that takes longer, and then ends them."""
+NAMED = ", ".join(f"{system.name} {system.target}" for system in SYSTEMS)
+ABOUT = textwrap.fill(f"""Takes the state of a system that hangs twice, and says who is stuck. All that it saw is kept
+in a new folder. SYSTEM TARGET is one of: {NAMED}. Some show more by an option of their own, and stop more meanwhile.
+With a FOLDER that it made, it says the answer again, with the facts that you have written there. Alone, it says what
+runs here, and the command for each. With --service it looks at a service of systemd, as a timer may do. With --timeout
+it runs a command, looks at all its processes if that takes longer, and then ends them.""", 120)
 MORE = """status: 0 no process is stuck, 3 some process is stuck, 5 LIKELY DEADLOCK, IDLE OR STALLED or NOT KNOWN,
 1 the state is refused, 2 the command line is, 4 out of memory, an I/O error, or the state couldn't be taken;
 of --timeout as for timeout(1): 124 it took longer, 125 a fault of cmh-stall, 126 and 127 it can't be run, or else its
@@ -96,14 +89,13 @@ def parser() -> Parser:
     add("--seconds", type=seconds_of,
         help="the time from the first look to the last (5, and 60 more if the answer hangs on who sleeps): beyond 10 "
         "there is a third one halfway")
-    add("--stacks", action="store_true",
-        help="of linux PID: read the stacks of those at a futex too, which holds each for a moment")
-    add("--kill", action="store_true",
-        help="of go PID: end the program by SIGQUIT, for the goroutines that it then writes to its stderr")
-    add("--heap", action="store_true",
-        help="of jvm PID: dump the heap too, for tasks, readers of a lock and joins; says what that stops")
-    add("--yes", action="store_true", help="of --heap: do it")
-    add("--cookie-file", metavar="FILE", help="of erlang: the file with the cookie of the nodes")
+    for system, option in OPTIONS:
+        does = f"of {system.name}: {option.does}"
+        if option.value:
+            add(f"--{option.name}", metavar=option.value, help=does)
+        else:
+            add(f"--{option.name}", action="store_true", help=does)
+    add("--yes", action="store_true", help="of an option that stops much: do it")
     add("--guesses", action="store_true", help=argparse.SUPPRESS)
     add("--true", metavar="NUMBERS", help="of a folder: say that these doubts are none, as 1,3, and answer")
     add("--all", action="store_true", help="show all that is known, in place of the first screen")
@@ -129,20 +121,15 @@ def main(words: Sequence[str]) -> int:
     os.umask(0o077)
     if asked.service:
         return look_at_service(made, asked)
-    if asked.words[0] in SYSTEMS:
-        if asked.kill and (asked.words[0] != "go" or asked.others or len(asked.words) != 2):
-            made.error("--kill is of one Go program alone: go PID --kill")
-        check_heap(made, asked)
-        if asked.stacks and all(named[0] != "linux" for named in [asked.words, *asked.others]):
-            made.error("--stacks is of Linux: linux PID --stacks")
-        parts = [part for named in [asked.words, *asked.others] for part in captures_of(made, named, asked)]
-        parts = without_debugger(with_sockets([with_stacks(part) for part in parts] if asked.stacks else parts))
+    if asked.words[0] in NAMES:
+        parts = captures_of(made, [asked.words, *asked.others], asked)
         if asked.most_seconds is not None and asked.most_seconds <= (asked.seconds or SECONDS):
             made.error("--most-seconds is no more than the time between the looks")
         path = asked.output or f"stall-{parts[0].system}-{time.strftime('%Y%m%d-%H%M%S')}"
         return stall(parts, asked, path, asked.output is not None)[0]
     if asked.others or asked.output or asked.words[1:] or not os.path.lexists(f"{asked.words[0]}/{RECORD}"):
-        made.error(f"{asked.words[0]} is neither one of {', '.join(SYSTEMS)} nor a folder that cmh-stall has made")
+        names = ", ".join(sorted(NAMES))
+        made.error(f"{asked.words[0]} is neither one of {names} nor a folder that cmh-stall has made")
     check_folder_words(made, asked)
     if asked.most_memory:
         BUDGET.give(BUDGET.seconds(), asked.most_memory << 20)
@@ -165,27 +152,36 @@ def check_folder_words(parser: Parser, asked: argparse.Namespace) -> None:
 
 
 def show_what_runs() -> int:
-    write_out("".join(f"{text}\n" for text in [*what_runs(), "anything else: cmh-stall linux PID"]))
+    write_out("".join(f"{text}\n" for text in [*what_runs(), f"anything else: cmh-stall {KERNEL} PID"]))
     return 0
 
 
-def check_heap(parser: Parser, asked: argparse.Namespace) -> None:
-    """Ends the command where a heap is asked of another system, or not yet agreed to."""
-    if asked.heap and asked.words[0] != "jvm":
-        parser.error("--heap is of a JVM: jvm PID --heap")
-    if asked.heap and not asked.yes:
-        parser.error(f"{HEAP}. If that may be, add --yes")
+def value_of(option: Option, asked: argparse.Namespace) -> Any:
+    return getattr(asked, option.name.replace("-", "_"))
 
 
-def captures_of(parser: Parser, words: List[str], asked: argparse.Namespace) -> List[Capture]:
-    """Returns what some words ask to take, or ends the command where they are wrong."""
-    system, *targets = words
-    if system not in SYSTEMS:
-        parser.error(f"{system} is none of {', '.join(SYSTEMS)}")
-    fault = fault_of(system, targets)
-    if fault:
-        parser.error(f"{system}: {fault}")
-    return captures_for(system, targets, asked.kill, asked.heap)
+def captures_of(parser: Parser, named: List[List[str]], asked: argparse.Namespace) -> List[Capture]:
+    """Returns what is asked to be taken, or ends the command where words are wrong."""
+    wishes = [option.name for _, option in OPTIONS if value_of(option, asked)]
+    for name, *_ in named:
+        if name not in NAMES:
+            parser.error(f"{name} is none of {', '.join(sorted(NAMES))}")
+    for system, option in OPTIONS:
+        if option.name in wishes and not option.value:
+            check_option(parser, named, system.name, option)
+    for name, *targets in named:
+        fault = taker_of(name).fault(targets, [*wishes, *["yes"] * asked.yes])
+        if fault:
+            parser.error(f"{name}: {fault}")
+    return captures_for(named, wishes)
+
+
+def check_option(parser: Parser, named: List[List[str]], system: str, option: Option) -> None:
+    """Ends the command where an option is given without its system, or beside what it doesn't go with."""
+    is_of_it = any(words[0] == system for words in named)
+    if not is_of_it or option.is_alone and (named[1:] or len(named[0]) != 2):
+        alone = " alone" if option.is_alone else ""
+        parser.error(f"--{option.name} is of {system}{alone}: {system} {option.usage}")
 
 
 def look_at_service(parser: Parser, asked: argparse.Namespace) -> int:
@@ -195,7 +191,7 @@ def look_at_service(parser: Parser, asked: argparse.Namespace) -> int:
 
     def look(pid: str, path: str, check: Check) -> Tuple[int, str]:
         asked.seconds = asked.seconds or SECONDS
-        return stall(captures_for("linux", [pid], False, False), asked, path, False, check)
+        return stall(captures_for([[KERNEL, pid]], ()), asked, path, False, check)
 
     return watch(asked.service, (asked.output or f"stalls-{asked.service}").rstrip("/"), asked.keep, look)
 
@@ -215,7 +211,7 @@ def stall(parts: List[Capture], asked: argparse.Namespace, path: str, is_exact: 
     seconds = asked.seconds or SECONDS
     limits = give_budget(parts, seconds, asked)
     for part in parts:
-        check_needs(part)
+        taker_of(part.system).check(part)
         last = f". It takes some {seconds:g} s, at most {limits}" if part is parts[-1] else ""
         say(f"{' '.join([part.system, *part.targets])}: {part.warning(seconds)}{last}")
     with new_folder(path, is_exact) as folder:
@@ -254,20 +250,14 @@ def next_look(explanation: Explanation, parts: List[Capture], seconds: float, mo
     connections, or for longer."""
     if not all(part.is_light() for part in parts):
         return None
-    pids = clients_in(parts[0], explanation) if len(parts) == 1 and explanation.headline in OPEN else []
+    pids = taker_of(parts[0].system).ends(parts[0].targets, sight_of(explanation, [parts[0].system])) \
+        if not parts[1:] and explanation.headline in OPEN else []
     if pids:
-        more = Capture("linux", pids, label="linux")
+        more = Capture(KERNEL, pids, label=KERNEL)
         return Look([*parts, more], seconds, "some wait at connections: looking at these too")
     if explanation.is_hidden_by_sleepers() and seconds < LONGER < most:
         return Look(parts, LONGER, f"who sleeps may only come back to its loop: looking for {LONGER:g} s")
     return None
-
-
-def clients_in(part: Capture, explanation: Explanation) -> List[str]:
-    """Returns the processes of a system in which some wait at connections, as Linux knows them."""
-    if part.system in ("jvm", "python") and waits_outside(explanation):
-        return part.targets
-    return listeners_at(part.targets[0])[:1] if part.system == "go" and reads(explanation) else []
 
 
 def keep_states(folder: Folder, parts: List[Capture], seconds: float, asked: argparse.Namespace,
@@ -275,7 +265,11 @@ def keep_states(folder: Folder, parts: List[Capture], seconds: float, asked: arg
     """Takes the states within some seconds, and keeps them once they are checked. Returns what could be taken. Raises
     Failure if that is nothing, or not all where all is needed."""
     faults: List[Failure] = []
-    with home_with(asked.cookie_file) as env:
+    with contextlib.ExitStack() as stack:
+        env: Dict[str, str] = {}
+        for system, option in OPTIONS:
+            if option.value and value_of(option, asked):
+                env.update(stack.enter_context(taker_of(system.name).environment(value_of(option, asked))))
         taken = list(take(parts, seconds, env, faults.append))
     if faults and (needs_all or not taken):
         raise Failure("\n".join(map(str, faults)))
@@ -334,23 +328,6 @@ def say_unkept(folder: Folder) -> None:
         say(f"warning: {folder.fault}: this answer isn't kept; {states}")
 
 
-@contextlib.contextmanager
-def home_with(cookie: Optional[str]) -> Iterator[Dict[str, str]]:
-    """Makes a home in which Erlang finds its cookie, and yields the variable for it: a cookie on a command line is seen
-    by all users. Without one nothing is made."""
-    if not cookie:
-        yield {}
-        return
-    with contextlib.ExitStack() as stack:
-        try:
-            home = stack.enter_context(tempfile.TemporaryDirectory(prefix="cmh-"))
-            shutil.copyfile(cookie, f"{home}/.erlang.cookie")
-            os.chmod(f"{home}/.erlang.cookie", 0o400)
-        except OSError as error:
-            raise failure_of(cookie, error) from error
-        yield {"HOME": home}
-
-
 # From what is kept
 
 
@@ -397,11 +374,11 @@ def facts_path(folder: Folder, label: str = "") -> str:
     return folder.at(f"facts-{label}" if label else "facts")
 
 
-def sketch_of_part(folder: Folder, part: Dict[str, Any], facts: Facts) -> Sketch:
+def sketch_of_part(folder: Folder, part: Part, facts: Facts) -> Sketch:
     return sketch_for(part["system"], list(map(folder.at, part["states"])), facts, folder.read_text)
 
 
-def sketch_of_parts(folder: Folder, parts: List[Dict[str, Any]], facts: Facts) -> Sketch:
+def sketch_of_parts(folder: Folder, parts: List[Part], facts: Facts) -> Sketch:
     """Returns the sketch of all systems of a folder together. The dumps of each are there if they are several."""
     if len(parts) == 1:
         return sketch_of_part(folder, parts[0], facts)
@@ -443,84 +420,33 @@ def keep_dump(folder: Folder, dump: Dump, path: str) -> List[Proposal]:
     return asked
 
 
-def look_of(parts: List[Dict[str, Any]]) -> str:
+def look_of(parts: List[Part]) -> str:
     """Returns the command that takes some systems anew, or nothing where it isn't known whom of them."""
     words = " --with ".join(command_words([part["system"], *part["targets"]]) for part in parts)
     return f"cmh-stall {words}" if any(part["targets"] for part in parts) else ""
 
 
-def more_ways(parts: List[Dict[str, Any]], explanation: Explanation, folder: Folder) -> Iterator[str]:
-    """Yields the commands that would take more of a system than was taken, where that may change the answer."""
+def sight_of(explanation: Explanation, systems: List[str], text_of: Callable[[Part], str] = lambda part: "") -> Sight:
+    """Returns what the systems have to know of an answer to say what would show more."""
     status = explanation.status()
-    is_open = status not in (0, STATUSES[Headline.DEADLOCK])
-    at_futex = is_open and any(process.operation == "futex" for process in explanation.waits.processes)
+    return Sight(status, status not in (0, STATUSES[Headline.DEADLOCK]), systems, explanation.original.waits.processes,
+                 explanation.waits.processes, explanation.dump.sketch.connections, text_of)
+
+
+def more_ways(parts: List[Part], explanation: Explanation, folder: Folder) -> Iterator[str]:
+    """Yields the commands that would take more of a system than was taken, where that may change the answer."""
+    def text_of(part: Part) -> str:
+        return "".join(folder.read_text(folder.at(name)) for name in part["states"])
+
+    sight = sight_of(explanation, [part["system"] for part in parts], text_of)
     for part in parts:
-        system, words = part["system"], command_words(part["targets"])
-        if part["beside"] and status:
-            more = command_words(part["beside"])
-            yield f"What wasn't read: {more}, which {words} has started. All of them: cmh-stall python {words} {more}"
-        if system == "jvm" and part["targets"] and "--heap" not in part["targets"] and is_open:
-            yield f"{heap_words(explanation)}, and stops the JVM for longer: cmh-stall jvm {words} --heap --yes"
-        if system in ("jvm", "python") and len(parts) == 1 and is_open and waits_outside(explanation):
-            yield f"Who is at the other ends of its sockets: cmh-stall {system} {words} --with linux {words}"
-        if system == "go" and len(parts) == 1 and is_open and reads(explanation):
-            for pid in listeners_at(part["targets"][0])[:1]:
-                yield f"Who is at the other ends of its connections: cmh-stall go {words} --with linux {pid}"
-        if system == "mpi" and is_open and any(group.how == "uncounted" for group in wakers_of(explanation)):
-            yield "Partners and tags are shown of a job that was begun with cmh_mpi.so: the page on MPI says how"
-        if system == "linux" and status and all(other["system"] != "python" for other in parts):
-            yield from to_see_python(part, folder)
-        if system == "linux" and part["targets"] and at_futex and lacks_stacks(part, folder):
-            yield ("Stacks show more, and hold each process at a futex for a moment: cmh-stall linux "
-                   f"{words} --stacks")
+        if part["beside"] and sight.status:
+            system, words, more = part["system"], command_words(part["targets"]), command_words(part["beside"])
+            yield f"What wasn't read: {more}, which {words} has started. All of them: cmh-stall {system} {words} {more}"
+        yield from taker_of(part["system"]).more(part, sight)
 
 
-def reads(explanation: Explanation) -> bool:
-    """Whether somebody inside of a program waits at one of its connections."""
-    return any(row.get("reads") for row in explanation.dump.sketch.connections.values())
-
-
-def waits_outside(explanation: Explanation) -> bool:
-    """Whether somebody waits for an answer from outside, which may come from within."""
-    return any(process.sign is Sign.BLOCKED and any(group.how == "outside" for part in process.parts for group in part)
-               for process in explanation.waits.processes)
-
-
-def wakers_of(explanation: Explanation) -> Iterator[Wakers]:
-    """Yields all wakers, those too that are set aside."""
-    for process in explanation.original.waits.processes:
-        yield from (group for part in process.parts for group in part)
-
-
-def heap_words(explanation: Explanation) -> str:
-    """Returns in words what the heap of a JVM would show of those who wait."""
-    calls = {process.operation.rpartition(".")[2] for process in explanation.waits.processes
-             if process.sign in (Sign.BLOCKED, Sign.UNKNOWN)}
-    return next((words for operations, words in HEAP_SHOWS if calls & operations), "The heap shows more")
-
-
-def to_see_python(part: Dict[str, Any], folder: Folder) -> Iterator[str]:
-    """Yields the command to run now where a target is Python, of which Linux alone was read: it brings what sees inside
-    of it without anything being loaded there."""
-    text = "".join(folder.read_text(folder.at(name)) for name in part["states"])
-    for pid, path in dict(PYTHON.findall(text)).items():
-        if pid in part["targets"]:
-            package = "apt-get install gdb python3-dbg" if path.startswith("/usr/bin/") else "pip install py-spy"
-            needed = "" if way_to_python([pid]) else f"{package} && "
-            yield f"To see inside of Python: {needed}cmh-stall python {command_words(part['targets'])}"
-            return
-
-
-def lacks_stacks(part: Dict[str, Any], folder: Folder) -> bool:
-    return any(NO_STACKS in folder.read_text(folder.at(name)) for name in part["states"])
-
-
-def command_words(words: Sequence[str]) -> str:
-    """Returns words that a folder's record has, as people may paste them into a shell."""
-    return " ".join(shlex.quote(shown(word)) for word in words)
-
-
-def next_step(folder: Folder, parts: List[Dict[str, Any]], explanation: Explanation) -> Iterator[str]:
+def next_step(folder: Folder, parts: List[Part], explanation: Explanation) -> Iterator[str]:
     """Yields what to do where something is undecided, and nobody is stuck."""
     if explanation.headline not in OPEN:
         return
@@ -532,12 +458,12 @@ def next_step(folder: Folder, parts: List[Dict[str, Any]], explanation: Explanat
         yield "What is undecided: the state asks for no fact that would decide it."
 
 
-def parts_of(folder: Folder) -> List[Dict[str, Any]]:
+def parts_of(folder: Folder) -> List[Part]:
     """Returns what the record of a folder says of each system that was taken."""
     path = folder.at(RECORD)
     tree = read_json(folder.read_text(path), path)
     try:
-        parts: List[Dict[str, Any]] = [
+        parts: List[Part] = [
             {"system": str(row["system"]), "states": list(map(str, row["states"])),
              **{key: list(map(str, row.get(key, []))) for key in ("targets", "beside")}} for row in tree["parts"]]
     except (TypeError, KeyError, AttributeError) as error:
@@ -554,11 +480,11 @@ def parts_of(folder: Folder) -> List[Dict[str, Any]]:
     return parts
 
 
-def check_part(folder: Folder, part: Dict[str, Any]) -> None:
+def check_part(folder: Folder, part: Part) -> None:
     """Raises Refusal if a record names no system, or what is no file in its folder."""
     path = shown(folder.at(RECORD))
-    if part["system"] not in SYSTEMS:
-        raise Refusal(f"{path}: {quote(part['system'])} is none of {', '.join(SYSTEMS)}")
+    if part["system"] not in NAMES:
+        raise Refusal(f"{path}: {quote(part['system'])} is none of {', '.join(sorted(NAMES))}")
     if not part["states"]:
         raise Refusal(f"{path}: it names no state of {part['system']}")
     if part["states"][MOST_LOOKS:]:

@@ -16,7 +16,7 @@ import time
 from typing import Dict, List, Mapping, NoReturn, Optional, Sequence, Set
 
 from cmh_proc.budget import BUDGET, MOST_SECONDS
-from cmh_proc.process import environment_of, name_of, user_of
+from cmh_proc.process import environment_of
 
 from .descendants import Descendant, adopt_orphans, descendants, row_of
 from .files import cause_of, say, shown
@@ -277,20 +277,13 @@ def what_failed(error: Exception) -> str:
 
 def ways_to_look() -> List[List[str]]:
     """Returns the words by which cmh-stall takes the processes below this one: with all that sees inside of some, and
-    as Linux sees them."""
-    from .captures import answers, has_record
+    as the kernel sees them."""
+    from .systems import KERNEL, NAMES, taker_of
     pids = [process.pid for process in descendants(os.getpid())]
-    linux = ["linux", *(str(pid) for pid in pids if row_of(pid)[0] == os.getpid())]
-    insides = {"python": [pid for pid in pids if answers(str(pid))],
-               "jvm": [pid for pid in pids if is_jvm(pid)][-1:],
-               "mpi": [pid for pid in pids if has_record(str(pid))]}
-    more = [word for system, inside in insides.items() if inside for word in ("--with", system, *map(str, inside))]
-    return [[*linux, *more], linux] if more else [linux]
-
-
-def is_jvm(pid: int) -> bool:
-    """Whether a process is a JVM that jstack, which is there, may ask."""
-    return name_of(pid) == "java" and shutil.which("jstack") is not None and user_of(pid) == os.geteuid()
+    kernel = [KERNEL, *(str(pid) for pid in pids if row_of(pid)[0] == os.getpid())]
+    insides = {name: taker_of(name).those_to_ask(pids) for name in NAMES}
+    more = [word for name, inside in insides.items() if inside for word in ("--with", name, *map(str, inside))]
+    return [[*kernel, *more], kernel] if more else [kernel]
 
 
 def new_path(command: str) -> str:

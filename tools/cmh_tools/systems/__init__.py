@@ -1,30 +1,39 @@
-"""The parsers: each turns the raw state that a system's own tools print into processes, with who may end the wait of
-each, and how.
+"""The systems: a folder for each has all that is about it, and its row of NAMES makes it known.
 
-`base` says what a parser is. What it doesn't understand is unknown, with a reason, and never goes on; a row, key, flag
-or value that is missing, doubled or strange makes what it could have said unknown. What people should see goes to
-`warnings` of the sketch. A text that it can't read is refused: Refusal, with the path, the line, and what was expected
-there. No text may make it raise anything else, and it takes time linear in the length of the texts. It knows nothing of
-facts, and decides nothing: the core does, for all systems alike.
+`__init__` describes it (`SYSTEM`, of `descriptor`), `take` says how it is taken, and `parser` turns the raw state that
+its own tools print into processes, with who may end the wait of each, and how. `base` says what a parser is. What that
+doesn't understand is unknown, with a reason, and never goes on; a row, key, flag or value that is missing, doubled or
+strange makes what it could have said unknown. What people should see goes to `warnings` of the sketch. A text that it
+can't read is refused: Refusal, with the path, the line, and what was expected there. No text may make it raise anything
+else, and it takes time linear in the length of the texts. It knows nothing of facts, and decides nothing: the core
+does, for all systems alike.
 """
 from __future__ import annotations
 
 import importlib
 from dataclasses import dataclass
-from typing import Any
+from functools import lru_cache
+from typing import TYPE_CHECKING, Any
 
-# Each SYSTEM, with a line for --help. The folder of its name has its parser, which is loaded only when it is needed.
-MODULES = {
-    "erlang": "what cmh_state_reader prints, twice",
-    "go": "texts of pprof's goroutine?debug=2, seconds apart, or of SIGQUIT",
-    "jvm": "two texts of `jstack -l PID`, seconds apart (or of `jcmd PID Thread.dump_to_file`)",
-    "linux": "what cmh_linux reads of processes, twice: --pid PID, or a state of it",
-    "mariadb": "what take-mariadb prints of a server, two looks in one",
-    "mpi": "what cmh_mpi_reader.py prints of the ranks, or what gdb does, twice",
-    "postgres": "what take-postgres prints of a server, two looks in one",
-    "python": "what cmh_state prints on a signal, twice, or py-spy, gdb, faulthandler",
-    "rabbitmq": "what rabbitmqctl prints, twice",
-}
+from .descriptor import Descriptor
+
+if TYPE_CHECKING:
+    from .taking import Taker
+
+# Each SYSTEM. A process that several know is of the one that stands first.
+NAMES = (
+    "rabbitmq",
+    "erlang",
+    "jvm",
+    "postgres",
+    "mariadb",
+    "mpi",
+    "python",
+    "go",
+    "linux",
+)
+KERNEL = NAMES[-1]  # the one that knows any process, and stops none
+NO_SYSTEM = Descriptor()  # of a sketch by hand, or of several systems
 
 
 @dataclass
@@ -35,6 +44,22 @@ class State:
     text: str
 
 
-def parser_of(system: str) -> Any:
-    """Returns a new parser of a system, which stands in MODULES."""
-    return getattr(importlib.import_module(f".{system}.parser", __name__), f"{system.capitalize()}Parser")()
+@lru_cache(maxsize=None)
+def described(name: str) -> Descriptor:
+    """Returns what a system is. What is no name of one is described as none."""
+    if name not in NAMES:
+        return NO_SYSTEM
+    made: Descriptor = importlib.import_module(f".{name}", __name__).SYSTEM
+    return made
+
+
+def parser_of(name: str) -> Any:
+    """Returns a new parser of a system, which stands in NAMES."""
+    return getattr(importlib.import_module(f".{name}.parser", __name__), f"{name.capitalize()}Parser")()
+
+
+@lru_cache(maxsize=None)
+def taker_of(name: str) -> "Taker":
+    """Returns how a system is taken, which stands in NAMES."""
+    made: "Taker" = importlib.import_module(f".{name}.take", __name__).TAKER(described(name))
+    return made
