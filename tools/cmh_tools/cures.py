@@ -7,10 +7,11 @@ from functools import cached_property
 from typing import Dict, Iterable, List, NamedTuple, Sequence, Set, Tuple
 
 from .files import short_name, shown
-from .findings import ALONE, WHOLE, Findings
+from .findings import Findings
 from .model import Sign, Strength
 from .rule import Headline
-from .sketch import ENDED, Process
+from .sketch import BARE, ENDED, Process
+from .systems import described
 
 WITH_NUMBER = re.compile(r"(?P<name>.+)-(?P<pid>\d+)")
 JVM = re.compile(r"JVM (?P<pid>\d+)")
@@ -59,6 +60,8 @@ class Cures:
 
     def __init__(self, answer: Findings) -> None:
         self.answer, self.system, self.begun_by = answer, answer.dump.sketch.system, answer.dump.sketch.begun_by
+        self.kind = described(self.system).units
+        self.are_alone = self.kind.is_alone or self.system == BARE
         self.members: Dict[str, List[int]] = {}
         self.words: Dict[str, str] = {}  # what is done with each unit
         self.by_pid: Dict[str, str] = {}  # of those that are restarted by themselves, the first name of each process
@@ -77,14 +80,14 @@ class Cures:
         if numbered and self.is_of_machine(unit, numbered["pid"]):
             return f"{short_name(numbered['name'])} (PID {numbered['pid']})"
         pids = {pid_of(self.answer.waits.processes[index]) for index in self.members.get(unit, ())} - {""}
-        if self.system in ALONE and pids:
+        if self.are_alone and pids:
             return f"{name} (PID {pids.pop()})"
-        return f"node {name}" if self.system == "erlang" else name
+        return f"{self.kind.node} {name}" if self.kind.node else name
 
     def is_of_machine(self, unit: str, pid: str) -> bool:
         """Whether a unit is a process of the machine with this number."""
         is_known = unit in self.begun_by or unit in self.begun_by.values()
-        is_plain = self.system == "python" and unit.count("-") == 1
+        is_plain = self.kind.is_numbered and unit.count("-") == 1
         return is_known or is_plain or any(
             self.answer.waits.processes[index].thread.startswith(f"{pid}/") for index in self.members.get(unit, ()))
 
@@ -93,11 +96,11 @@ class Cures:
     def unit_of(self, index: int) -> str:
         """Returns what is restarted for a process: its site, or what has begun that."""
         process = self.answer.waits.processes[index]
-        if self.system in WHOLE:
-            return WHOLE[self.system]
-        if self.system == "erlang" and process.site and "/" in process.name:
+        if self.kind.whole:
+            return self.kind.whole
+        if self.kind.node and process.site and "/" in process.name:
             return f"{process.name.split('/')[0]}@{process.site}"
-        if self.system in ALONE or not self.system and not BY_NUMBER.search(process.site or ""):
+        if self.are_alone or not self.system and not BY_NUMBER.search(process.site or ""):
             pid = pid_of(process)
             return self.by_pid.setdefault(pid, process.name) if pid else process.name
         return self.top_of(process.site or "")
@@ -122,7 +125,7 @@ class Cures:
     def own_unit(self, index: int) -> str:
         """Returns the unit of a process that is ended by itself."""
         process = self.answer.waits.processes[index]
-        return process.name if self.system == "erlang" else process.site or ""
+        return process.name if self.kind.node else process.site or ""
 
     def units_of(self, members: Iterable[int]) -> List[str]:
         return [unit for unit in dict.fromkeys(map(self.units.__getitem__, members)) if unit]
@@ -131,7 +134,7 @@ class Cures:
         """Returns the numbers of the processes that end with one, but for its own: of a job the ranks of one machine.
         """
         processes = [self.answer.waits.processes[index] for index in self.members.get(unit, ())]
-        if unit in WHOLE.values():
+        if unit == self.kind.whole != "":
             pids = {int(pid_of(process)) for process in processes if pid_of(process).isdigit()}
             return sorted(pids) if len({process.site for process in processes}) == 1 else []
         numbers = filter(None, map(WITH_NUMBER.fullmatch, self.below(unit)))
@@ -194,7 +197,7 @@ class Cures:
 
     def noticed_by(self, index: int, members: Sequence[int]) -> List[str]:
         """Returns the process whose end is noticed by one that waits for its answer, if it is the only one."""
-        if self.system != "erlang":
+        if not self.kind.again:
             return []
         waits = self.answer.waits
         process, names = waits.processes[index], {waits.processes[other].name for other in members}
@@ -226,7 +229,7 @@ class Cures:
         """Returns in words which one thing that is sent or released lets all of a root go on, by the wait of the first
         member of whom that is sure, or nothing."""
         members = self.answer.roots.roots[number][:MOST + 1]
-        for index in members if len(members) <= MOST and self.system not in WHOLE else ():
+        for index in members if len(members) <= MOST and not self.kind.whole else ():
             thing = self.thing_for(index)
             if thing and all(self.lets_go_on(some, members) for some in self.takers(index)):
                 return f"Enough, if it can be done: {thing}"
@@ -239,7 +242,7 @@ class Cures:
                 if wakers.strength is not Strength.AGAINST}
         operation, rest = process.operation, what.replace(process.operation, "", 1).strip()
         kind = operation.rpartition(".")[0].rpartition(".")[2]
-        if len(process.parts) > 1 or not rest or process.remedy and self.system != "erlang":
+        if len(process.parts) > 1 or not rest or process.remedy and not self.kind.again:
             return ""
         if "called" in hows:
             call = what if max(map(len, what.split())) < WIDE else operation
@@ -345,9 +348,8 @@ def unit_words(this: Cures, unit: str) -> str:
         return this.words[unit]
     command, called, below = this.remedies.get(unit), this.name_of_unit(unit), this.pids_below(unit)
     left = f" and {len(below) - PIDS:,} more" if below[PIDS:] else ""
-    what = "its ranks" if unit in WHOLE.values() else "what it has begun"
-    more = f", with {what} (PID {', '.join(map(str, below[:PIDS]))}{left})" if below else ""
-    again = ", which its supervisor may start again" if this.system == "erlang" else ""
+    more = f", with {this.kind.has} (PID {', '.join(map(str, below[:PIDS]))}{left})" if below else ""
+    again = f", which {this.kind.again} may start again" if this.kind.again else ""
     this.words[unit] = f"end {short_name(unit)}{again}: {shown(command)}" if command else f"restart {called}{more}"
     return this.words[unit]
 

@@ -13,7 +13,7 @@ from .reasons import Reason, Rests, counts_of
 from .doubts import Doubt
 from .rule import STATUSES, Decision, Headline
 from .roots import Knots, Roots, count_waiters, edges_among, ends, way, without_hubs
-from .sketch import ALL, ANY, BARE, ENDED, LIMIT, RUNS, UNKNOWN, Process, premise
+from .sketch import ALL, ANY, ENDED, LIMIT, RUNS, UNKNOWN, Process, premise
 from .stuck import Answer, Waits
 
 # Verdicts, beside ENDED.
@@ -21,10 +21,6 @@ STUCK, LIKELY, UNDECIDED, NOT_STUCK = "stuck", "likely", "undecided", "not_stuck
 START = -1  # no process
 MINUTE = 60  # seconds
 RUNNING, MESSAGE, COME = "runs", "message_in_transit", "all_have_come"  # why one goes on by itself
-# Systems of which nothing less can be restarted.
-WHOLE = {"mpi": "the MPI job"}
-# Systems whose processes can be restarted by themselves: a site is a machine, which others may share.
-ALONE = {BARE, "rabbitmq"}
 
 
 END_OF_WHAT = re.compile(r"; | at | in |: | \[|, which | \(descriptor")

@@ -15,6 +15,7 @@ from .model import HOWS, Anybody, Sign, Strength, Wakers, Who, once
 from .sketch import BARE, BY_HAND, DONE, FACT, NEEDED, OLDER, PREMISE, REST, SYSTEM, WORK, FactRow, Process, Sketch
 from .sketch_json import sketch_of, text_of_sketch, tree_of
 from .snapshots import AS_OF
+from .systems import NAMES, described
 
 HIDDEN = "not shown"
 KEYS = {
@@ -38,37 +39,11 @@ RUNS = (WORK, "a dead message will come to it", "a fact says so", "a message is 
         "waits for a timer", "waits for data", "waits for its time", "waits on a connection", "waits with a limit",
         "what it waited for is done", "who is on another machine may send", "yields")
 TIMED = "timed "
-OPERATIONS = {
-    "erlang": """gen_server:call gen_statem:call gen_event:rpc GenServer.call Task.await Task.await_many receive
-        erpc:call global:set_lock mnesia:transaction timer:sleep Process.sleep gen_tcp:accept gen_tcp:recv
-        gen_udp:recv gen_server:loop proc_lib:stop supervisor:shutdown""",
-    "go": """sync.Mutex.Lock sync.RWMutex.Lock sync.RWMutex.RLock sync.WaitGroup.Wait sync.Cond.Wait select sleep
-        net/http.Get""",
-    "jvm": """synchronized Object.wait Thread.join Thread.sleep Condition.await Condition.awaitNanos
-        ReentrantLock.lock ReentrantLock.lockInterruptibly ReentrantReadWriteLock$ReadLock.lock
-        ReentrantReadWriteLock$WriteLock.lock Semaphore.acquire CountDownLatch.await CyclicBarrier.await
-        Phaser.arriveAndAwaitAdvance FutureTask.get CompletableFuture.get CompletableFuture.join
-        ArrayBlockingQueue.put ArrayBlockingQueue.take LinkedBlockingQueue.put LinkedBlockingQueue.take
-        ThreadPoolExecutor.awaitTermination TimeUnit.sleep ServerSocket.accept SelectorImpl.select
-        HttpURLConnection.getInputStream System.exit""",
-    "linux": """read write wait4 waitid futex recvfrom recvmsg sendto sendmsg flock fcntl select pselect6 poll ppoll
-        epoll_wait epoll_pwait accept accept4 connect openat pause clock_nanosleep nanosleep semop semtimedop
-        msgrcv msgsnd mq_timedreceive mq_timedsend rt_sigtimedwait rt_sigsuspend pthread_join pthread_mutex_lock
-        pthread_rwlock_rdlock pthread_rwlock_wrlock pthread_barrier_wait polls vfork stopped traced""",
-    "mpi": """MPI_Recv MPI_Send MPI_Ssend MPI_Sendrecv MPI_Probe MPI_Wait MPI_Waitall MPI_Waitany MPI_Waitsome MPI_Test
-        MPI_Iprobe MPI_Barrier MPI_Bcast MPI_Reduce MPI_Allreduce MPI_Gather MPI_Allgather MPI_Scatter MPI_Alltoall
-        MPI_Alltoallv MPI_Finalize MPI_Win_fence MPI_Win_lock MPI_Win_free MPI_File_write_at_all""",
-    "python": """Lock.acquire RLock.acquire Semaphore.acquire BoundedSemaphore.acquire Event.wait Condition.wait
-        Barrier.wait Queue.get Queue.put Queue.join SimpleQueue.get JoinableQueue.put JoinableQueue.join Thread.join
-        Process.join Future.result Connection.recv socket.accept time.sleep asyncio.sleep asyncio.wait await
-        asyncio.wait_for threading.wait threading.shutdown futures.wait""",
-    "rabbitmq": "consume handle reply publish take",
-}
 WORDS = {"", HIDDEN, BARE, BY_HAND, DONE, NEEDED, OLDER, REST, SYSTEM, MARK, NO_SITE, STUCK, RUNNING, "idle", "active",
          *HOWS, *(sign.value for sign in Sign), *(strength.value for strength in Strength), *RUNS,
          ENDED, "chan send", "chan receive", "IO wait", "MPI_Sendrecv sends",
          "MPI_Sendrecv receives", "traced by", "no call",
-         *(it for words in OPERATIONS.values() for it in words.split())}
+         *(word for system in NAMES for word in described(system).operations.split())}
 
 
 class Shorts:

@@ -19,6 +19,7 @@ from .model import Sign, Strength, Wakers
 from .nearness import MAY_HAVE
 from .rule import Headline
 from .sketch import ALL, ANY, ENDED, OF_SERVER, REST, UNREADABLE
+from .systems import KERNEL, all_described, described
 from .terminal import AsItIs, Painted, fill, paint_line
 
 WIDTH = 80
@@ -37,10 +38,6 @@ LINES, WORDS = 10, 60  # before what to do, and to the end of a group
 FOR_OTHERS = re.compile(r"join|WaitGroup|CountDownLatch|HttpClient|http|sync$|invokeAll|awaitTermination", re.I)
 UNNAMED = re.compile(r"\S+\+0x[0-9a-f]+")  # a frame of a program without symbols
 ADDRESS = re.compile(r"\(?0x[0-9a-f]+\)?")
-# What those of a system are called, and of systems that are joined by the beginning of their site.
-NOUNS = {"jvm": "thread", "go": "goroutine", "mpi": "rank", "rabbitmq": "service"}
-SITES = {"backend ": "backend", "prepared transaction ": "prepared transaction", "connection ": "connection",
-         "JVM ": "thread", "the Go program": "goroutine"}
 LENGTH = re.compile(r"(?:it )?(sleeps for [^,]+)")
 COLOURS = {Headline.DEADLOCK: "stuck", Headline.LIKELY: "likely", Headline.NONE: "not_stuck"}
 UNSEEN = "somebody who wasn't looked at"
@@ -125,10 +122,10 @@ class Screen:
         return noun_in(self.system, process.site or "", has_thread, "/" in process.name)
 
     def noun_of(self, members: Sequence[int]) -> str:
-        """Returns how many some are, and what, if there is room. Processes of Linux are threads if one has several of
-        them."""
+        """Returns how many some are, and what, if there is room. Those that the kernel sees are threads if a process has
+        several of them."""
         counts = Counter(map(self.noun, members))
-        if self.system == "linux":
+        if self.system == KERNEL:
             owners = {self.waits.processes[index].thread.partition("/")[0] for index in members}
             counts = Counter(["thread"] * len(members)) if len(owners) < len(members) and "" not in owners else counts
         return " and ".join(number_of(number, noun, many(noun)) for noun, number in counts.items()) \
@@ -159,7 +156,7 @@ class Screen:
     def group_words(self, roots: List[int], members: List[int]) -> str:
         """Returns who is meant, and where it is, if there is room for that: what to do names it too."""
         units = self.cures.units_of(members)
-        is_told = self.is_head_long and len(units) == 1 and self.system != "rabbitmq"
+        is_told = self.is_head_long and len(units) == 1 and not described(self.system).units.is_alone
         where = f" of {self.cures.name_of_unit(units[0])}" if is_told else ""
         if len(roots) > 1:
             return f"{len(roots):,} groups wait, each for itself: {self.noun_of(members)}{where} in all"
@@ -648,9 +645,9 @@ class Screen:
 def noun_in(system: str, site: str, has_thread: bool, is_inside: bool) -> str:
     """Returns what one of a system is that stands at a site: whether it is a thread of the kernel, and by its name
     inside of a process."""
-    noun = next((noun for start, noun in SITES.items() if site.startswith(start)), "") or NOUNS.get(system, "")
-    is_python = system == "python"
-    return noun or ("thread" if has_thread and (is_python or is_inside) else "task" if is_python else "process")
+    sites = [row for about in all_described() for row in about.sites.items()]
+    noun = next((noun for start, noun in sites if site.startswith(start)), "")
+    return noun or described(system).noun_of(has_thread, is_inside)
 
 
 def many(noun: str) -> str:

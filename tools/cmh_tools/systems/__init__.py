@@ -13,7 +13,7 @@ from __future__ import annotations
 import importlib
 from dataclasses import dataclass
 from functools import lru_cache
-from typing import TYPE_CHECKING, Any
+from typing import TYPE_CHECKING, Any, List
 
 from .descriptor import Descriptor
 
@@ -51,6 +51,10 @@ def described(name: str) -> Descriptor:
         return NO_SYSTEM
     made: Descriptor = importlib.import_module(f".{name}", __name__).SYSTEM
     return made
+
+
+def all_described() -> List[Descriptor]:
+    return list(map(described, NAMES))
 
 
 def parser_of(name: str) -> Any:
