@@ -1,32 +1,44 @@
-"""The answer for machines, as JSON: all that the text says, once, with names and numbers as they are.
+"""The answer as plain data, made once: all that any text, page or picture of it says is told from this tree alone.
 
 docs/answer.schema.json says what each key is. Each process is one row of `processes`; roots and lists have their names.
 """
 from __future__ import annotations
 
-import json
 from collections import Counter
-from typing import Any, Dict, Iterable, List, Optional, Sequence
+from typing import Any, Dict, Iterable, List, Optional, Sequence, Tuple
 
 from . import VERSION
-from .cures import words_of
-from .explain import Explanation
-from .findings import LIKELY, NOT_STUCK, STUCK, UNDECIDED, Findings
+from .cures import Cure, Cures, unit_words, words_of
+from .doubt_words import clause_of, sentence
+from .doubts import Doubt
+from .dump import Dump
+from .files import short_name
+from .findings import LIKELY, NOT_STUCK, STUCK, UNDECIDED, Findings, Waiters
+from .model import Anybody, Sign, Wakers
+from .nearness import MAY_HAVE
 from .program import identity
+from .proposals import legend
 from .reasons import Reason
-from .model import Anybody, Wakers
-from .sketch import ALL, ANY, ENDED, FACT, PREMISE, Process
+from .sketch import ALL, ANY, ENDED, FACT, PREMISE, UNKNOWN, Process
+from .words import first_words
 
 FORMAT = 2  # no key is dropped while it stays, nor does one get another meaning; new ones may come
 LONG = 20  # names in a list; one that is longer stands once, if several waits have it
+UNSHOWN = frozenset(MAY_HAVE)
 Tree = Dict[str, Any]
 
 
-def answer(found: Explanation, noted: Optional[str] = None, at: Optional[int] = None) -> Tree:
-    """Returns the answer as a tree. `noted` is the SHA-256 of the program that the notes name, `at` who is asked for by
-    --why."""
-    roots, hubs = range(len(found.roots.roots)), {key: list_name(found, at) for key, at in found.waits.hubs.items()}
+def answer(dump: Dump, noted: Optional[str] = None, at: Optional[int] = None) -> Tree:
+    """Returns the answer to a dump as a tree. `noted` is the SHA-256 of the program that its notes name, `at` who is
+    asked for by --why."""
+    return tree_of(Findings(dump), noted, at)
+
+
+def tree_of(found: Findings, noted: Optional[str] = None, at: Optional[int] = None) -> Tree:
+    sketch, cures = found.dump.sketch, Cures(found)
+    hubs = {key: list_name(found, at) for key, at in found.waits.hubs.items()}
     lists = SharedLists(found.original.sketch.processes, hubs)
+    proposals = found.proposals()
     return {
         "version": FORMAT,
         "made_by": f"cmh-explain {VERSION}",
@@ -34,21 +46,24 @@ def answer(found: Explanation, noted: Optional[str] = None, at: Optional[int] = 
         "status": found.status(),
         "headline": found.headline.value,
         "counts": counts_of(found),
-        "system": found.dump.sketch.system,
-        "as_of": found.dump.sketch.as_of,
-        "readings": found.dump.sketch.readings,
-        "roots": [root_row(found, number) for number in roots],
-        "doubts": doubt_rows(found),
-        "cures": cure_rows(found),
-        "ends": [] if found.roots.roots else [{**step._asdict(), "waiters": number}
-                                              for step, number in found.cures.ends()],
+        "system": sketch.system,
+        "as_of": sketch.as_of,
+        "readings": sketch.readings,
+        "is_hidden_by_sleepers": found.is_hidden_by_sleepers(),
+        "roots": [root_row(found, cures, number) for number in range(len(found.roots.roots))],
+        "doubts": [doubt_row(found, doubt) for doubt in found.original.doubts],
+        "cures": [cure_row(cures, cure) for cure in cures.least()],
+        "ends": end_rows(found, cures),
         "still_stuck": names(found, found.left_over),
-        "unknown": unknown_rows(found),
-        "proposals": proposal_rows(found),
+        "unknown": waiters_rows(found, found.unknown_ones(len(found.open))),
+        "idle": waiters_rows(found, found.idle_ones(len(found.open))),
+        "proposals": [{"fact": it.line, "is_guess": it.is_guess, "if": it.hint, "names": it.names, "says": it.text()}
+                      for it in proposals],
+        "legend": legend(proposals, found.waits.processes) if proposals else [],
         "limits": limit_rows(found),
         "premises": [{"name": it.name, "text": it.text, "processes": it.number} for it in reasons(found, PREMISE)],
         "facts": fact_rows(found),
-        "warnings": list(found.dump.sketch.warnings),
+        "warnings": list(sketch.warnings),
         "cut": cut_of(found),
         "why": None if at is None else why_row(found, at),
         "lists": {**{list_name(found, at): names(found, found.waits.all_left(at))
@@ -57,20 +72,9 @@ def answer(found: Explanation, noted: Optional[str] = None, at: Optional[int] = 
     }
 
 
-def text_of_answer(tree: Tree) -> str:
-    """Returns the JSON of an answer, with a line for each row. It is of ASCII alone, so no name disturbs a terminal."""
-    return "{%s}\n" % ",\n".join(f"{json.dumps(key)}: {text_of_value(value)}" for key, value in tree.items())
-
-
-def text_of_value(value: Any) -> str:
-    if not isinstance(value, list) or not value or not isinstance(value[0], dict):
-        return json.dumps(value)
-    rows = ",\n  ".join(map(json.dumps, value))
-    return f"[\n  {rows}]"
-
-
 def names(found: Findings, some: Iterable[int]) -> List[str]:
-    return [found.waits.processes[at].name for at in some]
+    processes = found.waits.processes
+    return [processes[at].name for at in some]
 
 
 def counts_of(found: Findings) -> Dict[str, int]:
@@ -81,17 +85,18 @@ def counts_of(found: Findings) -> Dict[str, int]:
             ENDED: ended, "roots": len(found.roots.roots)}
 
 
-def cut_of(found: Findings) -> Dict[str, int]:
+def cut_of(found: Findings) -> Tree:
     """Returns what became of those that the dump hasn't as they are."""
     dump = found.dump
     return {"left_out": len(dump.left_out), "twins": dump.cut.twins, "alike": len(dump.folded) - dump.cut.twins,
-            "lists": sum(at >= found.waits.number for at in dump.kept), "dumps": len(dump.parts)}
+            "lists": sum(at >= found.waits.number for at in dump.kept), "dumps": len(dump.parts),
+            "says": dump.cut_lines()}
 
 
 # Roots
 
 
-def root_row(found: Explanation, number: int) -> Tree:
+def root_row(found: Findings, cures: Cures, number: int) -> Tree:
     members, behind = found.roots.roots[number], found.roots.behind[number]
     sites, is_some_unsaid = found.sites(members)
     return {
@@ -102,7 +107,9 @@ def root_row(found: Explanation, number: int) -> Tree:
         "members": names(found, members),
         "maybe_behind": names(found, found.roots.maybe_behind(number)),
         "behind": names(found, behind),
-        "enough": found.cures.enough_words(number),
+        "cure": cure_row(cures, cures.of[number]),
+        "enough": cures.enough_words(number),
+        "units": [{"unit": unit, "name": cures.name_of_unit(unit)} for unit in cures.units_of(members)],
         "sites": sites,
         "has_other_sites": is_some_unsaid,
         "rests_on": reason_rows(found.rests.of(found.processes(members))),
@@ -110,16 +117,28 @@ def root_row(found: Explanation, number: int) -> Tree:
     }
 
 
-def cure_rows(found: Explanation) -> List[Tree]:
-    """Returns what breaks all roots."""
-    cures = found.cures
-    return [{"units": cure.units, "is_all": cure.is_all, "roots": [number + 1 for number in cure.roots],
-             "steps": [cures.step_of(unit)._asdict() for unit in cure.units], "says": words_of(cures, cure)}
-            for cure in cures.least()]
+def cure_row(cures: Cures, cure: Cure) -> Tree:
+    """Returns what breaks some roots."""
+    return {"units": cure.units, "is_all": cure.is_all, "roots": [number + 1 for number in cure.roots],
+            "steps": [cures.step_of(unit)._asdict() for unit in cure.units], "says": words_of(cures, cure)}
+
+
+def end_rows(found: Findings, cures: Cures) -> List[Tree]:
+    """Returns what ends those at which most waits end, where no root is."""
+    return [] if found.roots.roots else [{**step._asdict(), "waiters": number, "says": unit_words(cures, step.unit)}
+                                         for step, number in cures.ends()]
 
 
 def reason_rows(some: Iterable[Reason]) -> List[Tree]:
     return [{"kind": it.kind, "name": it.name, "text": it.text, "processes": it.number} for it in some]
+
+
+def doubt_row(found: Findings, doubt: Doubt) -> Tree:
+    """Returns the row of a doubt, on which it hangs that some are likely to be stuck."""
+    row = {"number": doubt.number, "who": list(doubt.who), "how": doubt.how,
+           "sign": None if doubt.sign is None else doubt.sign.value, "waits": list(doubt.waits),
+           "clause": clause_of(doubt.how, doubt.sign, found.reason_of_doubt(doubt)), "facts": doubt.lines}
+    return {**row, "says": sentence(row, [short_name(name) or "''" for name in doubt.waits])}
 
 
 # Processes
@@ -156,25 +175,18 @@ def process_rows(found: Findings, lists: SharedLists) -> List[Tree]:
 def process_row(found: Findings, at: int, end: Optional[int]) -> Tree:
     """Returns the row of a process, but for its wakers. `end` is who may unblock it in the end, if it isn't stuck."""
     process, waits, root = found.process(at), found.waits, found.roots.root_of.get(at)
-    shared, kind = waits.list_of(at), waits.kinds[at] if process.kind == ALL else process.kind
-    kept = set(waits.without_hubs(waits.left_of(at)))
-    one_of = [it for it in waits.left[at] if it >= waits.number] if kind == ALL and shared is None else []
-    nodes = [it for it in waits.left[at] if it < waits.number] if one_of else waits.all_left(at)
-    others = [] if shared is not None or kind not in (ANY, ALL) else nodes
-    waits_for = [it for it in others if kind == ALL or it in kept]
     return {
         "name": process.name,
         "verdict": found.verdict(at),
         "root": None if root is None else root + 1,
         "behind": [it + 1 for it in found.roots.above.get(at, ())] if root is None else [],
-        "kind": kind,
-        "waits_for": names(found, waits_for),
-        "waits_for_list": list_name(found, shared) if shared is not None else None,
-        "one_of": [list_name(found, it) for it in one_of],
-        "besides": names(found, [it for it in others if kind != ALL and it not in kept]),
+        **wait_row(found, at),
         "in_transit_from": names(found, sorted(waits.senders[at])),
         "site": process.site,
+        "thread": process.thread,
         "note": found.place(at),
+        "what": first_words(process.note or process.operation),
+        "effect": process.effect,
         "frames": process.frames,
         "operation": process.operation,
         "objects": process.objects,
@@ -182,7 +194,29 @@ def process_row(found: Findings, at: int, end: Optional[int]) -> Tree:
         "reason": process.reason,
         "rests_on": process.because,
         "goes_on": found.goes_on(at),
+        "freed_by": None if end is None else found.process(found.high.cause[at] or 0).name,
         "unblocked_by": None if end is None else found.process(end).name,
+    }
+
+
+def wait_row(found: Findings, at: int) -> Tree:
+    """Returns what a row has of the wait: for whom it is, and who of these is near."""
+    process, waits = found.process(at), found.waits
+    shared, kind = waits.list_of(at), waits.kinds[at] if process.kind == ALL else process.kind
+    near = waits.left_of(at) if kind in (ANY, ALL) else []
+    one_of = [it for it in waits.left[at] if it >= waits.number] if kind == ALL and shared is None else []
+    nodes = [it for it in waits.left[at] if it < waits.number] if one_of else waits.all_left(at)
+    others = [] if shared is not None or kind not in (ANY, ALL) else nodes
+    kept = set(waits.without_hubs(near)) if kind == ANY and shared is None else {*others}
+    return {
+        "kind": kind,
+        "waits_for": names(found, [it for it in others if it in kept]),
+        "waits_for_list": list_name(found, shared) if shared is not None else None,
+        "one_of": [list_name(found, it) for it in one_of],
+        "near": None if shared is None or near == waits.left[at] else names(found, waits.without_hubs(near)),
+        "besides": names(found, [it for it in others if it not in kept]),
+        "why_unknown": process.why_unknown() if kind == UNKNOWN else "",
+        "may_have": any(wakers.how in UNSHOWN for part in process.parts for wakers in part),
     }
 
 
@@ -192,22 +226,23 @@ def list_name(found: Findings, at: int) -> str:
 
 
 def why_row(found: Findings, at: int) -> Tree:
+    """Returns the chain from one to what its answer rests on, with on what it rests itself: of one that is stuck the
+    members of its root count too."""
     chain = found.chain(at)
-    return {"name": found.process(at).name, "verdict": found.verdict(at), "chain": names(found, chain)}
+    root = found.roots.root_of.get(chain[-1])
+    members = [] if root is None else found.roots.roots[root]
+    rests = found.rests.of(found.processes(list(dict.fromkeys([*chain, *members]))))
+    return {"name": found.process(at).name, "verdict": found.verdict(at), "chain": names(found, chain),
+            "rests_on": reason_rows(rests)}
 
 
 # Undecided ones, and on what all rest
 
 
-def unknown_rows(found: Findings) -> List[Tree]:
-    """Returns the unknown ones that leave others undecided. The first has most of these."""
-    rows = found.unknown_ones(len(found.open))
+def waiters_rows(found: Findings, some: Iterable[Tuple[int, Waiters]]) -> List[Tree]:
+    """Returns the rows of those on whose act others hang. The first has most of these."""
     return [{"name": found.process(at).name, "others": others.number, "is_whole": others.is_whole,
-             "names": names(found, others.nearest)} for at, others in rows]
-
-
-def proposal_rows(found: Findings) -> List[Tree]:
-    return [{"fact": it.line, "is_guess": it.is_guess, "if": it.hint, "names": it.names} for it in found.proposals()]
+             "names": names(found, others.nearest)} for at, others in some]
 
 
 def reasons(found: Findings, kind: str) -> List[Reason]:
@@ -222,14 +257,6 @@ def fact_rows(found: Findings) -> List[Tree]:
             for row in found.dump.sketch.facts]
 
 
-def limit_rows(found: Findings) -> List[Dict[str, Any]]:
+def limit_rows(found: Findings) -> List[Tree]:
     """The lines of facts on those that stood with a limit."""
     return [{"fact": line, "names": [it.name for it in some]} for line, some in found.lines_on_limits()]
-
-
-def doubt_rows(found: Explanation) -> List[Tree]:
-    """Returns the doubts on which it hangs that some are likely to be stuck."""
-    return [{"number": doubt.number, "who": list(doubt.who), "how": doubt.how,
-             "sign": None if doubt.sign is None else doubt.sign.value, "waits": list(doubt.waits),
-             "says": found.doubt_words(doubt, [found.waits.index[name] for name in doubt.waits]),
-             "facts": list(doubt.lines)} for doubt in found.original.doubts]

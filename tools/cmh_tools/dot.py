@@ -6,7 +6,7 @@ import re
 from typing import Dict, Iterable, Iterator, List, NamedTuple, Tuple
 
 from .arrow_words import lines_of_words
-from .explain import number_of
+from .words import number_of
 from .files import MOST_OF_LINE, shown
 from .folding import BEHIND, FREE, MORE, OPEN, OVER, ROOT, RUNNING, SHARED, UNDECIDED
 from .picture import MESSAGE, Arrow, Box, Picture

@@ -8,6 +8,7 @@ from dataclasses import replace
 from typing import AbstractSet, Dict, Iterable, Iterator, List, NamedTuple, Optional, Sequence, Set, Tuple
 
 from . import rule
+from .doubt_words import told_reason
 from .facts import OTHERS, STILL, word_of
 from .model import HOWS, Part, Sign, Strength
 from .proposals import HAS_ENDED, LEFT_OUT, MOST, NUMBER, freeing_nobody, place_name
@@ -17,34 +18,6 @@ from .stuck import Waits
 
 # In which order doubts are told: those first that most often hold.
 ORDER = (Sign.POLLS, Sign.TICKS, Sign.SLEEPS, Sign.GOES_ON, Sign.RESTS, Sign.UNKNOWN, None, Sign.BLOCKED)
-UNSEEN = {
-    "unread": "somebody who couldn't be looked at",
-    "unshown": "somebody or a timer that can't be seen from here",
-    "left-out": "somebody who wasn't looked at",
-    "by-name": "somebody who opens it by its name",
-    "outside": "somebody outside of what was looked at",
-    "to-come": "somebody who comes later",
-}
-STAND_INS = {  # names of those who stand for others, with what these are
-    "other-publishers": "one who publishes to its queue for the first time",
-    "unseen-work": "one that does something by itself",
-    "consumer-timeout": "the broker's limit for a message that isn't acknowledged",
-    "message-limits": "a limit of a message in a queue that nobody reads",
-    "session-limits": "a limit that a session has set for itself, which no view shows",
-}
-UNCOUNTED = "{} went on between the looks, and waits anew, which nothing counts"
-ANEW = "somebody between the looks: nothing counts how often it waits"
-EXPIRES, HANDLES, SIGNAL = "expires", "handles", "signal of "  # hows, and how those are called that stand for signals
-MORE = re.compile(", (?:and|or one) ")  # before what a clause says besides
-SIGNS = {
-    Sign.TICKS: "ran its loop between the looks and woke nobody",
-    Sign.SLEEPS: "sleeps",
-    Sign.POLLS: "called {} again between the looks and woke nobody",
-    Sign.GOES_ON: "goes on",
-    Sign.UNKNOWN: "isn't understood",
-    Sign.BLOCKED: "waits itself",
-    Sign.ENDED: "has ended",
-}
 
 
 class Doubt(NamedTuple):
@@ -193,43 +166,3 @@ def freeing_lines(names: Sequence[str]) -> Iterator[str]:
     """Yields the lines that some end nobody's wait."""
     for start in range(0, len(names), MOST):
         yield freeing_nobody(names[start:start + MOST])
-
-
-# In words
-
-
-def sentence(one: Doubt, who: str, whom: str, reason: str = "") -> str:
-    """Returns what a doubt says, as what may be so: 'beat, which sleeps, frees a'. `who` and `whom` are names in words,
-    and `reason` why one rests."""
-    if one.how == "uncounted":
-        return UNCOUNTED.format(whom)
-    words = subject(one, who, reason)
-    return f"{words}{',' if ', which ' in words else ''} frees {whom}"
-
-
-def subject(one: Doubt, who: str, reason: str = "") -> str:
-    """Returns of whom a doubt says that it frees somebody: 'beat, which sleeps'."""
-    if who in STAND_INS:
-        return STAND_INS[who]
-    if one.sign is None:
-        is_told = who and one.how != "left-out"  # (the name of those who are left out tells nobody anything)
-        return who if is_told else UNSEEN.get(one.how, UNSEEN["unshown"])
-    if one.how == HANDLES and who.startswith(SIGNAL):
-        return f"a signal, which {who.replace(SIGNAL, '')} handles"
-    if one.how == EXPIRES:
-        return f"a limit of the server ({who})"
-    if HOWS[one.how][0] is Strength.AGAINST:
-        return f"{who}, which {HOWS[one.how][1]}"
-    if one.sign in SIGNS:
-        return f"{who}, which {SIGNS[one.sign].format(f'{reason}()' if reason else 'its function')}"
-    return f"{who}, which {told_reason(reason)}"
-
-
-def told_reason(reason: str) -> str:
-    """Returns why one rests, if that tells a reader something."""
-    return "has nothing to do" if not reason or ": " in reason else reason.partition(";")[0]
-
-
-def short_subject(one: Doubt, who: str, reason: str = "") -> str:
-    """Returns the same for those who know that it is of what frees somebody."""
-    return ANEW if one.how == "uncounted" else MORE.split(subject(one, who, reason))[0]

@@ -1,7 +1,6 @@
 """Says in words who is stuck, who isn't, and who is undecided; where it has to be broken; and what is known of that."""
 from __future__ import annotations
 
-import re
 from collections import Counter
 from functools import cached_property
 from typing import Callable, Dict, Iterable, Iterator, List, Optional, Sequence, Tuple
@@ -9,37 +8,20 @@ from typing import Callable, Dict, Iterable, Iterator, List, Optional, Sequence,
 from .cures import Cures, words_of
 from .dump import Dump
 from .files import MOST_OF_LINE, short_name, shown
-from .doubts import EXPIRES, Doubt, sentence, short_subject
+from .answer import doubt_row
+from .doubt_words import EXPIRES, sentence, short_subject
+from .doubts import Doubt
 from .findings import COME, LIKELY, MESSAGE, NOT_STUCK, STUCK, UNDECIDED, Findings, Waiters
 from .model import Sign
 from .proposals import legend
 from .reasons import more_lines, rests_lines
 from .sketch import ALL, ANY, DONE, ENDED, RUNS, UNKNOWN, Process
 from .terminal import PLAIN, AsItIs, Painted, Style, fill, lay_out, paint_line
+from .words import few, number_of, runs_of
 
 LINES, NAMES = 8, 5  # as many lines and names are shown; the others are counted
 UNSAID = "it isn't said why"
-LAST_NUMBER, RUN = re.compile(r"(.*?)(0|[1-9]\d{0,8})"), 3  # so many that follow each other are told as one
 GOES_ON = {MESSAGE: "has a message in transit to it", COME: "no longer waits for any process"}
-
-
-def number_of(number: int, one: str = "process", many: str = "processes") -> str:
-    return f"{number:,} {one if number == 1 else many}"
-
-
-def runs_of(names: Sequence[str]) -> List[str]:
-    """Returns names, of which those that differ in numbers that follow each other are one: 'worker-3 to 9'."""
-    alike: Dict[Tuple[str, bool], List[str]] = {}
-    for name in names:
-        numbered = LAST_NUMBER.fullmatch(name)
-        stem, end = (numbered[1], numbered[2]) if numbered else (name, "")
-        alike.setdefault((stem, bool(numbered)), []).append(end)
-    texts: List[str] = []
-    for (stem, is_numbered), ends in alike.items():
-        numbers = sorted(map(int, ends)) if is_numbered else []
-        is_run = len(numbers) >= RUN and numbers == list(range(numbers[0], numbers[-1] + 1))
-        texts += [f"{stem}{numbers[0]} to {numbers[-1]}"] if is_run else [stem + end for end in ends]
-    return texts
 
 
 class Explanation(Findings):
@@ -57,10 +39,7 @@ class Explanation(Findings):
 
     def some(self, names: Sequence[str], last: str = ", ") -> str:
         """Returns the names, at most the first few and how many more there are. `last` stands before the last one."""
-        most = len(names) if self.everything else NAMES
-        if names[most:]:
-            return f"{', '.join(names[:most])} and {len(names) - most:,} more"
-        return last.join(filter(None, [", ".join(names[:-1]), *names[-1:]]))
+        return few(names, len(names) if self.everything else NAMES, last)
 
     def first(self, lines: List[str], what: Tuple[str, str]) -> List[str]:
         """Returns at most the first few lines, and how many more there are."""
@@ -238,28 +217,18 @@ class Explanation(Findings):
         waits = set(doubt.waits)
         whom = [self.name(at) for at in members if self.waits.processes[at].name in waits] or \
             list(map(short_name, doubt.waits))
-        who = self.some([short_name(name) for name in doubt.who], " or ")
-        freed = whom[0] if len(whom) == 1 else f"one of {self.some(whom, ' and ')}"
-        return sentence(doubt, who, freed, self.reason_of_doubt(doubt))
+        return sentence(doubt_row(self, doubt), whom, 1 << 62 if self.everything else NAMES)
 
     def doubter_words(self, doubt: Doubt, called: Callable[[str], str], most: int) -> str:
         """Returns in words of whom a doubt says that it frees somebody, by what each is `called`: by the first name
         alone where that makes more than so many letters."""
-        names, reason = [shown(called(name)) for name in doubt.who], self.reason_of_doubt(doubt)
+        names, row = [shown(called(name)) for name in doubt.who], doubt_row(self, doubt)
         runs = runs_of(names)
-        words = short_subject(doubt, self.some(names if runs[NAMES:] else runs, " or "), reason)
+        words = short_subject(row, self.some(names if runs[NAMES:] else runs, " or "))
         if len(words) <= most or not names[1:]:
             return words
         comma = "," if doubt.how == EXPIRES else ""  # (behind the name of a limit stands a time)
-        return short_subject(doubt, f"{names[0]}{comma} or {len(doubt.who) - 1:,} more", reason)
-
-    def reason_of_doubt(self, doubt: Doubt) -> str:
-        """Returns why all of those rest of whom a doubt is, or in which function they poll, or nothing."""
-        index = self.waits.index
-        there = [self.waits.processes[index[name]] for name in doubt.who if name in index]
-        reasons = {process.reason if doubt.sign is not Sign.POLLS else "".join(process.frames[:1]).partition(" (")[0]
-                   for process in there}
-        return shown(reasons.pop()) if len(reasons) == 1 else ""
+        return short_subject(row, f"{names[0]}{comma} or {len(doubt.who) - 1:,} more")
 
     def behind_several(self) -> List[str]:
         lines: List[str] = [paint_line(f"Stuck behind more than one root: {number_of(len(self.roots.shared))}", STUCK)]

@@ -4,12 +4,14 @@ from __future__ import annotations
 import os
 from typing import Any, Optional, Sequence, Tuple
 
+from .answer import answer
 from .command import Parser, Read, dump_of_notes, is_dump, is_notes, notes_path, run, sketch_of_dump
 from .dump import Dump, is_marked
 from .explain import Explanation
 from .files import Failure, Refusal, hindrance, read_bytes, read_text, say, shown, text_of_bytes, write_out
-from .screen import screen
 from .program import compare, confirm, deadlocked_names, identity
+from .say.whole import summary, whole, why
+from .screen import screen
 from .sketch import BARE, near_name, quote, read_json
 from .terminal import show, style_of_output
 
@@ -127,9 +129,9 @@ def check_page(asked: Any) -> None:
             raise Failure(f"{what}: it needs --html", 2)
         return
     dumps = [asked.dump] if asked.newer is None else [asked.dump, asked.newer]
-    why = hindrance(asked.html, [*dumps, *map(notes_path, dumps), *asked.state])
-    if why:
-        raise Failure(f"--html {shown(asked.html)}: the page goes to a file of its own: {why}", 2)
+    fault = hindrance(asked.html, [*dumps, *map(notes_path, dumps), *asked.state])
+    if fault:
+        raise Failure(f"--html {shown(asked.html)}: the page goes to a file of its own: {fault}", 2)
 
 
 def main(words: Sequence[str]) -> int:
@@ -140,19 +142,21 @@ def main(words: Sequence[str]) -> int:
         from .forms import check_form, write_form
         check_form(asked)
     style = style_of_output(asked.color)
-    old = None if asked.newer is None else Explanation(load(asked.dump, asked.without_notes)[0], asked.all, style)
+    old = None if asked.newer is None else load(asked.dump, asked.without_notes)[0]
     dump, noted = load(asked.dump if asked.newer is None else asked.newer, asked.without_notes)
-    explanation = Explanation(dump, asked.all, style)
-    index, status = None if asked.why is None else index_of(dump, asked.why), explanation.status()
+    index = None if asked.why is None else index_of(dump, asked.why)
+    tree = answer(dump, noted, index)
     if is_form:
-        write_form(asked, explanation, noted, index, old)
+        write_form(asked, tree, Explanation(dump, asked.all, style), index,
+                   None if old is None else Explanation(old, asked.all, style))
     elif asked.summary:
-        write_out(explanation.summary(index))
+        write_out(summary(tree, style))
     elif not asked.quiet:
-        text = explanation.text() if asked.all else screen(explanation)
-        show(text if index is None else explanation.why(index), asked.pager)
-        if dump.sketch.system in ("", BARE) and dump.sketch.warnings and not asked.all:
-            say("\n".join(dump.sketch.warnings))
+        text = whole(tree, style) if asked.all else screen(Explanation(dump, asked.all, style))
+        show(text if index is None else why(tree, asked.all, style), asked.pager)
+        if tree["system"] in ("", BARE) and tree["warnings"] and not asked.all:
+            say("\n".join(tree["warnings"]))
+    status: int = tree["status"]
     return status
 
 

@@ -1,8 +1,6 @@
 """What is known of a dump with both its answers, by index: the text, the JSON and the pictures are all made of this."""
 from __future__ import annotations
 
-import re
-from functools import lru_cache
 from typing import Dict, FrozenSet, Iterable, Iterator, List, NamedTuple, Optional, Tuple
 
 from .dump import Dump
@@ -15,6 +13,7 @@ from .rule import STATUSES, Decision, Headline
 from .roots import Knots, Roots, count_waiters, edges_among, ends, way, without_hubs
 from .sketch import ALL, ANY, ENDED, LIMIT, RUNS, UNKNOWN, Process, premise
 from .stuck import Answer, Waits
+from .words import first_words, with_address
 
 # Verdicts, beside ENDED.
 STUCK, LIKELY, UNDECIDED, NOT_STUCK = "stuck", "likely", "undecided", "not_stuck"
@@ -23,22 +22,12 @@ MINUTE = 60  # seconds
 RUNNING, MESSAGE, COME = "runs", "message_in_transit", "all_have_come"  # why one goes on by itself
 
 
-END_OF_WHAT = re.compile(r"; | at | in |: | \[|, which | \(descriptor")
-ADDRESS = re.compile(r"0x0*([0-9a-f]{6,})")
-
-
 class Waiters(NamedTuple):
     """Who depends on an unknown one: how many, whether that is the whole number, and the nearest of them."""
 
     number: int
     is_whole: bool
     nearest: List[int]
-
-
-@lru_cache(maxsize=1024)
-def first_words(note: str) -> str:
-    """Returns what a note says first, which is at what one waits."""
-    return END_OF_WHAT.split(shown(note), 1)[0]
 
 
 class Verdicts:
@@ -51,7 +40,6 @@ class Verdicts:
         self.quiet = {at for at in range(waits.number) if waits.processes[at].sign is Sign.RESTS and at not in inside}
         self.undecided = [at for at in high.members() if at not in inside and at not in self.quiet]
         self.well = [at for at in range(waits.number) if not high.inside[at] or at in self.quiet]
-
 
 
 def is_limited_still(process: Process) -> bool:
@@ -119,6 +107,14 @@ class Findings(Verdicts):
                                       if not waits.isdisjoint(names)]
         return self.known_doubts[key]
 
+    def reason_of_doubt(self, doubt: Doubt) -> str:
+        """Returns why all of those rest of whom a doubt is, or in which function they poll, or nothing."""
+        index = self.waits.index
+        there = [self.waits.processes[index[name]] for name in doubt.who if name in index]
+        reasons = {process.reason if doubt.sign is not Sign.POLLS else "".join(process.frames[:1]).partition(" (")[0]
+                   for process in there}
+        return reasons.pop() if len(reasons) == 1 else ""
+
     # One process
 
     def process(self, at: int) -> Process:
@@ -142,12 +138,8 @@ class Findings(Verdicts):
     def what(self, at: int, has_address: bool = True) -> str:
         """Returns at what one waits."""
         process = self.waits.processes[at]
-        what = first_words(process.note or process.operation)
-        if not has_address or not process.objects:
-            return what
-        address = next((text for text in process.objects if ADDRESS.fullmatch(text)), "")
-        short = ADDRESS.sub(r"0x\1", address)
-        return what + (f" {short}" if address and address not in what else "")
+        what = shown(first_words(process.note or process.operation))
+        return with_address(what, process.objects if has_address else ())
 
     def goes_on(self, at: int) -> Optional[str]:
         """Returns why one goes on by itself, if it does whatever unknown ones do."""

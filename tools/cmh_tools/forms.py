@@ -7,7 +7,7 @@ import stat
 import sys
 from typing import Any, Iterator, Optional
 
-from .answer import Tree, answer, text_of_answer
+from .answer import Tree
 from .comparison import Comparison
 from .dot import dot
 from .drawing import drawings
@@ -15,6 +15,8 @@ from .explain import Explanation
 from .files import Failure, Refusal, read_text, write_out, write_texts
 from .page import Older, Page
 from .picture import Picture
+from .say.as_json import text_of_answer
+from .say.whole import summary
 from .svg import check_graphviz, svg
 
 MOST_OF_STATES = 2_000_000  # characters, in a page
@@ -27,11 +29,11 @@ def check_form(asked: Any) -> None:
             check_graphviz()
 
 
-def write_form(asked: Any, explanation: Explanation, noted: Optional[str], index: Optional[int],
+def write_form(asked: Any, tree: Tree, explanation: Explanation, index: Optional[int],
                old: Optional[Explanation]) -> None:
     """Writes an answer in the form that is asked for."""
     if asked.json:
-        write_out(text_of_answer(answer(explanation, noted, index)))
+        write_out(text_of_answer(tree))
     elif asked.dot:
         write_out(dot(Picture(explanation, index, asked.all)))
     elif asked.svg:
@@ -39,7 +41,7 @@ def write_form(asked: Any, explanation: Explanation, noted: Optional[str], index
             picture = svg(Picture(explanation, index, asked.all))
         write_out(picture)
     else:
-        write_page(asked, explanation, answer(explanation, noted, index), index, old)
+        write_page(asked, explanation, tree, index, old)
 
 
 def write_page(asked: Any, explanation: Explanation, tree: Tree, index: Optional[int],
@@ -48,11 +50,10 @@ def write_page(asked: Any, explanation: Explanation, tree: Tree, index: Optional
     states = [(os.path.basename(path), read_text(path)) for path in asked.state]
     if sum(len(lines) for _, lines in states) > MOST_OF_STATES:
         raise Refusal(f"--state: a page takes states of at most {MOST_OF_STATES:,} characters")
-    summary = explanation.summary(index)
     drawn, *beside = drawings([(explanation, index), *([] if old is None else [(old, None)])])
     older = None if old is None else Older(Comparison(old, explanation), beside[0].beside())
     write_texts([(asked.html, Page(explanation, tree, drawn, states, older).html())])
-    write_out(summary)
+    write_out(summary(tree, explanation.style))
 
 
 @contextlib.contextmanager

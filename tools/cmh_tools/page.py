@@ -10,7 +10,7 @@ from typing import Collection, Dict, Iterable, Iterator, List, NamedTuple, Optio
 from . import VERSION
 from .answer import Tree
 from .comparison import CHANGES, Comparison, RootChange
-from .explain import Explanation, number_of
+from .explain import Explanation
 from .files import MOST_OF_LINE, escaped, shown
 from .drawing import Drawing
 from .page_data import WORDS, Data, end_words, said_of, text_of_data
@@ -19,6 +19,7 @@ from .picture import headline, restarts
 from .proposals import legend
 from .sketch import ALL, ANY, UNKNOWN
 from .steps import next_steps, ways_of
+from .words import number_of
 
 ROWS, ROOTS, NAMES, STEPS, LINES = 100_000, 50, 5, 3, 100  # as many are shown, unless all are asked for
 PAPER = 100  # rows of the table that needs no script, and is printed

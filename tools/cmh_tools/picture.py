@@ -7,11 +7,12 @@ from collections import Counter
 from typing import Collection, Dict, FrozenSet, Iterator, List, NamedTuple, Optional, Set, Tuple
 
 from .arrow_words import by_first, far_words, reach_of, words_of
-from .explain import Explanation, number_of
+from .explain import Explanation
 from .files import short_name, shown
 from .folding import (BEHIND, FREE, MORE, MOST, OPEN, OVER, ROOT, RUNNING, SHARED, SMALL, SORTS, UNDECIDED, Folding,
                       Part, Row, stand_for_others)
 from .sketch import ALL, ANY, UNKNOWN
+from .words import number_of
 
 NAMES, ARROWS, WAYS = 3, 6, 2  # of a box: names, arrows, and those of several behind a root
 PART = 4  # one of so many at a place is a good part of a box

@@ -12,8 +12,9 @@ from functools import cached_property, lru_cache
 from typing import Dict, Iterable, List, NamedTuple, Optional, Sequence, Set, Tuple, Union
 
 from .cures import unit_words, words_of
-from .doubts import STAND_INS, Doubt
-from .explain import Explanation, number_of, runs_of
+from .doubt_words import STAND_INS
+from .doubts import Doubt
+from .explain import Explanation
 from .files import short_name, shown
 from .model import Sign, Strength, Wakers
 from .nearness import MAY_HAVE
@@ -21,6 +22,7 @@ from .rule import Headline
 from .sketch import ALL, ANY, ENDED, OF_SERVER, REST, UNREADABLE
 from .systems import KERNEL, all_described, described
 from .terminal import AsItIs, Painted, fill, paint_line
+from .words import few, number_of, runs_of
 
 WIDTH = 80
 MEMBERS, ROOTS, DOUBTS, ENDS, CURES, BUSY = 4, 5, 4, 4, 4, 2  # of each, as many are shown; the others are counted
@@ -389,11 +391,7 @@ class Screen:
 
     def some(self, names: Iterable[str], last: str = ", ", number: int = 0) -> str:
         """Returns some names, or the first of them: of so many, if they are those of more."""
-        texts = list(names)
-        number = max(number, len(texts))
-        if number > NAMES + 1:
-            return f"{', '.join(texts[:NAMES])} and {number - NAMES:,} more"
-        return last.join([*filter(None, [", ".join(texts[:-1])]), *texts[-1:]])
+        return few(names, NAMES, last, number, NAMES + 1)
 
     def frames(self, index: int) -> str:
         """Returns the innermost frames of the program's own, as many as fit: the first with its line."""
