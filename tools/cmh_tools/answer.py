@@ -14,7 +14,7 @@ from .doubts import Doubt
 from .dump import Dump
 from .files import short_name
 from .findings import LIKELY, NOT_STUCK, STUCK, UNDECIDED, Findings, Waiters
-from .model import Anybody, Sign, Wakers
+from .model import Anybody, Wakers
 from .nearness import MAY_HAVE
 from .program import identity
 from .proposals import legend

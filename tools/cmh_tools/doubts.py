@@ -3,7 +3,6 @@ of the likely ones, with a number, and with the lines of facts that say that it 
 doubts as facts has the same answer for certain."""
 from __future__ import annotations
 
-import re
 from dataclasses import replace
 from typing import AbstractSet, Dict, Iterable, Iterator, List, NamedTuple, Optional, Sequence, Set, Tuple
 

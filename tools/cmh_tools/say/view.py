@@ -25,7 +25,7 @@ class View:
     def __init__(self, tree: Tree, everything: bool = False, style: Style = PLAIN) -> None:
         self.tree, self.everything, self.style = tree, everything, style
         self.rows: List[Tree] = tree["processes"]
-        self.index = {row["name"]: at for at, row in enumerate(self.rows)}
+        self.index = {row["name"]: index for index, row in enumerate(self.rows)}
         self.roots: List[List[int]] = [self.numbers(root["members"]) for root in tree["roots"]]
         self.doubts: Dict[int, Tree] = {row["number"]: row for row in tree["doubts"]}
 
@@ -33,7 +33,7 @@ class View:
         return [*map(self.index.__getitem__, names)]
 
     def with_verdict(self, *verdicts: str) -> List[int]:
-        return [at for at, row in enumerate(self.rows) if row["verdict"] in verdicts]
+        return [index for index, row in enumerate(self.rows) if row["verdict"] in verdicts]
 
     @cached_property
     def undecided(self) -> List[int]:
@@ -59,57 +59,57 @@ class View:
 
     # One process
 
-    def name(self, at: int) -> str:
-        return short_name(self.rows[at]["name"]) or "''"
+    def name(self, index: int) -> str:
+        return short_name(self.rows[index]["name"]) or "''"
 
-    def note(self, at: int) -> str:
-        return shown(self.rows[at]["note"])
+    def note(self, index: int) -> str:
+        return shown(self.rows[index]["note"])
 
-    def what(self, at: int, has_address: bool = True) -> str:
+    def what(self, index: int, has_address: bool = True) -> str:
         """Returns at what one waits."""
-        row = self.rows[at]
+        row = self.rows[index]
         return with_address(shown(row["what"]), row["objects"] if has_address else ())
 
-    def is_quiet(self, at: int) -> bool:
+    def is_quiet(self, index: int) -> bool:
         """Whether one rests, and tells of no stall."""
-        return self.rows[at]["sign"] == RESTS and self.rows[at]["verdict"] not in (STUCK, LIKELY)
+        return self.rows[index]["sign"] == RESTS and self.rows[index]["verdict"] not in (STUCK, LIKELY)
 
-    def is_blocked(self, at: int) -> bool:
+    def is_blocked(self, index: int) -> bool:
         """Whether one waits, as nothing has ended its wait."""
-        return self.rows[at]["sign"] == BLOCKED and self.rows[at]["goes_on"] is None
+        return self.rows[index]["sign"] == BLOCKED and self.rows[index]["goes_on"] is None
 
-    def answer(self, at: int) -> str:
+    def answer(self, index: int) -> str:
         """Returns what is known of one, in a few words."""
-        row = self.rows[at]
+        row = self.rows[index]
         stuck = "likely stuck" if row["verdict"] == LIKELY else "stuck"
         if row["root"] or row["behind"]:
-            return f"{stuck} in root {row['root']}" if row["root"] else f"{stuck} behind {self.root_names(at)}"
+            return f"{stuck} in root {row['root']}" if row["root"] else f"{stuck} behind {self.root_names(index)}"
         if row["kind"] == ENDED:
             return "has ended" if row["reason"] == DONE else "has ended and is still needed"
-        if self.is_quiet(at):
+        if self.is_quiet(index):
             return shown(row["reason"])
         if row["kind"] == UNKNOWN:
             return "unknown"
         return "undecided" if row["verdict"] == UNDECIDED else "runs" if row["kind"] == RUNS else "not stuck"
 
-    def root_names(self, at: int) -> str:
-        numbers = [*map(str, self.rows[at]["behind"])]
+    def root_names(self, index: int) -> str:
+        numbers = [*map(str, self.rows[index]["behind"])]
         return f"root {numbers[0]}" if len(numbers) == 1 else f"the roots {', '.join(numbers)}"
 
-    def goes_on_words(self, at: int) -> str:
+    def goes_on_words(self, index: int) -> str:
         """Returns why one goes on by itself."""
-        return GOES_ON.get(self.rows[at]["goes_on"] or "", "runs")
+        return GOES_ON.get(self.rows[index]["goes_on"] or "", "runs")
 
     # Whom one waits for
 
-    def whom(self, at: int, with_against: bool = False) -> List[str]:
+    def whom(self, index: int, with_against: bool = False) -> List[str]:
         """Returns for whom one waits, those besides too, by the order of its wakers, maybe with those against."""
-        row = self.rows[at]
+        row = self.rows[index]
         if row["waits_for_list"] is not None:
             return self.list_named(row["waits_for_list"])
         left = {*row["waits_for"], *row["besides"], *(name for one in row["one_of"] for name in self.list_named(one))}
-        some = (wakers for part in row["wakers"] for wakers in part if with_against or wakers["strength"] != "against")
-        return [*dict.fromkeys(name for wakers in some for name in self.names_of(wakers) if name in left)]
+        groups = (group for part in row["wakers"] for group in part if with_against or group["strength"] != "against")
+        return [*dict.fromkeys(name for wakers in groups for name in self.names_of(wakers) if name in left)]
 
     def names_of(self, wakers: Tree) -> List[str]:
         """Returns the names of some wakers."""
@@ -120,23 +120,23 @@ class View:
         names: List[str] = self.tree["lists"][name]
         return names
 
-    def is_for_all(self, at: int) -> bool:
+    def is_for_all(self, index: int) -> bool:
         """Whether one waits, or has waited, for all of some."""
-        wakers = self.rows[at]["wakers"]
+        wakers = self.rows[index]["wakers"]
         return len(wakers) > 1 or bool(wakers) and COMES in [group["how"] for group in wakers[0]]
 
-    def wait(self, at: int, alone: bool = True) -> str:
+    def wait(self, index: int, alone: bool = True) -> str:
         """Returns whom one waits for, in words; also of several that are alike."""
-        row = self.rows[at]
+        row = self.rows[index]
         if row["kind"] in (ANY, ALL):
-            return self.wait_for_all(at) if self.is_for_all(at) else self.wait_for_any(at, alone)
+            return self.wait_for_all(index) if self.is_for_all(index) else self.wait_for_any(index, alone)
         if row["kind"] == ENDED:
-            return self.answer(at)
+            return self.answer(index)
         reason = row["reason"] if row["kind"] == RUNS else row["why_unknown"]
         return f"{'runs' if row['kind'] == RUNS else 'is unknown'}{f': {shown(reason)}' if reason else ''}"
 
-    def wait_for_any(self, at: int, alone: bool) -> str:
-        whom, itself = self.whom(at), self.rows[at]["name"] if alone else None
+    def wait_for_any(self, index: int, alone: bool) -> str:
+        whom, itself = self.whom(index), self.rows[index]["name"] if alone else None
         names = [f"{short_name(name)}{self.ended_word(name)}" for name in whom if name != itself]
         names += ["itself"] if itself in whom else []
         return f"waits for {'any of ' if names[1:] else ''}{self.some(names)}" if names else "can never be unblocked"
@@ -144,25 +144,25 @@ class View:
     def ended_word(self, name: str) -> str:
         return " (has ended)" if self.rows[self.index[name]]["sign"] == OVER else ""
 
-    def wait_for_all(self, at: int) -> str:
+    def wait_for_all(self, index: int) -> str:
         """Returns whom one needs, of those that have not come, with what is known of each: stuck ones first. Once all
         others have come, any of several may be enough."""
         groups: Dict[str, List[str]] = {}
-        for other in sorted(self.numbers(self.whom(at, True)), key=lambda other: not self.is_inside(other)):
+        for other in sorted(self.numbers(self.whom(index, True)), key=lambda other: not self.is_inside(other)):
             groups.setdefault(self.answer(other), []).append(self.name(other))
         words = [f"{self.some(names)} ({answer})" for answer, names in groups.items()]
-        which = "all" if self.rows[at]["kind"] == ALL else "any"
+        which = "all" if self.rows[index]["kind"] == ALL else "any"
         return f"waits for {which} of {', '.join(words)}" if words else "waits for all of its list, and all have come"
 
-    def is_inside(self, at: int) -> bool:
+    def is_inside(self, index: int) -> bool:
         """Whether one is stuck, or frees nobody as it has ended."""
-        return self.rows[at]["verdict"] in (STUCK, LIKELY, ENDED)
+        return self.rows[index]["verdict"] in (STUCK, LIKELY, ENDED)
 
     # Doubts
 
     def doubt_words(self, doubt: Tree, members: Sequence[int]) -> str:
         """Returns in words what a doubt about some says."""
         waits: Set[str] = set(doubt["waits"])
-        whom = [self.name(at) for at in members if self.rows[at]["name"] in waits] or \
+        whom = [self.name(index) for index in members if self.rows[index]["name"] in waits] or \
             list(map(short_name, doubt["waits"]))
         return sentence(doubt, whom, max(len(whom), len(doubt["who"])) if self.everything else NAMES)

@@ -5,12 +5,13 @@ from __future__ import annotations
 from collections import Counter
 from typing import Callable, Dict, Iterable, Iterator, List, Sequence
 
+from ..doubt_words import NAMES
 from ..files import MOST_OF_LINE, short_name, shown
 from ..sketch import ALL, ANY, LIMIT, PREMISE
 from ..terminal import PLAIN, AsItIs, Painted, Style, fill, lay_out, paint_line
 from ..words import few, number_of
 from .reasons import more_lines, rests_lines
-from .view import GOES_ON, LIKELY, LINES, NAMES, NOT_STUCK, RUNNING, STUCK, UNDECIDED, Tree, View
+from .view import GOES_ON, LIKELY, LINES, NOT_STUCK, RUNNING, STUCK, UNDECIDED, Tree, View
 
 UNSAID = "it isn't said why"
 
@@ -18,23 +19,23 @@ UNSAID = "it isn't said why"
 class Whole(View):
     """All that is said of an answer."""
 
-    def lines(self, at: int, more: Sequence[int] = ()) -> List[str]:
+    def lines(self, index: int, more: Sequence[int] = ()) -> List[str]:
         """Returns the line of one, or of it and more that are alike, and one of the note."""
-        row, note = self.rows[at], self.note(at)
+        row, note = self.rows[index], self.note(index)
         where = f" on {short_name(row['site'])}" if row["site"] is not None else ""
-        names = self.some([self.name(it) for it in (at, *more)])
-        line = f"  {names}{where}{': each' if more else ''} {self.wait(at, not more)}"
-        effect = shown(row["effect"]) if not more and self.is_inside(at) else ""
+        names = self.some([self.name(it) for it in (index, *more)])
+        line = f"  {names}{where}{': each' if more else ''} {self.wait(index, not more)}"
+        effect = shown(row["effect"]) if not more and self.is_inside(index) else ""
         return [line, *(f"      {text}" for text in (note, effect) if text)]
 
-    def group(self, some: Iterable[int], end: Callable[[List[int]], str] = lambda row: "") -> List[str]:
+    def group(self, listed: Iterable[int], end: Callable[[List[int]], str] = lambda row: "") -> List[str]:
         """Returns the lines of a list in which those that are alike share one. `end` gives what a line ends with."""
         groups: Dict[object, List[int]] = {}
-        for at in some:
-            row = self.rows[at]
-            whom = row["waits_for_list"] or (*self.whom(at, True), *row["one_of"])
-            alike = row["kind"], whom, self.note(at), row["site"], row["reason"]
-            groups.setdefault(alike, []).append(at)
+        for index in listed:
+            row = self.rows[index]
+            whom = row["waits_for_list"] or (*self.whom(index, True), *row["one_of"])
+            alike = row["kind"], whom, self.note(index), row["site"], row["reason"]
+            groups.setdefault(alike, []).append(index)
         rows = list(groups.values())
         most = len(rows) if self.everything else LINES
         lines = []
@@ -50,7 +51,7 @@ class Whole(View):
         counts = self.tree["counts"]
         yield self.head()
         yield from self.all_roots()
-        shared = [at for at, row in enumerate(self.rows) if row["root"] is None and len(row["behind"]) > 1]
+        shared = [index for index, row in enumerate(self.rows) if row["root"] is None and len(row["behind"]) > 1]
         if shared:
             yield self.behind_several(shared)
         if self.roots:
@@ -95,7 +96,7 @@ class Whole(View):
 
     def cycle_lines(self, number: int) -> List[str]:
         """Returns the line that draws a root that is one cycle, with as many of its names as fit."""
-        names = [self.name(at) for at in self.roots[number] if self.tree["roots"][number]["is_cycle"]]
+        names = [self.name(index) for index in self.roots[number] if self.tree["roots"][number]["is_cycle"]]
         for most in range(min(len(names), self.style.width // 4), 1, -1):
             more = [f"{len(names) - most:,} more"] if names[most:] else []
             line = "  " + f" {self.style.arrow} ".join([*names[:most], *more, names[0]])
@@ -128,9 +129,9 @@ class Whole(View):
     def behind_several(self, shared: List[int]) -> List[str]:
         lines: List[str] = [paint_line(f"Stuck behind more than one root: {number_of(len(shared))}", STUCK)]
         most = len(shared) if self.everything else LINES
-        for at in shared[:most]:
-            first, *more = self.lines(at)
-            lines += [f"{first} ({self.root_names(at)})", *more]
+        for index in shared[:most]:
+            first, *more = self.lines(index)
+            lines += [f"{first} ({self.root_names(index)})", *more]
         if shared[most:]:
             lines.append(f"  and {number_of(len(shared) - most)} more (--all shows them)")
         return lines
@@ -194,8 +195,8 @@ class Whole(View):
         head = f"Not stuck: {number_of(len(well))}, as far as the state shows. That doesn't mean that they make " \
             "progress."
         lines: List[str] = [paint_line(head, ("Not stuck", NOT_STUCK))]
-        running = [at for at in well if self.rows[at]["goes_on"] == RUNNING or self.is_quiet(at)]
-        why = Counter(shown(self.rows[at]["reason"]) or UNSAID for at in running)
+        running = [index for index in well if self.rows[index]["goes_on"] == RUNNING or self.is_quiet(index)]
+        why = Counter(shown(self.rows[index]["reason"]) or UNSAID for index in running)
         words = "; ".join(f"{number:,}: {reason}" for reason, number in why.most_common())
         if running:
             lines.append(f"  {number_of(len(running), 'runs', 'run')}" + (f" ({words})" if set(why) - {UNSAID} else ""))
@@ -204,35 +205,35 @@ class Whole(View):
     def followers(self, well: List[int]) -> List[str]:
         """Those that others hang on, with these, and others that go on by themselves."""
         followers: Dict[int, List[str]] = {}
-        for at in self.along_paths():
-            followers.setdefault(self.index[self.rows[at]["unblocked_by"]], []).append(self.name(at))
+        for index in self.along_paths():
+            followers.setdefault(self.index[self.rows[index]["unblocked_by"]], []).append(self.name(index))
         rows = sorted(followers.items(), key=lambda row: -len(row[1]))
         lines = self.first([f"  {self.name(end)}, which {self.goes_on_words(end)}, may unblock {self.some(names)}"
                             for end, names in rows], ("process", "processes"))
-        alone = [at for at in well if self.rows[at]["goes_on"] in GOES_ON and at not in followers]
-        return lines + self.first([f"  {self.name(at)}: {self.goes_on_words(at)}" for at in alone],
+        alone = [index for index in well if self.rows[index]["goes_on"] in GOES_ON and index not in followers]
+        return lines + self.first([f"  {self.name(index)}: {self.goes_on_words(index)}" for index in alone],
                                   ("process", "processes"))
 
     def along_paths(self) -> List[int]:
         """Returns those whom somebody may unblock, each followed by the others on its path."""
-        found: Dict[int, None] = {}
-        for at in range(len(self.rows)):
-            while self.rows[at]["unblocked_by"] is not None and at not in found:
-                found[at] = None
-                at = self.index[self.rows[at]["freed_by"]]
-        return [*found]
+        seen: Dict[int, None] = {}
+        for index in range(len(self.rows)):
+            while self.rows[index]["unblocked_by"] is not None and index not in seen:
+                seen[index] = None
+                index = self.index[self.rows[index]["freed_by"]]
+        return [*seen]
 
     def supposed_lines(self, running: List[int]) -> List[str]:
         """Those that run on a premise alone, but for a limit of their wait."""
         names: Dict[str, List[str]] = {}
-        for at in running:
-            reasons = self.rows[at]["rests_on"] if self.rows[at]["goes_on"] == RUNNING else ()
+        for index in running:
+            reasons = self.rows[index]["rests_on"] if self.rows[index]["goes_on"] == RUNNING else ()
             for word, _, name in (reason.partition(" ") for reason in reasons):
                 if word == PREMISE and name != LIMIT:
-                    names.setdefault(name, []).append(self.name(at))
+                    names.setdefault(name, []).append(self.name(index))
         sentences = {row["name"]: row["text"] for row in self.tree["premises"]}
-        return self.first([f"  on the premise that {shown(sentences.get(name, name))}: {self.some(some)}"
-                           for name, some in names.items()], ("premise", "premises"))
+        return self.first([f"  on the premise that {shown(sentences.get(name, name))}: {self.some(others)}"
+                           for name, others in names.items()], ("premise", "premises"))
 
     def limited_lines(self) -> List[str]:
         """Those that wait with a limit and stood at the same place in all states, with what would decide them."""
@@ -252,8 +253,8 @@ class Whole(View):
                 "that it hasn't follows from the others."] if words else []
 
     def warnings(self) -> List[str]:
-        found = [f"  {shown(line)}" for line in self.tree["warnings"]]
-        return ["Warnings:"] + self.first(found, ("warning", "warnings")) if found else []
+        lines = [f"  {shown(line)}" for line in self.tree["warnings"]]
+        return ["Warnings:"] + self.first(lines, ("warning", "warnings")) if lines else []
 
     # One process and why
 
@@ -262,17 +263,17 @@ class Whole(View):
         answer = self.answer(self.index[why["name"]])
         return paint_line(f"{short_name(why['name']) or repr('')}: {answer}.", (answer, why["verdict"]))
 
-    def why(self) -> List[str]:
+    def why(self) -> List[List[str]]:
         """Returns the chain from the one that is asked for to what its answer rests on."""
         chain = self.numbers(self.tree["why"]["chain"])
         root, end = self.rows[chain[-1]]["root"], chain[-1]
         lines: List[str] = [self.why_head()]
         rests = rests_lines(self.tree, self.tree["why"]["rests_on"], self.everything)
         if root:
-            lines += [line for at in chain[:-1] for line in self.lines(at)]
+            lines += [line for index in chain[:-1] for line in self.lines(index)]
             return [lines, [*self.root_head(root - 1), *self.group(self.roots[root - 1]), *self.doubt_lines(root - 1),
                             *rests]]
-        lines += [line for at in chain for line in self.lines(at)]
+        lines += [line for index in chain for line in self.lines(index)]
         if self.rows[chain[0]]["verdict"] != UNDECIDED and self.rows[end]["kind"] in (ANY, ALL):
             lines.append(f"{self.name(end)}: {self.goes_on_words(end)}")
         return [[*lines, *rests]]
