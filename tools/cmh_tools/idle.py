@@ -36,9 +36,9 @@ def leave_out(sketch: Sketch, what: str) -> None:
 
 
 def is_stand_in(process: Process) -> bool:
-    """Whether it is nobody of the system, but stands for others who may not be there."""
+    """Whether it is nobody of the system, but stands for others who may not be there: it has no place."""
     return process.sign is Sign.UNKNOWN and process.frames == [process.name] and process.name != REST \
-        and process.site is None and not process.is_garbled
+        and process.site is None and not process.operation and not process.is_garbled
 
 
 def has_fact(process: Process) -> bool:
