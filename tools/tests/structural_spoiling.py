@@ -26,7 +26,7 @@ KEPT = 400  # values of a kind that are kept to be taken from other cases
 ALL, SEVERAL = -1, -2  # the numbers that stand for all looks, and for some of them in different ways
 INEVITABLE = {
     "number": "a limit, a mask, a flag, a count or a time is another one in all looks, or shows a move in one",
-    "row": "a row, a block or an entry of a list is gone, or one of another case is there, where nothing counts it",
+    "row": "a row, a block, an entry of a list or a mark is gone, or one of another case is there, uncounted",
     "name": "a word or a number is another one everywhere",
     "place": "a word of a place is another one in all looks, or in one of one whose moves nothing counts, or that has "
              "moved",
@@ -45,6 +45,10 @@ COUNTED = re.compile(r'"counts"|"stops"|"calls"|{reductions,|voluntary_ctxt_swit
 # What counts the moves of one, with its value.
 COUNTS = re.compile(r'"(?:counts|stops|spent|calls|switches|entered)": ?(?:\[[^]]*\]|\d+)|{reductions,\d+}'
                     r'|cpu=[\d.]+ms|"query_start": ?"[^"]*"|"query_id": ?\d+|"(?:recv|send)_oct": ?\d+')
+BESIDE = "doubled, then taken from another case"  # an entry of a list, with one of another case beside it
+ENTRIES = {"fds", "handlers", "callers", "parents"}  # objects whose keys are entries
+MARKS = ("is_all", "is_full", "is_direct")  # keys that old rows of a heap have where they say something, and else not
+COMES = ("tid", "start")  # another number of one of these is a thread or a process that has come for one that has ended
 SWEEPING = re.compile(r"^\*\s+->\s+(runs|ended)", re.M)  # a fact that decides all who aren't understood
 ODD: List[Any] = [None, 0, 1, -1, "", "0", [], {}, True, False, 1 << 62, 0.5, "x"]
 
@@ -304,13 +308,16 @@ class Spoiler:
         is_json, is_list = isinstance(path[0], str) or len(path) > 1, isinstance(value, (list, dict))
         if is_json and is_list and COUNTS.search(text_of_json(value)) and how == "taken from another case":
             return "row"
-        if how.startswith("doubled") or is_json and TOLD_TWICE.match(key):
+        is_beside = how == BESIDE and isinstance(value, dict) and not isinstance(path[-1], str)
+        if is_beside or how == "lost" and key in MARKS:
+            return "row"
+        if how.startswith("doubled") or is_json and TOLD_TWICE.match(key) and not (key in COMES and look != ALL):
             return ""
-        is_entry = not isinstance(path[-1], str) and is_json or key in ("fds", "handlers", "callers", "parents")
+        is_entry = not isinstance(path[-1], str) and is_json or not ENTRIES.isdisjoint(path[-2:])
         if how in ("lost", "emptied", "cut") and (is_entry or is_list):
             return "row" if look == ALL or isinstance(value, dict) or key == "threads" else ""
         if look != ALL:
-            is_move = MOVES.match(key) and how != "lost"
+            is_move = (MOVES.match(key) or key in COMES) and how != "lost"
             return "number" if is_move else "" if self.is_counted(at) or how == "lost" and is_json else "place"
         if is_json and how == "lost":
             return ""
