@@ -277,9 +277,10 @@ def shared_frames(first: Iterable[Any], later: Iterable[Any]) -> int:
 
 def is_step(one: Sequence[Any], other: Sequence[Any]) -> bool:
     """Whether a frame may have come in the place of another one."""
+    is_another = one[3:] != other[3:] or not any(one[3:])  # (no address is that of two lines)
     if one[0] != other[0]:
-        return one[1:3] != other[1:3] or one[2] is None
-    return bool(one[1] == other[1] and (one[2] == other[2] or one[3:] != other[3:] or not any(one[3:])))
+        return is_another and (one[1:3] != other[1:3] or one[2] is None)
+    return one[1] == other[1] and (one[2] == other[2] or is_another)
 
 
 def leaver_of(process: Process, why: str, last: Sign) -> Process:

@@ -3,9 +3,10 @@ whoever runs is counted, and who is linked or monitored is there.
 """
 from __future__ import annotations
 
-from typing import Dict, Iterator, List, Set, Tuple
+from typing import Dict, Iterator, List, Sequence, Set, Tuple
 
 from ...snapshots import PARTS, Reading
+from .readings import NodeReading
 from .text import PID, Block
 
 NEWER = "it wasn't there before, and processes that are newer were"
@@ -22,21 +23,25 @@ def doubt_blocks(readings: List[Reading]) -> None:
             first.fault, block.fault = first.fault or why, block.fault or why
 
 
-def doubt_readings(readings: List[Reading]) -> None:
+def doubt_readings(readings: Sequence[Reading]) -> None:
     """Says of those that came between two looks that they aren't understood, where newer ones were there before; and of
-    a look that it lacks processes, where those of it name one that another look has."""
+    a look that it lacks processes, where those of it name one that another look has. Nothing is known of receives of
+    which two looks say different things."""
     for first, second in pairs_of(readings):
         there, later = ({block.pid for block in reading.rows} for reading in (first, second))
         newest = max(map(age_of, there), default=())
         doubt_newcomers([block for block in second.rows if block.pid not in there and age_of(block.pid) < newest])
+        for function in first.receives.keys() & second.receives.keys():
+            if first.receives[function] != second.receives[function]:  # (its code says one thing)
+                del first.receives[function], second.receives[function]
         lack_named(first, later - there)
         lack_named(second, there - later)
 
 
-def pairs_of(readings: List[Reading]) -> Iterator[Tuple[Reading, Reading]]:
+def pairs_of(readings: Sequence[Reading]) -> Iterator[Tuple[NodeReading, NodeReading]]:
     """Yields each two looks at a node of which one follows the other."""
-    last: Dict[str, Reading] = {}
-    for reading in readings:
+    last: Dict[str, NodeReading] = {}
+    for reading in (reading for reading in readings if isinstance(reading, NodeReading)):
         if reading.source in last:
             yield last[reading.source], reading
         last[reading.source] = reading

@@ -178,10 +178,13 @@ class Block:
         return self.stack[0].partition(" (")[0].replace(":", ".")
 
     def contradicts(self, later: Block) -> str:
-        """Returns what shows that two texts of a process can't be of one, or nothing: whoever runs is counted."""
+        """Returns what shows that two texts of a process can't be of one, or nothing: whoever runs is counted, and
+        began once."""
         counts = [int(block.count) for block in (self, later) if block.count is not None]
         if counts[1:] and counts[1] < counts[0]:
             return "its count of reductions is lower than before"
+        if self.items.get("initial_call") != later.items.get("initial_call"):
+            return "its looks differ in the function that it began in"
         is_same = counts[1:] and counts[0] == counts[1]
         return "its stack is another one, and it hasn't run since" if is_same and self.place != later.place else ""
 

@@ -17,7 +17,7 @@ from ...files import Refusal, shown
 
 HEADER = re.compile(r"goroutine (?P<id>\d+)(?: gp=\S+)?(?: m=\S+)?(?: mp=\S+)? \[(?P<state>.*)\](?: \{.*\})?:\s*")
 # Of a package, and perhaps of a type.
-FUNCTION = re.compile(r"panic|[^\s.()][^\s()]*\.(?:\(\*[^()*[\]]+(?:\[[^()]*\])?\)\.)?[^()]+")
+FUNCTION = re.compile(r"panic|[^\s.()][^\s()]*\.(?:\(\*[^()*[\]]+(?:\[[^()]*\])?\)\.)?(?:[^\s()[\]]|\[[^()]*\])+")
 PLACE = re.compile(r"\t(?P<file>.*):(?P<line>\d{1,9})(?: (?P<offset>\+0x[0-9a-f]+))?"
                    r"(?: fp=(?P<fp>\S+) sp=(?P<sp>\S+).*)?\s*")
 CREATED = re.compile(r"created by (?P<function>.*?)(?: in goroutine (?P<parent>\d+))?\s*")

@@ -2,8 +2,9 @@
 stood from the one to the next."""
 from __future__ import annotations
 
+import re
 from collections import defaultdict
-from typing import Dict, List, Optional
+from typing import Dict, List, Optional, Tuple
 
 from ...files import Refusal
 from ...snapshots import PARTS, Reading
@@ -12,6 +13,7 @@ from .locks import monitors_of, objects_of
 from .text import Dump, Thread, stack_of
 
 CONTRADICTS = "the states contradict each other in the first line of a thread"
+HIDDEN = re.compile(r"(.+?)[/+](0x[0-9a-f]+)\.")
 TICKS = (10, 15.625)  # milliseconds in which some operating systems count processor time
 VIRTUAL = "jstack shows no virtual threads: take `jcmd PID Thread.dump_to_file -format=json FILE` twice instead"
 
@@ -59,12 +61,20 @@ def doubt_threads(readings: List[Reading]) -> None:
         first, later = before.rows[0], reading.rows[0]
         known = {thread.key: thread for thread in first.threads}
         newest = max((int(thread.number) for thread in first.threads if thread.number), default=0)
+        hidden = {address: name for thread in first.threads for name, address in hidden_in(thread)}
         odd = [thread for thread in later.threads if not is_of_jvm(thread) and not may_follow(
-            known.get(thread.key), thread, newest)]
+            known.get(thread.key), thread, newest) or any(
+                hidden.get(address, name) != name for name, address in hidden_in(thread))]
         for thread in odd:
             known.get(thread.key, thread).fault = thread.fault = thread.fault or f"{thread.place}: {CONTRADICTS}"
         if any(thread.key not in known for thread in odd):
             reading.extent, reading.missing = PARTS, reading.missing or f"{odd[0].place}: {CONTRADICTS}"
+
+
+def hidden_in(thread: Thread) -> List[Tuple[str, str]]:
+    """Returns the names of the hidden classes in whose methods a thread is, each with its address: a class of a lambda
+    has one name."""
+    return [(match[1], match[2]) for frame in thread.frames for match in [HIDDEN.match(frame.method)] if match]
 
 
 def may_follow(before: Optional[Thread], thread: Thread, newest: int) -> bool:

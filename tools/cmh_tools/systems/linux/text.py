@@ -77,6 +77,7 @@ SHAPES = {"version": {"version": int, "machine?": str, "release?": str, "asked?"
 NEEDED = ("SigCgt", "TracerPid", "fds", "timers", "start")
 NEEDED_IN_CALL = ("pending", "wchan")  # and each thread that is in a call
 # Why a process isn't understood that was read.
+ODD_START = "its readings differ in when it began, and it is no newer one"
 ODD_THREADS = "its first thread isn't among its threads", "a thread of it is there twice, or another process's too"
 
 
@@ -461,8 +462,16 @@ def unread_in(readings: Sequence[List[Row]]) -> Dict[int, str]:
     twice = {tid for count in counts for tid, number in count.items() if number > 1}
     pairs = {(thread["tid"], row["pid"]) for row in rows for thread in row.get("threads", ())}
     twice |= {tid for tid, number in Counter(tid for tid, _ in pairs).items() if number > 1}
-    reasons = ((row["pid"], why_unread(row, twice)) for row in rows)
-    return {pid: why for pid, why in reasons if why}
+    reasons = {row["pid"]: why for row in rows for why in [why_unread(row, twice)] if why}
+    return {**dict.fromkeys(begun_before(readings), ODD_START), **reasons}
+
+
+def begun_before(readings: Sequence[List[Row]]) -> Iterator[int]:
+    """Yields the numbers of processes that are others than in the reading before, and began before one of that did."""
+    starts = [{row["pid"]: row["start"] for row in reading if "pid" in row and "start" in row} for reading in readings]
+    for first, later in zip(starts, starts[1:]):
+        newest = max(first.values(), default=0)
+        yield from (pid for pid, start in later.items() if first.get(pid, start) != start < newest)
 
 
 def why_unread(row: Row, twice: AbstractSet[int]) -> str:

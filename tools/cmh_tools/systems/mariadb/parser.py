@@ -279,8 +279,10 @@ def renamed_in(before: Look, look: Look) -> Iterator[int]:
 
 
 def is_newer(row: Row, look: Look) -> bool:
-    """Whether a connection is newer than all of a look."""
-    return all(row["thread"] > other["thread"] for other in look.of("thread"))
+    """Whether a connection is newer than all of a look, and so is what it does."""
+    last = max((other.get("query_id") or 0 for other in look.of("thread")), default=0)
+    is_later = not row.get("query_id") or row["query_id"] > last
+    return is_later and all(row["thread"] > other["thread"] for other in look.of("thread"))
 
 
 def name_of(row: Row) -> str:

@@ -49,6 +49,7 @@ THREAD = {"tid": int, "inner": int, "state": STATE, "call?": CALL, "calls?": int
           "used?": float, "entered?": int,
           "ahead?": object, "meanwhile?": object, "looks?": object}  # (the last 3: of old states)
 SIZE = range(1 << 31)
+WORLD = "1"  # of MPI_COMM_WORLD, which each rank has first
 COMM = {"id": ID, "number": int, "size": SIZE, "rank": int, "inter": int, "root": int, "name": WORD,
         "ranks?": ([int], type(None)), "parent?": ID, "made?": int, "held?": int, "target?": int,
         "alone?": int, "past?": [WORD]}
@@ -114,6 +115,10 @@ def odd_of(row: Row) -> Optional[str]:
         return lost
     if not all(map(is_whole, threads)):
         return "threads"
+    if [comm["id"] for comm in comms[:1]] != [WORLD]:
+        return "comms"
+    if len({thread["tid"] == thread["inner"] for thread in threads}) > 1:  # (all of a process are of one namespace)
+        return "inner"
     twice = next((key for key in ("tid", "inner") if has_twice([thread[key] for thread in threads])), None)
     return twice or ("comms" if has_twice([comm["id"] for comm in comms if comm["id"] != "0"]) else None)
 

@@ -301,6 +301,8 @@ class PostgresParser(Parser):
         is_same, is_another = look.taken == start or end - lasted < start[0], begin - lasted > start[1]
         if is_same and client["request_time"] != first["request_time"]:
             return garbled(name, "its looks differ in since when it waits")
+        if client["request_time"] == first["request_time"] and lasted < seconds_for(first):
+            return garbled(name, "it has waited for less time than before")
         return blocked(name, parts, [SYSTEM, premise(LIMITS)], operation="pool", count=stamp if is_same else None,
                        objects=[stamp, *(["another"] if is_another else [])],
                        site=f"client {name.rpartition(' ')[2]}", frames=[client.get("application_name") or "client"],

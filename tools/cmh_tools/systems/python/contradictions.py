@@ -5,9 +5,11 @@ from __future__ import annotations
 
 from typing import Any, Dict, Iterable, List, Set
 
+from .names import label
 from .text import Look, Row
 
 OTHERS = "its number is another one's in another look"
+OF_LOOP = "the thread of its event loop isn't understood"
 KEPT = {"thread": ("main", "daemon"), "task": ("loop",)}  # what a thread or a task has as long as it lives
 COUNTS = {"thread": "stops", "task": "wait"}
 OF_CALL = ("words", "how", "module", "function", "named")  # what the code says of a call
@@ -20,6 +22,16 @@ def doubt_looks(looks: List[Look]) -> None:
     for first, second in zip(looks, looks[1:]):
         doubt_rows("thread", first.threads, second.threads)
         doubt_rows("task", first.tasks, second.tasks)
+    for look in looks:
+        doubt_loops(look)
+
+
+def doubt_loops(look: Look) -> None:
+    """Says of the tasks of a loop that they aren't understood, where the thread that runs it isn't."""
+    for row in look.tasks.values():
+        loop = look.loops.get(row.more["loop"])
+        thread = look.threads.get(loop["thread"]) if loop is not None else None
+        row.fault = row.fault or (OF_LOOP if thread is not None and thread.fault else "")
 
 
 def doubt_rows(kind: str, first: Dict[Any, Row], second: Dict[Any, Row]) -> None:
@@ -29,7 +41,7 @@ def doubt_rows(kind: str, first: Dict[Any, Row], second: Dict[Any, Row]) -> None
         why = fault_in(kind, was, row, before, after) if was is not None else ""
         if was is not None and why:
             was.fault = row.fault = was.fault or why
-            row.name, row.more = was.name, {**row.more, **{word: was.more[word] for word in (
+            row.name, row.more = label(was), {**row.more, **{word: was.more[word] for word in (
                 NUMBERS[kind], *KEPT[kind]) if word in was.more}}
         elif was is not None and was.more.get(NUMBERS[kind]) == row.more.get(NUMBERS[kind]):
             row.name = was.name  # (a program may rename one)
@@ -55,6 +67,8 @@ def fault_in(kind: str, was: Row, row: Row, before: Set[int], after: Set[int]) -
     counts = was.more.get(COUNTS[kind]), row.more.get(COUNTS[kind])
     if key is not None:
         return f"its looks differ in {key}"
+    if kind == "task" and was.frames and row.frames and was.frames[-1].at != row.frames[-1].at:
+        return "its looks differ in the function that it began in"
     if isinstance(counts[0], int) and isinstance(counts[1], int) and counts[1] < counts[0]:
         return f"its count of {COUNTS[kind]} is lower than before"
     if bool(was.frames) != bool(row.frames) and counts[0] is not None and counts[0] == counts[1]:

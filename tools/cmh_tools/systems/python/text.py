@@ -65,6 +65,7 @@ METHODS = ("acquire", "acquire_lock", "release", "locked", "__enter__", "__exit_
 # Keys that not all rows have, and those that both kinds have.
 VARY, BOTH = {"at", "again", "completes", "parent"}, {key.rstrip("?") for key in PLACE}
 LIMITED = re.compile(r"threading\.(Condition\.wait|Thread\.(join|_wait_for_tstate_lock))$|selectors\.\w+\.select$")
+BOOTSTRAP = re.compile(r"threading\.(Thread\.)?_bootstrap")
 ORPHAN = 1  # the parent of one whose own parent has ended
 FAULT_HEAD = re.compile(r"(?:Current thread|Thread) (0x[0-9a-f]+)(?: \[(.*)\])? \(most recent call first\):$")
 FAULT_FRAME = re.compile(r'  File "(.*)", line (\d+|\?\?\?)(?: in (.*))?$')
@@ -327,8 +328,20 @@ def close(look: Optional[Look], path: str, ended: bool = False) -> None:
     for row in look.tasks.values():
         if row.more["loop"] not in whole:
             row.fault = row.fault or "its event loop isn't whole in the state"
+    doubt_owners(look)
     if not look.is_whole:
         look.warnings.append(f"{shown(path)}: the state of process {look.pid} is not whole: what is missing is unknown")
+
+
+def doubt_owners(look: Look) -> None:
+    """Says of threads that they aren't understood, where the frame in which one began is another one's."""
+    for key, row in look.threads.items():
+        outer = row.frames[-1] if row.frames and BOOTSTRAP.fullmatch(row.frames[-1].at) else None
+        own = outer.has.get("self") if outer is not None else None
+        whose = own.get("ident", key) if isinstance(own, dict) else key
+        for one in (row, look.threads.get(whose)) if whose != key else ():
+            if one is not None:
+                one.fault = one.fault or "the frame in which a thread began is another one's"
 
 
 def have_loops(look: Look) -> bool:

@@ -45,6 +45,8 @@ class Broker:
         numbers = {row["pid"]: row["messages_unacknowledged"] for row in raw["list_channels"]}
         for row in raw["list_consumers"]:
             self.add_consumer(row, owners.get(row["channel_pid"]), numbers.get(row["channel_pid"], 0))
+        in_queues = [number for number in self.routes.taken.values() if isinstance(number, int)]
+        self.has_more_taken = sum(numbers.values()) > sum(in_queues)  # (channels, than queues have given)
         queues = {row["channel_pid"]: str(row["queue_name"]) for row in raw["list_consumers"]}
         for pid, service in owners.items():
             if service is not None and pid not in queues:

@@ -31,6 +31,10 @@ def odd_names(first: Broker, second: Broker) -> Iterator[str]:
     for before, after in zip(keys_of(first), keys_of(second)):
         for key in before.keys() & after.keys():
             yield from (name for _, name in (before[key], after[key]) if before[key][0] != after[key][0])
+    for name in first.services.keys() & second.services.keys():
+        old, new = first.services[name].connection, second.services[name].connection
+        is_there = old in second.channels.values() or new in first.channels.values()
+        yield from [name] if old != new and is_there else []
 
 
 def keys_of(broker: Broker) -> List[Dict[str, Tuple[Any, str]]]:

@@ -127,7 +127,8 @@ class RabbitmqParser(Parser):
         if taken is not None and not others:
             return garbled(name, f"a message of queue {shown(taken)} may come back, and the state doesn't show who has "
                            "it", **more)
-        returning = list(dict.fromkeys([*(others if taken is not None else []), *service.may_reply()]))
+        may_return = taken is not None or broker.has_more_taken  # (of which queue those are, no list says then)
+        returning = list(dict.fromkeys([*(others if may_return else []), *service.may_reply()]))
         besides = [*([wakers("returns", returning)] if returning else []), *service.by_limit(), *service.unseen()]
         known = self.counted(service, name) if broker.counts else [
             Wakers(ANYBODY, Strength.UNSEEN, "unshown", (), key) for key in keys]
