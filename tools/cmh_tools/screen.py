@@ -124,8 +124,8 @@ class Screen:
         return noun_in(self.system, process.site or "", has_thread, "/" in process.name)
 
     def noun_of(self, members: Sequence[int]) -> str:
-        """Returns how many some are, and what, if there is room. Those that the kernel sees are threads if a process has
-        several of them."""
+        """Returns how many some are, and what, if there is room. Those that the kernel sees are threads if a process
+        has several of them."""
         counts = Counter(map(self.noun, members))
         if self.system == KERNEL:
             owners = {self.waits.processes[index].thread.partition("/")[0] for index in members}
