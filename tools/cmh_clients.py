@@ -19,12 +19,12 @@ from collections import Counter
 from typing import Dict, Iterable, Iterator, List, Sequence, Tuple, Union
 
 from cmh_linux.proc import Row, try_slurp
-from cmh_linux.processes import CARRIES, RING, Machine
+from cmh_linux.processes import Machine
 from cmh_linux.readers import read_all
-from cmh_linux.reading import inode_of
 from cmh_linux.sockets import Sockets, address, plain, tcp_of
 from cmh_proc import process
 from cmh_proc.calls import MACHINES, READ, SETS, WRITES, has_limit
+from cmh_proc.open_files import EVENTFD, OpenFile
 from cmh_proc.process import pids
 
 Files = Dict[int, List[int]]  # the processes that have a socket, by its number
@@ -61,7 +61,7 @@ def files_of(numbers: Iterable[int]) -> Files:
     """Returns which processes have some sockets, as far as this user may see that."""
     found: Files = {number: [] for number in numbers}
     for pid in pids():
-        for number in {inode_of(it) for it in process.files_of(pid).values()}.intersection(found):
+        for number in {OpenFile(target).socket for target in process.files_of(pid).values()}.intersection(found):
             found[number].append(pid)
     return found
 
@@ -71,8 +71,8 @@ class Process:
 
     def __init__(self, row: Row, sockets: Sockets) -> None:
         self.row, self.sockets = row, sockets
-        self.own = {inode_of(it[0]) for it in row["fds"].values()} - {0}
-        self.pipes = Counter(it[0] for it in row["fds"].values() if it[0].startswith("pipe:["))
+        self.own = {file.socket for file in row["fds"].values()} - {0}
+        self.pipes = Counter(file.target for file in row["fds"].values() if file.is_pipe)
 
     def threads(self, connections: Dict[int, str]) -> List[Row]:
         """Returns what its threads do: the call of each, whether that has a limit, and at what it waits."""
@@ -91,16 +91,16 @@ class Process:
         process."""
         waiters: Dict[int, List[int]] = {}
         for thread in self.row["threads"] if len(self.row["threads"]) > 1 else ():
-            for number in {inode_of(self.row["fds"].get(str(fd), [""])[0]) for fd, *_ in thread.get("set", ())}:
+            for number in {self.file(fd).socket for fd, *_ in thread.get("set", ())}:
                 waiters.setdefault(number, []).append(thread["tid"])
         return waiters
 
     def place(self, thread: Row, connections: Dict[int, str]) -> str:
         """Returns at what a thread waits: a connection, what only its own process ends, or nothing for what else there
         is."""
-        files = [self.row["fds"].get(str(fd), [""]) for fd, *_ in thread.get("set", ())]
-        found = [connections[inode_of(it[0])] for it in files if inode_of(it[0]) in connections]
-        others = [it for it in files if inode_of(it[0]) not in connections]
+        files = [self.file(fd) for fd, *_ in thread.get("set", ())]
+        found = [connections[file.socket] for file in files if file.socket in connections]
+        others = [file for file in files if file.socket not in connections]
         is_own = thread["call"] == "futex" or bool(files) and all(map(self.is_own, others))
         return "" if not is_own or found[1:] else found[0] if found else ITSELF
 
@@ -111,25 +111,27 @@ class Process:
         row, living = self.row, [it for it in self.row["threads"] if it["state"] not in "ZX"]
         caught = int(row.get("SigCgt", "0"), 16) & ~sum(1 << it - 1 for it in HARMLESS)
         is_bare = not caught and not row.get("timers") and row.get("TracerPid") == "0"
-        has_ring = any("io_uring" in it[0] or any(more.startswith((CARRIES, RING)) for more in it[2:])
-                       for it in row["fds"].values())
-        return len(living) == 1 and is_bare and not has_ring and waits_there(living[0], row, connections) \
+        has_ring = any(file.is_ring or (file.carried, file.kept) != (None, None) for file in row["fds"].values())
+        return len(living) == 1 and is_bare and not has_ring and self.waits_there(living[0], connections) \
             and not any(try_slurp(f"/proc/{pid}/timers") for pid in above(row["ppid"]))
 
-    def is_own(self, it: Sequence[str]) -> bool:
+    def is_own(self, file: OpenFile) -> bool:
         """Whether the other end of a file is of the process itself, as that by which it wakes itself."""
-        peers = self.sockets.rows.get(inode_of(it[0]), {}).get("peers", ())
-        is_to_itself = it[0] == "anon_inode:[eventfd]" or self.pipes[it[0]] > 1
+        peers = self.sockets.rows.get(file.socket, {}).get("peers", ())
+        is_to_itself = file.target == EVENTFD or self.pipes[file.target] > 1
         return is_to_itself or bool(peers) and self.own.issuperset(peers)
 
+    def file(self, fd: int) -> OpenFile:
+        found: OpenFile = self.row["fds"].get(str(fd), OpenFile(""))
+        return found
 
-def waits_there(thread: Row, row: Row, connections: Dict[int, str]) -> bool:
-    """Whether a thread waits to read from one connection, and for nothing else."""
-    if thread["state"] != "S" or thread["pending"] or thread.get("call") not in (*READ, *SETS):
-        return False
-    files = [(inode_of(row["fds"].get(str(fd), [""])[0]), events) for fd, events in thread.get("set") or ()]
-    is_limited = has_limit(thread["call"], [int(it, 16) for it in thread["args"]])
-    return not is_limited and len(files) == 1 and files[0][0] in connections and not files[0][1] & WRITES
+    def waits_there(self, thread: Row, connections: Dict[int, str]) -> bool:
+        """Whether a thread waits to read from one connection, and for nothing else."""
+        if thread["state"] != "S" or thread["pending"] or thread.get("call") not in (*READ, *SETS):
+            return False
+        files = [(self.file(fd).socket, events) for fd, events in thread.get("set") or ()]
+        is_limited = has_limit(thread["call"], [int(it, 16) for it in thread["args"]])
+        return not is_limited and len(files) == 1 and files[0][0] in connections and not files[0][1] & WRITES
 
 
 def above(pid: int) -> Iterator[int]:

@@ -15,6 +15,7 @@ from cmh_proc.budget import BUDGET, OF_ONE, Budget, Refused
 from cmh_proc.calls import LOCKS, QUEUES, calls_of
 from cmh_proc.door import field, kernel_row, kernel_text
 from cmh_proc.memory import Memory
+from cmh_proc.open_files import ANONYMOUS, EPOLL, EVENTFD, OF_KERNEL, SOCKET, OpenFile
 
 from .calls import besides, set_of
 from .limits import limit_of
@@ -22,13 +23,11 @@ from .memory import mappings, names_of_memory
 from .proc import KCMP_FILE, KCMP_FILES, MOST_TEXT, Row, kcmp, lines_of, pid_of, try_lines, try_link, try_slurp
 
 KERNEL_THREAD = 0x00200000
-CARRIES, RING = "scm_fds:", "UserFiles:"  # how many files are on their way through a socket, or kept by an io_uring
-SIGNALS = "sigmask:"  # which signals a descriptor of them takes
-NO_KEYS = ("lock:", CARRIES, RING, SIGNALS)  # what of a descriptor doesn't tell its file from others
 SECONDS_OF_ONE = 15.0  # that one process may take, and a half of the bytes for all
 # The bytes that each row counts.
 PROCESS_SIZE, THREAD_SIZE, DESCRIPTOR_SIZE, FILE_SIZE = 3000, 2500, 600, 600
 MOST_DESCRIPTORS = 1 << 20
+CARRIES_NONE = "scm_fds: 0"  # of a socket through which no file is on its way
 HEAD = ("pid", "ppid", "group", "session", "start", "state", "comm")  # what of one is known that is too large
 
 
@@ -99,11 +98,11 @@ class Machine:
         row = self.base(os.getpid())
         assert row is not None
         budget = Budget(self.budget.size, SECONDS_OF_ONE)  # (the look goes on where there is no more for others)
-        files = {fd: words for fd, words in self.descriptors("/proc/self", budget) if fd in "012"}
+        files = {fd: file for fd, file in self.descriptors("/proc/self", budget) if fd in "012"}
         return {**row, "fds": files, "threads": [{"tid": os.getpid(), "state": "R"}], "collects": True}
 
-    def descriptors(self, folder: str, budget: Budget) -> Iterator[Tuple[str, List[str]]]:
-        """Yields each descriptor: what it is, how it is open, and what more tells its file from others."""
+    def descriptors(self, folder: str, budget: Budget) -> Iterator[Tuple[str, OpenFile]]:
+        """Yields each descriptor with its file."""
         fds = door.names(f"{folder}/fd", MOST_DESCRIPTORS)
         budget.spend(DESCRIPTOR_SIZE * len(fds))
         for fd in fds:
@@ -112,23 +111,20 @@ class Machine:
             with contextlib.suppress(FileNotFoundError):
                 path = f"{folder}/fd/{fd}"
                 target, mode = door.link(path), door.mode_of_link(path)
-                words = [target, "r" * bool(mode & 0o400) + "w" * bool(mode & 0o200)]
-                if target == "anon_inode:[eventpoll]":
-                    self.epolls.append(Descriptor(folder, int(fd), words))
-                elif target.startswith(("anon_inode:[", "pidfd:[")):
-                    more = lines_of(f"{folder}/fdinfo/{fd}", ("eventfd-id:", "Pid:", "it_value:", RING, SIGNALS))
-                    words += more
-                elif target.startswith("socket:["):
-                    words += [line for line in lines_of(f"{folder}/fdinfo/{fd}", (CARRIES,)) if line != f"{CARRIES} 0"]
+                file = OpenFile(target, "r" * bool(mode & 0o400) + "w" * bool(mode & 0o200))
+                if target == EPOLL:
+                    self.epolls.append(Descriptor(folder, int(fd), file))
+                elif target.startswith((ANONYMOUS, SOCKET, "pidfd:[")):
+                    file.add(line for line in lines_of(f"{folder}/fdinfo/{fd}", OF_KERNEL) if line != CARRIES_NONE)
                 elif target.startswith("/") and not target.startswith(("/proc/", "/sys/")):
                     budget.spend(FILE_SIZE)
-                    self.add_file(Descriptor(folder, int(fd), words), door.status(path))
-                yield fd, words
+                    self.add_file(Descriptor(folder, int(fd), file), door.status(path))
+                yield fd, file
 
     def add_file(self, descriptor: "Descriptor", status: os.stat_result) -> None:
         """Notes who has a file open. A FIFO is told by its number."""
         if stat.S_ISFIFO(status.st_mode):
-            descriptor.words.append(f"fifo {status.st_dev:x}:{status.st_ino}")
+            descriptor.file.fifo = f"{status.st_dev:x}:{status.st_ino}"
         elif stat.S_ISREG(status.st_mode) or stat.S_ISDIR(status.st_mode):
             self.files.setdefault((status.st_dev, status.st_ino), []).append(descriptor)
 
@@ -143,7 +139,7 @@ class Machine:
     def add_locks_of(self, descriptor: "Descriptor") -> None:
         """Adds the locks of an open file, if its process is still there."""
         try:
-            descriptor.words += lines_of(f"{descriptor.folder}/fdinfo/{descriptor.fd}", ("lock:",))
+            descriptor.file.add(lines_of(f"{descriptor.folder}/fdinfo/{descriptor.fd}", ("lock:",)))
         except Refused as error:
             self.refused[descriptor.pid] = f"the locks of a file can't be read: {error}"
         except OSError:
@@ -154,10 +150,9 @@ class Machine:
         """
         for device, number in self.try_locked_files():
             them = self.files.get((device, number), [])
-            name = f"file {device:x}:{number}"
-            if len({descriptor.pid for descriptor in them}) > 1 and name not in them[0].words:
+            if len({descriptor.pid for descriptor in them}) > 1 and not them[0].file.file:
                 for descriptor in them:
-                    descriptor.words.append(name)
+                    descriptor.file.file = f"{device:x}:{number}"
                 yield them
 
     def try_locked_files(self) -> List[Tuple[int, int]]:
@@ -177,9 +172,9 @@ class Machine:
         waited = {id(row["fds"].get(str(fd))) for row in rows for thread in row.get("threads", ())
                   if thread.get("call") in calls for fd, _ in thread["set"]}
         for (device, number), them in self.files.items():
-            if any(id(descriptor.words) in waited for descriptor in them):
+            if any(id(descriptor.file) in waited for descriptor in them):
                 for descriptor in them:
-                    descriptor.words.append(f"{kind} {device:x}:{number}")
+                    setattr(descriptor.file, kind, f"{device:x}:{number}")
                 yield them
 
     def add_memory(self, rows: List[Row]) -> None:
@@ -188,12 +183,12 @@ class Machine:
         wanted = {name for row in rows if "threads" in row for name in self.try_names(row)}
         for row in rows if wanted else ():
             for name in wanted.intersection(self.try_names(row, True)):
-                row.get("fds", {})[name] = ["memory", "rw", name]
+                row.get("fds", {})[name] = OpenFile.of(["memory", "rw", name])
         for (device, number), them in self.files.items():
             name = f"memory {os.major(device):02x}:{os.minor(device):02x} {number}"
             if name in wanted:  # (who has it open may map it)
                 for descriptor in them:
-                    descriptor.words.append(name)
+                    descriptor.file.add([name])
 
     def try_names(self, row: Row, is_all: bool = False) -> List[str]:
         """Returns the names of memory of a process which others may have too: all of them, or that of its futexes."""
@@ -291,10 +286,10 @@ def living_thread(pid: int) -> int:
 
 
 class Descriptor:
-    """A descriptor of a process. `words` say what it is."""
+    """A descriptor of a process, and its file."""
 
-    def __init__(self, folder: str, fd: int, words: List[str]) -> None:
-        self.folder, self.fd, self.words, self.pid = folder, fd, words, pid_of(folder)
+    def __init__(self, folder: str, fd: int, file: OpenFile) -> None:
+        self.folder, self.fd, self.file, self.pid = folder, fd, file, pid_of(folder)
 
 
 def has_own_files(folder: str, tid: int) -> bool:
@@ -314,12 +309,12 @@ def name_open_files(them: List[Descriptor]) -> None:
     first: Optional[Descriptor] = None
     for descriptor in sorted(there, key=functools.cmp_to_key(compare_open)):
         first = descriptor if first is None or compare_open(first, descriptor) else first
-        descriptor.words.append(f"open {first.pid}:{first.fd}")
+        descriptor.file.open = f"{first.pid}:{first.fd}"
 
 
 def aio_of(folder: str, row: Row) -> Row:
     """Returns whether requests of a process (io_submit) may make the kernel write to an eventfd that it has."""
-    if not any(words[0] == "anon_inode:[eventfd]" for words in row["fds"].values()):
+    if not any(file.target == EVENTFD for file in row["fds"].values()):
         return {}
     return {"aio": True} if "/[aio]" in kernel_text(f"{folder}/maps", MOST_TEXT) else {}
 

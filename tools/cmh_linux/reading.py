@@ -4,16 +4,17 @@ from __future__ import annotations
 import os
 import sys
 import time
-from typing import Dict, Iterable, Iterator, List, Sequence, Set
+from typing import Dict, Iterable, Iterator, List, Set
 
 from cmh_proc.budget import BUDGET, Budget
 from cmh_proc.calls import EPOLLS, OWNER, PRIVATE, SLEEPS, int32
 from cmh_proc.door import names
+from cmh_proc.open_files import OpenFile
 from cmh_proc.programs import below
 
 from .memory import add_kin
 from .proc import Row
-from .processes import CARRIES, NO_KEYS, RING, Machine, name_open_files
+from .processes import Machine, name_open_files
 from .readers import read_all
 from .sockets import Sockets
 
@@ -104,15 +105,15 @@ class Reading:
     def keys_of_wait(self, row: Row, thread: Row) -> Iterator[str]:
         """Yields what tells the ends of the files that a thread waits at."""
         for fd, *_ in thread.get("set", ()):
-            words = row["fds"].get(str(fd))
-            if words is None:
+            file = row["fds"].get(str(fd))
+            if file is None:
                 continue
-            number = inode_of(words[0])
-            if number:
-                yield from (f"socket:[{peer}]" for peer in self.sockets.rows.get(number, {}).get("peers", ()))
-            yield from keys_of_file(words)
+            if file.socket:
+                yield from (f"socket:[{peer}]" for peer in self.sockets.rows.get(file.socket, {}).get("peers", ()))
+            yield from file.keys()
         if thread.get("call") in EPOLLS:
-            yield from keys_of_file(row["fds"].get(str(int32(int(thread["args"][0], 16))), ()))
+            epoll = row["fds"].get(str(int32(int(thread["args"][0], 16))))
+            yield from epoll.keys() if epoll is not None else ()
         if thread.get("memory"):
             yield thread["memory"]
         if thread.get("call") == "connect":
@@ -136,14 +137,13 @@ class Reading:
         """Yields the rows of the state for some processes."""
         rows = [self.rows[pid] for pid in sorted(kept) if pid in self.rows]
         missing = [row for pid, row in sorted(self.rows.items()) if pid not in kept and "unreadable" in row]
-        numbers = {inode_of(words[0]) for row in rows for words in row.get("fds", {}).values()} - {0}
+        numbers = {file.socket for row in rows for file in row.get("fds", {}).values()} - {0}
         yield {"reading": number, "began": self.began, "seconds": round(self.seconds, 2),
                "warnings": self.warnings}
-        yield from ({**row, "command": "", "apart": True} for row in missing)
+        yield from ({**with_words(row, row.get("fds", {})), "command": "", "apart": True} for row in missing)
         for row in rows:
             wanted = {fd for thread in row.get("threads", ()) for fd, *_ in thread.get("set", ())}
-            files = {fd: words for fd, words in row.get("fds", {}).items() if is_shared(words) or int(fd) in wanted}
-            yield {**row, "fds": files} if "fds" in row else row
+            yield with_words(row, (fd for fd, file in row.get("fds", {}).items() if file.is_end() or int(fd) in wanted))
         for inode in sorted(numbers & self.sockets.rows.keys()):
             yield {"socket": inode, **self.sockets.rows[inode]}
         yield {"listening": {key: them for key, them in self.sockets.listening.items() if numbers & {*them}}}
@@ -162,14 +162,12 @@ def processes(asked: Iterable[int]) -> List[int]:
 
 def keys_of(row: Row) -> Iterator[str]:
     """Yields what tells the files of a process from others."""
-    for words in row.get("fds", {}).values():
-        yield from keys_of_file(words)
+    return (key for file in row.get("fds", {}).values() for key in file.keys())
 
 
-def keys_of_file(words: Sequence[str]) -> Iterator[str]:
-    yield from (more for more in words[2:] if not more.startswith(NO_KEYS))
-    if words and words[0].startswith(("pipe:[", "socket:[")):
-        yield words[0]
+def with_words(row: Row, fds: Iterable[str]) -> Row:
+    """Returns the row of a process with some of its descriptors, as a state has these."""
+    return {**row, "fds": {fd: row["fds"][fd].words() for fd in fds}} if "fds" in row else row
 
 
 def owner_of(thread: Row) -> int:
@@ -181,17 +179,6 @@ def owner_of(thread: Row) -> int:
     return owner if word == 2 else word & OWNER if word >> 31 else 0
 
 
-def may_carry(words: Sequence[str]) -> bool:
-    """Whether a descriptor may have or use files that none shows."""
-    if "io_uring" in words[0]:  # (an older kernel doesn't say how many files it keeps)
-        return f"{RING} 0" not in words[2:]
-    return any(more.startswith(CARRIES) for more in words[2:])
-
-
-def is_shared(words: Sequence[str]) -> bool:
-    """Whether a descriptor may be an end of somebody's wait."""
-    return words[0].startswith(("pipe:[", "socket:[", "anon_inode:[")) or len(words) > 2
-
-
-def inode_of(target: str) -> int:
-    return int(target[8:-1]) if target.startswith("socket:[") else 0
+def may_carry(file: OpenFile) -> bool:
+    """Whether a descriptor may have or use files that none shows. (Of a ring an older kernel doesn't say how many.)"""
+    return file.kept != 0 if file.is_ring else file.carried is not None

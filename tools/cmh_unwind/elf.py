@@ -28,7 +28,7 @@ Identity = Tuple[int, int, int, int]
 KNOWN: Dict[Identity, bool] = {}  # of programs, by what tells one from the next: many processes run the same
 
 
-class Segment(NamedTuple):
+class ElfSegment(NamedTuple):
     """A part of a program: where it stands in the file and in memory, and how long it is in both."""
 
     kind: int
@@ -39,7 +39,7 @@ class Segment(NamedTuple):
     length: int
 
 
-class Section(NamedTuple):
+class ElfSection(NamedTuple):
     """A section of a file. `link` is the number of another one that it needs, as that of its names."""
 
     name: bytes
@@ -70,10 +70,14 @@ class Header:
         table = read(segments_at, size * number)
         self.text += table
         rows = (segment.unpack_from(table, size * place) for place in range(number))
-        self.segments = [Segment(row[0], *(row[place] for place in forms[3])) for row in rows]
+        self.segments = [ElfSegment(row[0], *(row[place] for place in forms[3])) for row in rows]
         loaded = [part for part in self.segments if part.kind == LOADED]
         self.begin = min((part.address for part in loaded), default=0) & ~0xFFF
         self.length = max((part.address + part.length for part in loaded), default=0) - self.begin
+        self.add_notes(read, is_file)
+
+    def add_notes(self, read: Read, is_file: bool) -> None:
+        """Adds its notes to what tells it from others."""
         for part in self.segments:
             if part.kind == NOTES and len(self.text) < MOST_NOTES:
                 self.text += read(part.offset if is_file else part.address - self.begin, min(part.size, NOTE))
@@ -94,7 +98,7 @@ class Header:
                 notes = notes[first + (length + 3 & ~3):]
         return ""
 
-    def sections_in(self, read: Read) -> List[Section]:
+    def sections_in(self, read: Read) -> List[ElfSection]:
         """Returns the sections of a file. One that is gone has none."""
         table = read(self.sections_at, self.section.size * self.sections)
         if 0 < len(table) < self.section.size * self.sections:
@@ -102,7 +106,7 @@ class Header:
         rows = [*self.section.iter_unpack(table)]
         names = rows[self.names_at] if self.names_at < len(rows) else (0,) * 6
         words = read(names[4], min(names[5], MOST_NAMES))
-        return [Section(words[row[0]:row[0] + LONGEST_NAME].partition(b"\0")[0], row[1], *row[3:7]) for row in rows]
+        return [ElfSection(words[row[0]:row[0] + LONGEST_NAME].partition(b"\0")[0], row[1], *row[3:7]) for row in rows]
 
 
 def reader_of(data: bytes) -> Read:

@@ -14,7 +14,7 @@ from cmh_proc import door
 from cmh_proc.budget import Budget
 
 from .cursor import Unclear
-from .elf import OF_64_BITS, Header, Read, Section, reader_at, reader_of
+from .elf import OF_64_BITS, Header, Read, ElfSection, reader_at, reader_of
 
 MOST_BYTES = 1 << 26  # of a table that is read
 MOST_SMALL, MOST_DECODER = 1 << 24, 1 << 25  # bytes of a small program within a program, and of what unpacks it
@@ -70,7 +70,7 @@ class Symbols:
         read = reader_of(text)
         self.read(read, Header(read, True), True)
 
-    def content(self, read: Read, section: Section) -> bytes:
+    def content(self, read: Read, section: ElfSection) -> bytes:
         """Returns what a section has, or nothing where that is too long."""
         if section.size > MOST_BYTES:
             return b""

@@ -168,7 +168,7 @@ def in_front(shell: Owner, children: List[Owner]) -> List[Owner]:
 def pipes_between(shell: Owner, child: Owner) -> bool:
     """Whether one of two processes reads what the other one writes, as a shell does with those of a process
     substitution or a coprocess: these are in the background, and don't ignore SIGINT."""
-    ends = [{(words[0], way) for words in owner.files.values() if words[0].startswith("pipe:[") for way in words[1]}
+    ends = [{(file.target, way) for file in owner.files.values() if file.is_pipe for way in file.mode}
             for owner in (shell, child)]
     return any((what, "w" if way == "r" else "r") in ends[1] for what, way in ends[0])
 
@@ -186,9 +186,7 @@ def awaited(thread: Thread, own: List[Owner]) -> Tuple[str, List[Owner]]:
     if kind == 2:
         group = number or thread.owner.groups[-1]
         return f"any child of group {group}", [owner for owner in own if owner.groups[level:][:1] == [group]]
-    more = thread.owner.files.get(str(number), ["", "", ""])[2:]
-    pids = [int(line.split()[1]) for line in more if line.startswith("Pid:")]
-    return "a child", [owner for owner in own if owner.pid in pids]
+    return "a child", [owner for owner in own if owner.pid == thread.owner.file(number).pid]
 
 
 def wait_for_fork(machine: Machine, thread: Thread) -> Wait:
@@ -263,6 +261,5 @@ def timed_parents(machine: Machine, owner: Owner) -> List[Thread]:
     parent = machine.by_pid.get(owner.parent)
     timed = [thread for thread in parent.living if thread.events and thread.arguments
              and (thread.has_limit or thread.call not in AT_FILES)] if parent else []
-    pipes = {words[0] for words in owner.files.values() if words[0].startswith("pipe:[")} if timed else set()
-    return [thread for thread in timed
-            if any(thread.owner.files.get(str(fd), [""])[0] in pipes for fd, *_ in thread.events)]
+    pipes = {file.target for file in owner.files.values() if file.is_pipe} if timed else set()
+    return [thread for thread in timed if any(thread.owner.file(fd).target in pipes for fd, *_ in thread.events)]

@@ -6,6 +6,7 @@ from __future__ import annotations
 from typing import Dict, Iterator, List, Set, Tuple
 
 from cmh_proc.calls import EPOLLS, READ, SETS, int32
+from cmh_proc.open_files import OpenFile
 
 from .files import AT_LISTENER
 from .frames import OWN_THREADS
@@ -44,7 +45,7 @@ def add_ends(owner: Owner, machine: Machine, space: str, rows: Connections) -> T
     is_go = owner.system == "go"
     ports: List[str] = []
     inside: Dict[str, List[str]] = {"has": [*owner.names], "ends": [], "peers": []}
-    standard = [owner.files.get(fd, [""])[0] for fd in "012"] if is_go else []  # (by which it is begun, as by systemd)
+    standard = [owner.file(fd).target for fd in range(3)] if is_go else []  # (by which it is begun, as by systemd)
     for target, row in sockets_of(owner, machine):
         if target in standard:
             continue
@@ -76,8 +77,8 @@ def awaited(owner: Owner, machine: Machine) -> List[Tuple[str, str]]:
 
 def sockets_of(owner: Owner, machine: Machine) -> Iterator[Tuple[str, Row]]:
     """Yields each socket of a process with its row, which is empty where the kernel has told nothing of it."""
-    for target in dict.fromkeys(words[0] for words in owner.files.values() if words[0].startswith("socket:[")):
-        yield target, machine.sockets.get(int(target[8:-1]), {})
+    for target, number in {file.target: file.socket for file in owner.files.values() if file.socket}.items():
+        yield target, machine.sockets.get(number, {})
 
 
 def is_server(owner: Owner) -> bool:
@@ -106,14 +107,13 @@ def target_of(thread: Thread, machine: Machine) -> str:
         fds = [int32(thread.arguments[0])]
     elif thread.call in (*SETS, *EPOLLS):
         fds = [row[0] for row in thread.events]
-    targets = [words[0] for words in (thread.owner.files.get(str(fd), [""]) for fd in fds)]
-    others = [target for target in targets if not wakes_itself(target, thread, machine)]
+    others = [file.target for file in map(thread.owner.file, fds) if not wakes_itself(file, thread, machine)]
     return others[0] if len(others) == 1 else ""
 
 
-def wakes_itself(target: str, thread: Thread, machine: Machine) -> bool:
+def wakes_itself(file: OpenFile, thread: Thread, machine: Machine) -> bool:
     """Whether the other end of a socket is of the process itself alone, which is connected with no other."""
-    row = machine.sockets.get(int(target[8:-1]), {}) if target.startswith("socket:[") else {}
+    row = machine.sockets.get(file.socket, {})
     peers = [f"socket:[{peer}]" for peer in row.get("peers", ())]
     return bool(peers) and row.get("state") != AT_LISTENER and all(
-        machine.with_file(peer) == [thread.owner] for peer in (target, *peers))
+        machine.with_file(peer) == [thread.owner] for peer in (file.target, *peers))

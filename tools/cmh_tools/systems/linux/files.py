@@ -5,51 +5,52 @@ import re
 from typing import List, Sequence
 
 from cmh_proc.calls import EPOLLS, EVENTS, MOVES, ONESHOT, READS, SETS, WRITES, int32
+from cmh_proc.open_files import ANONYMOUS, EPOLL, OpenFile
 
 from ...model import Part, Sign, Wakers, any_of, unseen, wakers
 from ...sketch import LIMIT
 from .children import FOR_SIGNAL, wait_for_end, wait_for_signals
 from .frames import is_of_system
 from ..base import FAR, duration
-from .limits import far_limit, timer_comes_in
-from .text import EPOLL, MASTER, SIGMASK, TERMINAL, Machine, Owner, Row, Thread
+from .limits import far_limit
+from .text import MASTER, NOWHERE, TERMINAL, Machine, Owner, Row, Thread
 from .waits import (COMES, FILES, UNTIMED, Ease, Wait, against, names_of_epoll, not_shown, not_understood, users_of,
                     with_end, with_sleeper)
 
 INOTIFY = "anon_inode:inotify"
 TERMINALS = ("/dev/tty", TERMINAL, MASTER, "/dev/console")
-UNARMED, AT_LISTENER = "it_value: (0, 0)", "LISTEN"
+UNARMED, AT_LISTENER = (0, 0), "LISTEN"
 LOOPS = re.compile(r".*/lib(event|ev|uv|glib-2)\b[^/]*")  # libraries with a loop for events
 POLLS = re.compile("uv__io_poll|uv_run|ev_run|event_base_loop")  # the same where it is a part of the program
 
 
 def wait_at(machine: Machine, thread: Thread, fd: int, events: int) -> Wait:
     """Returns the wait for an event at a descriptor of a thread."""
-    words = thread.owner.files.get(str(fd))
-    if words is None:
+    file = thread.owner.file(fd)
+    if file is NOWHERE:
         return not_understood(f"its descriptor {fd} isn't known", f"descriptor {fd}")
-    wait = wait_at_file(machine, thread, words, events)
+    wait = wait_at_file(machine, thread, file, events)
     wait.what += f" (descriptor {fd})"
     return wait
 
 
-def wait_at_file(machine: Machine, thread: Thread, words: List[str], events: int) -> Wait:
+def wait_at_file(machine: Machine, thread: Thread, file: OpenFile, events: int) -> Wait:
     """Returns the wait for an event at an open file of a thread."""
-    target, more = words[0], words[2] if len(words) > 2 else ""
-    if target.startswith("pipe:["):
-        return wait_at_pipe(machine, thread, target, f"pipe {target[6:-1]}", words[1], events)
-    if more.startswith("fifo "):
-        wait = wait_at_pipe(machine, thread, more, f"FIFO {target}", words[1], events)
+    target = file.target
+    if file.is_pipe:
+        return wait_at_pipe(machine, thread, target, f"pipe {target[6:-1]}", file.mode, events)
+    if file.fifo:
+        wait = wait_at_pipe(machine, thread, file.key("fifo"), f"FIFO {target}", file.mode, events)
         if wait.ease is Ease.OWN and events & READS:  # (it keeps both ends open, and waits for who opens it next)
             return Wait(any_of(unseen("by-name")), wait.what, wait.others, sign=Sign.RESTS, why=COMES, ease=Ease.CALM)
         wait.parts = [(*part, unseen("by-name")) for part in wait.parts]
         return wait
-    if more.startswith("queue "):
-        return wait_at_queue(machine, thread, words, events)
-    if target.startswith("socket:["):
-        return wait_at_socket(machine, thread, target)
-    if target.startswith(("anon_inode:[", "pidfd:[")):
-        return wait_at_anonymous(machine, thread, words)
+    if file.queue:
+        return wait_at_queue(machine, thread, file, events)
+    if file.socket:
+        return wait_at_socket(machine, thread, file)
+    if target.startswith((ANONYMOUS, "pidfd:[")):
+        return wait_at_anonymous(machine, thread, file)
     if target.startswith(TERMINALS):
         return wait_at_terminal(machine, thread, target, events)
     if target == INOTIFY:
@@ -73,7 +74,7 @@ def wait_at_pipe(machine: Machine, thread: Thread, key: str, what: str, mode: st
 
 def waits_for(owner: Owner, key: str) -> bool:
     """Whether a thread of a process waits at a file."""
-    return any(key in owner.files.get(str(fd), []) for thread in owner.living for fd, *_ in thread.events)
+    return any(key in owner.file(fd).keys() for thread in owner.living for fd, *_ in thread.events)
 
 
 def wait_at_terminal(machine: Machine, thread: Thread, target: str, events: int) -> Wait:
@@ -96,26 +97,26 @@ def wait_for(machine: Machine, thread: Thread, others: List[Owner], what: str, p
     return Wait(any_of(*part), what, others, with_sleeper(premises, others), ease=ease)
 
 
-def wait_at_queue(machine: Machine, thread: Thread, words: List[str], events: int) -> Wait:
+def wait_at_queue(machine: Machine, thread: Thread, file: OpenFile, events: int) -> Wait:
     """Returns the wait at a queue of messages, for who takes from it or puts into it. One that has a name may be opened
     by anybody."""
-    others = machine.with_file(words[2], "w" if events & READS else "r")
-    wait = wait_for(machine, thread, others, f"queue of messages {words[0]}", [FILES])
-    if not words[0].endswith(" (deleted)"):
+    others = machine.with_file(file.key("queue"), "w" if events & READS else "r")
+    wait = wait_for(machine, thread, others, f"queue of messages {file.target}", [FILES])
+    if not file.target.endswith(" (deleted)"):
         wait.parts = [(*part, unseen("by-name")) for part in wait.parts]
     return wait
 
 
-def wait_at_socket(machine: Machine, thread: Thread, target: str) -> Wait:
-    row = machine.sockets.get(int(target[8:-1]))
+def wait_at_socket(machine: Machine, thread: Thread, file: OpenFile) -> Wait:
+    row = machine.sockets.get(file.socket)
     if row is None:
-        return not_shown(f"the other end of {target} isn't known", target)
+        return not_shown(f"the other end of {file.target} isn't known", file.target)
     kind = {"tcp": "TCP socket", "u_dgr": "Unix datagram socket"}.get(row["kind"], "Unix socket")
     if row["state"] == AT_LISTENER:
         what = f"listening {kind} {row['at']}"
         return Wait(any_of(unseen("to-come")), what, sign=Sign.RESTS, why=COMES, ease=Ease.CALM)
     between = f"from {row['at']} to {row['to']}" if row["to"] else row["at"]
-    what = f"{kind} {target[8:-1] if between in ('', '*') else between}"
+    what = f"{kind} {file.socket if between in ('', '*') else between}"
     if row.get("away"):
         return not_shown("who is on another machine may send", what, "outside", Ease.CALM)
     if row["kind"] == "u_dgr":
@@ -130,7 +131,7 @@ def wait_at_socket(machine: Machine, thread: Thread, target: str) -> Wait:
         wait = wait_for(machine, thread, others, what, premises)
         wait.what += f", of which {row['unread']:,} bytes are unread" if row.get("unread") else ""
         wait.ease = Ease.NONE if row["kind"] == "tcp" else wait.ease
-    same = machine.with_file(target)  # (whoever has the same end may shut it down)
+    same = machine.with_file(file.target)  # (whoever has the same end may shut it down)
     wait.premises = list(dict.fromkeys(with_sleeper(wait.premises, same)))
     wait.parts = [(*part, *against(machine, thread, users_of(same), "closes")) for part in wait.parts]
     return wait
@@ -156,18 +157,16 @@ def accepts_at(machine: Machine, owner: Owner, listener: int, row: Row) -> bool:
     """Whether a process accepts connections at a listener like the one that a socket is an end of: it has another one
     that came to the same address, or waits for one."""
     address = row["to"] or machine.sockets.get(listener, {}).get("at", "")
-    ends = [machine.sockets.get(int(words[0][8:-1]), {}) for words in owner.files.values()
-            if words[0].startswith("socket:[")]
+    ends = [machine.sockets.get(file.socket, {}) for file in owner.files.values()]
     if any(end.get("kind") == row["kind"] and end["at"] == address and end["state"] != AT_LISTENER for end in ends):
         return True
-    listeners = {fd for fd, words in owner.files.items() if words[0] == f"socket:[{listener}]"}
-    return any(str(fd) in listeners for thread in owner.living for fd, *_ in thread.events)
+    return any(owner.file(fd).socket == listener for thread in owner.living for fd, *_ in thread.events)
 
 
 def self_connections(owner: Owner, machine: Machine) -> str:
     """Returns in words with which of its own listeners a process is connected, or nothing: it may wait for itself, also
     where its runtime doesn't show who does."""
-    own = [int(words[0][8:-1]) for words in owner.files.values() if words[0].startswith("socket:[")]
+    own = [file.socket for file in owner.files.values() if file.socket]
     rows = [machine.sockets.get(number, {}) for number in own]
     rows = [row for row in rows if row.get("kind") == "tcp"]
     listeners = {row["at"].rpartition(":")[2] for row in rows if row["state"] == AT_LISTENER}
@@ -197,28 +196,27 @@ def may_time_out(machine: Machine, thread: Thread, row: Row) -> bool:
     return row["kind"] == "tcp" and any(end.get("timer") is not False for end in ends)
 
 
-def wait_at_anonymous(machine: Machine, thread: Thread, words: List[str]) -> Wait:
-    what, more = words[0].partition(":")[2].strip("[]"), words[2] if len(words) > 2 else ""
-    if more.startswith("eventfd-id:"):
-        others = machine.with_file(more)
-        wait = wait_for(machine, thread, others, f"eventfd {more.split()[1]}", [FILES])
+def wait_at_anonymous(machine: Machine, thread: Thread, file: OpenFile) -> Wait:
+    if file.event is not None:
+        others = machine.with_file(file.key("event"))
+        wait = wait_for(machine, thread, others, f"eventfd {file.event}", [FILES])
         if any(owner.row.get("aio") for owner in [thread.owner, *others]):
             wait.why = "the kernel may write to its eventfd, as io_submit asks it to"
             wait.parts = [(*part, unseen("unshown", wait.why)) for part in wait.parts]
         return wait
-    if more == UNARMED:
+    if file.timer == UNARMED:
         return not_shown("its timer isn't armed, and whoever has it may do that", "timer")
-    if more.startswith("it_value:"):
-        seconds = timer_comes_in(more)
-        if seconds is not None and seconds > FAR:
+    if file.timer is not None:
+        seconds = file.timer[0] + file.timer[1] / 1e9
+        if seconds > FAR:
             return Wait(any_of(*far_limit(machine, thread, seconds)), "timer", is_exact=True)
-        comes = "its timer comes" + (f" in {duration(seconds)}" if seconds is not None else "")
-        return Wait(what="timer", sign=Sign.SLEEPS, why=comes, premises=[LIMIT])
-    if more.startswith(SIGMASK):
+        return Wait(what="timer", sign=Sign.SLEEPS, why=f"its timer comes in {duration(seconds)}", premises=[LIMIT])
+    if file.signals is not None:
         owners = dict.fromkeys(owner for name in names_of_epoll(thread) for owner in machine.with_file(name))
-        return wait_for_signals(machine, thread, int(more.split()[1], 16), list(owners))
-    if more.startswith("Pid:"):
-        return wait_for_end(machine, thread, int(more.split()[1]))
+        return wait_for_signals(machine, thread, file.signals, list(owners))
+    if file.pid is not None:
+        return wait_for_end(machine, thread, file.pid)
+    what = file.target.partition(":")[2].strip("[]")
     return not_understood(f"what ends a wait at {what} isn't known", what)
 
 
@@ -228,8 +226,7 @@ def wait_at_set(machine: Machine, thread: Thread) -> Wait:
         return not_understood("the set of its descriptors couldn't be read", "a set that can't be read")
     rows, owners = thread.events, [thread.owner]  # (who may add to the set)
     if thread.call in EPOLLS:
-        words = thread.owner.files.get(str(int32(thread.arguments[0])))
-        if words is None or EPOLL not in words[0] or any(len(row) < 3 for row in rows):
+        if EPOLL not in thread.owner.file(int32(thread.arguments[0])).target or any(len(row) < 3 for row in rows):
             return not_understood("its epoll isn't known", "epoll")
         owners += [owner for name in names_of_epoll(thread) for owner in machine.with_file(name)]
         stale = [fd for fd, _, number in rows if is_other_file(thread.owner, fd, number)]
@@ -237,7 +234,7 @@ def wait_at_set(machine: Machine, thread: Thread) -> Wait:
             return not_understood(f"its epoll has a file that descriptor {stale[0]} no longer is", "epoll")
         rows = [row for row in rows if not row[1] & ONESHOT or row[1] & EVENTS]  # (others were seen)
     if thread.call in MOVES:  # (what it moves from or to a file on a disk doesn't wait)
-        rows = [row for row in rows if not is_plain(thread.owner.files.get(str(row[0]), [""]))]
+        rows = [row for row in rows if not is_plain(thread.owner.file(row[0]))]
     wait = joined([wait_at(machine, thread, row[0], row[1]) for row in rows])
     if wait.sign is Sign.BLOCKED and (may_come(wait) or is_in_loop(thread)):
         wait.sign, wait.why = Sign.RESTS, COMES
@@ -260,18 +257,17 @@ def is_in_loop(thread: Thread) -> bool:
     return inner is not None and (LOOPS.fullmatch(inner.module) or POLLS.fullmatch(inner.function)) is not None
 
 
-def is_plain(words: List[str]) -> bool:
+def is_plain(file: OpenFile) -> bool:
     """Whether a descriptor is of a plain file."""
-    return words[0].startswith("/") and not words[0].startswith("/dev/") and not any(
-        more.startswith("fifo ") for more in words)
+    return file.target.startswith("/") and not file.target.startswith("/dev/") and not file.fifo
 
 
 def is_other_file(owner: Owner, fd: int, number: int) -> bool:
     """Whether a descriptor of an epoll is another file by now, or closed while somebody else keeps the file."""
-    words = owner.files.get(str(fd))
-    if words is None:
+    file = owner.file(fd)
+    if file is NOWHERE:
         return True
-    inode = words[0].partition("[")[2].rstrip("]")
+    inode = file.target.partition("[")[2].rstrip("]")
     return number < 0 or inode.isdigit() and number != 0 and int(inode) != number
 
 

@@ -3,7 +3,6 @@ may end the wait in another way.
 """
 from __future__ import annotations
 
-import re
 from typing import Optional, Tuple
 
 from cmh_proc.calls import SLEEPS
@@ -13,7 +12,6 @@ from ..base import FAR, duration
 from .text import Machine, Thread
 
 LEAST = 10.0  # so far off may the clocks of processors be by which it is known when a thread ran last
-COMES_IN = re.compile(r"it_value: \((\d+), (\d+)\)")  # of a timer of a descriptor
 
 
 def limit_of(thread: Thread) -> Tuple[Optional[float], Optional[float]]:
@@ -58,9 +56,3 @@ def age_of(thread: Thread) -> str:
     """Returns for how long one has waited without a limit, in words, or nothing."""
     waited = waited_of(thread)
     return f"for {duration(round(waited))}" if waited is not None and waited >= LEAST else ""
-
-
-def timer_comes_in(words: str) -> Optional[float]:
-    """Returns in how many seconds the timer of a descriptor comes."""
-    value = COMES_IN.match(words)
-    return int(value[1]) + int(value[2]) / 1e9 if value else None

@@ -6,9 +6,10 @@ from dataclasses import dataclass
 from typing import Dict, Iterator, List, Optional, Tuple
 
 from cmh_proc.calls import SETLKW, int32
+from cmh_proc.open_files import OpenFile
 
 from ...model import Part, any_of, unseen
-from .text import OPEN, Machine, Owner, Thread, some_names
+from .text import NOWHERE, Machine, Owner, Thread, some_names
 from .waits import FILES, Wait, against, not_understood, users_of, with_end, with_sleeper
 
 NUMBER = re.compile(r"[0-9]{1,19}")
@@ -27,19 +28,18 @@ class Holding:
 def wait_for_lock(machine: Machine, thread: Thread) -> Wait:
     """Returns the wait for a lock on a file: for each open file that has one in the way."""
     fd = int32(thread.arguments[0])
-    words = thread.owner.files.get(str(fd), [])
-    file = next((more for more in words[2:] if more.startswith("file ")), "")
-    what, wanted = f"{words[0] if words else 'a file'} (descriptor {fd})", Lock.wanted(thread)
-    if not file or wanted is None:
+    file = thread.owner.file(fd)
+    what, wanted = f"{file.target if file is not NOWHERE else 'a file'} (descriptor {fd})", Lock.wanted(thread)
+    if not file.file or wanted is None:
         return not_understood("which lock it waits for isn't known", what, LOCK_OF)
     holdings: Dict[str, Holding] = {}
-    is_clear, owners = True, machine.with_file(file)
+    is_clear, owners = True, machine.with_file(file.key("file"))
     for owner in owners:
-        for row, text in locks_of(owner, file):
+        for held, text in locks_of(owner, file):
             lock = Lock.of(text)
             is_clear = is_clear and lock is not None
-            if lock is not None and lock.is_in_the_way_of(wanted) and not is_own(lock, owner, row, thread.owner, words):
-                add_holder(holdings.setdefault(holder_of(lock, owner, row, text), Holding([])), owner, lock)
+            if lock is not None and lock.is_in_the_way_of(wanted) and not is_own(lock, owner, held, thread.owner, file):
+                add_holder(holdings.setdefault(holder_of(lock, owner, held, text), Holding([])), owner, lock)
     wait = wait_for_holdings(machine, thread, list(holdings.values()), wanted)
     if not is_clear or not {sharer for name in holdings for sharer in machine.with_file(name)} <= {*owners}:
         wait.why = "a lock of its file isn't understood"
@@ -52,14 +52,13 @@ def locks_besides(machine: Machine, thread: Thread) -> str:
     """Returns in words who has locked a file that the process of a thread has open, or nothing: it may poll for that.
     """
     said = []
-    for words in thread.owner.files.values():
-        file = next((more for more in words[2:] if more.startswith("file ")), "")
-        holders = [owner for owner in machine.with_file(file) if owner is not thread.owner
-                   and any(Lock.of(text) is not None for _, text in locks_of(owner, file))] if file else []
-        if holders and not any(more.startswith("lock:") for more in words):  # (else it shares that lock, or has one)
+    for file in thread.owner.files.values():
+        holders = [owner for owner in machine.with_file(file.key("file")) if owner is not thread.owner
+                   and any(Lock.of(text) is not None for _, text in locks_of(owner, file))] if file.file else []
+        if holders and not file.locks:  # (else it shares that lock, or has one)
             is_still = all(thread.state in "Tt" for owner in holders for thread in owner.living)
             more = ", and is stopped" if is_still else ""
-            said.append(f"{some_names(holders)} has a lock of {words[0]}, which it has open too{more}")
+            said.append(f"{some_names(holders)} has a lock of {file.target}, which it has open too{more}")
     return "; ".join(dict.fromkeys(said))
 
 
@@ -92,29 +91,23 @@ def part_of(machine: Machine, thread: Thread, holding: Holding) -> Part:
     return (*with_end(machine, thread, takers, "owns"), *against(machine, thread, others, "closes"))
 
 
-def holder_of(lock: "Lock", owner: Owner, row: List[str], text: str) -> str:
+def holder_of(lock: "Lock", owner: Owner, held: OpenFile, text: str) -> str:
     """Returns what tells who has a lock: the process, or else the open file; where that has no name, the lock."""
     if lock.kind == "POSIX":
         return f"process {owner.pid}"
-    return open_name(row) or text.partition(": ")[2].partition(": ")[2]
+    return held.key("open") if held.open else text.partition(": ")[2]
 
 
-def open_name(row: List[str]) -> str:
-    return next((more for more in row[2:] if more.startswith(OPEN)), "")
-
-
-def is_own(lock: "Lock", owner: Owner, row: List[str], other: Owner, words: List[str]) -> bool:
+def is_own(lock: "Lock", owner: Owner, held: OpenFile, other: Owner, asked: OpenFile) -> bool:
     """Whether a lock is of the very one, a process or an open file, that asks for another one by a descriptor."""
     if lock.kind == "POSIX":
         return owner is other
-    return row is words or bool(open_name(row)) and open_name(row) == open_name(words)
+    return held is asked or held.open != "" and held.open == asked.open
 
 
-def locks_of(owner: Owner, file: str) -> Iterator[Tuple[List[str], str]]:
+def locks_of(owner: Owner, file: OpenFile) -> Iterator[Tuple[OpenFile, str]]:
     """Yields the locks that a process has by its open files of one file, each with the descriptor."""
-    for words in owner.files.values():
-        if file in words:
-            yield from ((words, more) for more in words if more.startswith("lock:"))
+    return ((held, text) for held in owner.files.values() if held.file == file.file for text in held.locks)
 
 
 @dataclass
@@ -132,7 +125,7 @@ class Lock:
     @staticmethod
     def of(text: str) -> Optional["Lock"]:
         """Returns the lock of a line of fdinfo, or None if it isn't understood."""
-        words = text.split()[2:]
+        words = text.split()[1:]
         if len(words) != 7 or words[0] not in ("FLOCK", "POSIX", "OFDLCK") or words[2] not in ("READ", "WRITE"):
             return None
         if not (NUMBER.fullmatch(words[5]) and (words[6] == "EOF" or NUMBER.fullmatch(words[6]))):

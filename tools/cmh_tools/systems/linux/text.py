@@ -8,6 +8,7 @@ from functools import cached_property
 from typing import AbstractSet, Any, Callable, Dict, Iterable, Iterator, List, NamedTuple, Sequence, Set, Tuple
 
 from cmh_proc.calls import ARGUMENTS, MOST_ARGUMENTS, has_limit
+from cmh_proc.open_files import EPOLL, MEMORY, MORE, OpenFile, files_of
 
 from ...files import Refusal, shown
 from ...sketch import quote
@@ -17,20 +18,16 @@ Row = Dict[str, Any]
 MARK = "cmh-linux "
 VERSION = 1
 EXPECTED = "lines of cmh_linux are expected, as `cmh-dump linux --pid PID --save STATE` keeps them"
-CARRIES, RING = "scm_fds:", "UserFiles:"  # a socket with descriptors on their way, an io_uring that keeps files
-SIGMASK = "sigmask:"  # which signals a descriptor of them takes
-NO_KEYS = ("lock:", CARRIES, RING, SIGMASK)  # what of a descriptor doesn't tell its file from others
 MASTER, TERMINAL = "/dev/ptmx", "/dev/pts/"  # the end of a terminal that a program has, and how others' names begin
 NEVER_BY_PATH = ("pipe:", "socket:", "anon_inode:")  # what is open to read or to write, and so by no path alone
-EPOLL = "anon_inode:[eventpoll]"
 # The files without a name that keep no others: of a kind that isn't known it isn't known either.
 KEEPS_NONE = re.compile(r"(?!anon_inode:).*|anon_inode:(\[(event(poll|fd)|timerfd|signalfd|pidfd|fanotify|userfaultfd"
                         r"|perf_event|fscontext)\]|inotify|seccomp notify|sync_file|(bpf|kvm|landlock)[\w:-]+)", re.S)
 PARSERS = {"python": "python", "java": "jvm", "beam": "erlang", "go": "go", "mpi": "mpi"}  # by how programs are called
 OF_JAVA = "/libjvm.so"
-OPEN = "open "  # how the name of an open file begins, which several descriptors may share
 WORD = 4  # how far the two words are apart at which threads wait for a condition of glibc
 CONDITION = re.compile(r"pthread_cond_\w*wait|_ZNSt18condition_variable\d+wait\w+|std::condition_variable::wait")
+NOWHERE = OpenFile("")
 ENDED = "ZX"  # the states of those that have ended
 NUMBER, NUMBERED = re.compile(r"\d+"), re.compile(r"(.* )?\d+")  # within the name of a thread, and at its end
 NUMBERS = re.compile(r"[0-9]{1,9}(\s+[0-9]{1,9})*")
@@ -42,11 +39,6 @@ RUNNING, NO_CALL = "running", "-1"
 STATE = re.compile("[A-Za-z]")
 FILE = re.compile(r"(?!pipe:|socket:|anon_inode:).+|(pipe|socket):\[\d{1,20}\]"
                   r"|anon_inode:(\[[\w.: -]+\]|[\w.: ()-]+)", re.S)
-# What more is known of a descriptor: its file by numbers, and what the kernel says of some kinds.
-MEMORY = "memory [0-9a-f]{1,8}:[0-9a-f]{1,8} [0-9]{1,20}"
-MORE = re.compile(rf"(?:fifo|file|queue) [0-9a-f]{{1,16}}:\d{{1,20}}|{MEMORY}"
-                  r"|open \d{1,10}:\d{1,10}|lock: .*|it_value: \(\d{1,20}, \d{1,9}\)"
-                  r"|(?:eventfd-id|UserFiles|scm_fds):\s*\d{1,10}|Pid:\s*-?\d{1,10}|sigmask:\s*[0-9a-f]{1,16}")
 PID = range(1 << 22)  # what the kernel numbers processes and threads with
 THREAD = {"tid": PID, "state": STATE, "inner?": PID, "comm?": str, "call?": str, "args?": [HEX] * 6,
           "counts?": [int, int], "set?": ([[int, int]], [[int, int, int]]), "words?": re.compile("([0-9a-f]{2})*"),
@@ -101,7 +93,7 @@ class Owner:
         self.command = str(self.row.get("comm", ""))
         self.name = f"{self.command} {self.pid}"
         self.why = str(self.row.get("unreadable", ""))
-        self.files: Dict[str, List[str]] = self.row.get("fds", {})
+        self.files = files_of(self.row.get("fds", {}))
         self.threads = [Thread(self, row) for row in self.row.get("threads", [])] if not self.why else []
         self.living = [thread for thread in self.threads if thread.state not in ENDED]
 
@@ -126,7 +118,7 @@ class Owner:
     @cached_property
     def has_ring(self) -> bool:
         """Whether it has an io_uring."""
-        return any("io_uring" in words[0] for words in self.files.values())
+        return any(file.is_ring for file in self.files.values())
 
     @cached_property
     def numbered(self) -> Dict[int, List["Thread"]]:
@@ -155,6 +147,10 @@ class Owner:
             return ()
         return tuple(Frame(name, modules[module][0], place, modules[module][1])
                      for name, module, place in map(table.__getitem__, numbers))
+
+    def file(self, fd: int) -> OpenFile:
+        """Returns the file of a descriptor, or one that leads nowhere where it isn't known."""
+        return self.files.get(str(fd), NOWHERE)
 
     def catches(self, signal: int) -> bool:
         """Whether it has a handler of a signal."""
@@ -272,11 +268,11 @@ class Machine:
         self.parents.update({owner.pid: (owner.parent, owner.row["start"]) for owner in self.owners
                              if "start" in owner.row})
         self.listening: Dict[str, List[int]] = next((row["listening"] for row in rows if "listening" in row), {})
-        self.holders: Dict[str, List[Tuple[Owner, str]]] = {}
+        self.holders: Dict[str, List[Tuple[Owner, OpenFile]]] = {}
         for owner in self.owners:
-            for fd, words in owner.files.items() if not owner.why else ():
-                for key in (*keys_of(words), *(key for key in (MASTER, TERMINAL, EPOLL) if words[0].startswith(key))):
-                    self.holders.setdefault(key, []).append((owner, fd))
+            for file in owner.files.values() if not owner.why else ():
+                for key in (*file.keys(), *(key for key in (MASTER, TERMINAL, EPOLL) if file.target.startswith(key))):
+                    self.holders.setdefault(key, []).append((owner, file))
         self.carriers = [owner for owner in self.owners if not owner.why and owner.may_carry()]
         self.lists: Dict[Tuple[str, ...], List[str]] = {}
         self.unseen: Dict[str, str] = {}  # what stands for what no process is, and why that is unknown
@@ -285,8 +281,8 @@ class Machine:
 
     def with_file(self, key: str, mode: str = "") -> List[Owner]:
         """Returns the processes that have a file, open in a way, or in one that isn't known."""
-        return list(dict.fromkeys(owner for owner, fd in self.holders.get(key, [])
-                                  if mode in owner.files[fd][1] or not owner.files[fd][1]))
+        return list(dict.fromkeys(owner for owner, file in self.holders.get(key, [])
+                                  if mode in file.mode or not file.mode))
 
     def names_of(self, owners: Iterable[Owner], waiter: Thread) -> List[str]:
         """Returns the names of the living threads of some processes, in one list for all waits that have the same. A
@@ -410,19 +406,9 @@ def is_at_same_condition(first: Thread, thread: Thread) -> bool:
     return bool(is_one) and int(args[0], 16) ^ int(later_args[0], 16) == WORD
 
 
-def may_carry(words: List[str]) -> bool:
+def may_carry(file: OpenFile) -> bool:
     """Whether a descriptor may have files that none shows. An older kernel doesn't say how many an io_uring keeps."""
-    if not KEEPS_NONE.fullmatch(words[0]):
-        return f"{RING} 0" not in words[2:]
-    return any(more.startswith(CARRIES) for more in words[2:])
-
-
-def keys_of(words: List[str]) -> Iterator[str]:
-    """Yields what tells the file of a descriptor from others: the number of its pipe or socket, or what more is known.
-    """
-    if words[0].startswith(("pipe:[", "socket:[")):
-        yield words[0]
-    yield from (more for more in words[2:] if not more.startswith(NO_KEYS))
+    return file.carried is not None if KEEPS_NONE.fullmatch(file.target) else file.kept != 0
 
 
 def rows_of(text: str, path: str) -> List[Row]:

@@ -11,10 +11,11 @@ from collections import Counter
 from typing import Dict, Iterator, List, Optional, Set, Tuple
 
 from cmh_proc.calls import EPOLLS, IPC, int32
+from cmh_proc.open_files import OpenFile
 
 from ...sketch import UNREADABLE, Process, garbled, unknown
 from .children import tops_of
-from .text import ODD_THREADS, Machine, Owner, Thread, keys_of
+from .text import ODD_THREADS, Machine, Owner, Thread
 
 BELOW = "below "  # what stands for whatever is used below a process
 
@@ -32,7 +33,7 @@ class Branches:
         known who they are, they may."""
         keys = list(dict.fromkeys(keys_of_wait(self.machine, thread)))
         roots = {self.root_of(key) for key in keys}
-        if any(not set(keys).isdisjoint(keys_of(words)) for owner in unread for words in owner.files.values()):
+        if any(not set(keys).isdisjoint(file.keys()) for owner in unread for file in owner.files.values()):
             return True
         return not unread or not roots or any(
             root is None or self.may_descend(owner, root) for root in roots for owner in unread)
@@ -96,22 +97,18 @@ def keys_of_wait(machine: Machine, thread: Thread) -> Iterator[str]:
         yield from filter(None, [thread.row.get("memory")])
         return
     for fd, *_ in thread.events or [[int32(thread.arguments[0])]]:
-        yield from keys_with_peers(machine, thread.owner.files.get(str(fd), []))
+        yield from keys_with_peers(machine, thread.owner.file(fd))
     if thread.call in EPOLLS:
-        yield from keys_with_peers(machine, thread.owner.files.get(str(int32(thread.arguments[0])), []))
+        yield from keys_with_peers(machine, thread.owner.file(int32(thread.arguments[0])))
     if thread.call == "connect":
         numbers = machine.listening.get(f"{thread.owner.row.get('net')} {thread.row.get('path', '')}", [])
         yield from (f"socket:[{number}]" for number in numbers)
 
 
-def keys_with_peers(machine: Machine, words: List[str]) -> Iterator[str]:
+def keys_with_peers(machine: Machine, file: OpenFile) -> Iterator[str]:
     """Yields what tells an open file, and if it is a socket its peers."""
-    if not words:
-        return
-    yield from keys_of(words)
-    if words[0].startswith("socket:["):
-        peers = machine.sockets.get(int(words[0][8:-1]), {}).get("peers", [])
-        yield from (f"socket:[{peer}]" for peer in peers)
+    yield from file.keys()
+    yield from (f"socket:[{peer}]" for peer in machine.sockets.get(file.socket, {}).get("peers", ()))
 
 
 def unread_name(owners: List[Owner]) -> str:

@@ -9,7 +9,7 @@ from typing import Iterable, List
 from cmh_proc.calls import ACCEPTS, CHILDREN, EPOLLS, MOVES, READ, SETS, SLEEPS, SUSPENDS, WRITE, int32
 
 from ...model import Part, Sign, any_of, unseen, wakers
-from .text import OPEN, Machine, Owner, Thread
+from .text import Machine, Owner, Thread
 
 FILES, SLEEPER, UNTIMED = "files", "sleeper", "untimed"  # assumptions
 AT_FILES = (*READ, *WRITE, *ACCEPTS, *SETS, *EPOLLS, *MOVES)  # calls that wait at files
@@ -108,5 +108,5 @@ def against(machine: Machine, thread: Thread, owners: Iterable[Owner], how: str)
 def names_of_epoll(thread: Thread) -> List[str]:
     """Returns the name of the open epoll at which a thread waits, which others may have too, or of any epoll where the
     kernel doesn't tell one from another."""
-    words = thread.owner.files.get(str(int32(thread.arguments[0])), []) if thread.call in EPOLLS else []
-    return [more for more in words[2:] if more.startswith(OPEN)] or words[:1]
+    epoll = thread.owner.file(int32(thread.arguments[0])) if thread.call in EPOLLS else None
+    return [] if epoll is None else [epoll.key("open") if epoll.open else epoll.target]
