@@ -3,7 +3,7 @@
 _cmh_dump() {
     local word=${COMP_WORDS[COMP_CWORD]} before=${COMP_WORDS[COMP_CWORD - 1]}
     local options='--facts --output --save --pid --seconds --stacks --help --version'
-    local systems='erlang go jvm linux mariadb mpi postgres python rabbitmq sketch both join check'
+    local systems='linux erlang go jvm mariadb mpi postgres python rabbitmq sketch both join check'
     COMPREPLY=()
     case $before in
         --facts | --output | -o | --save)

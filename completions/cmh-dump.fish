@@ -1,6 +1,6 @@
 # Completions of cmh-dump for fish. Put this file into ~/.config/fish/completions.
 
-complete -c cmh-dump -n __fish_use_subcommand -f -a 'erlang go jvm linux mariadb mpi postgres python rabbitmq sketch both join check'
+complete -c cmh-dump -n __fish_use_subcommand -f -a 'linux erlang go jvm mariadb mpi postgres python rabbitmq sketch both join check'
 complete -c cmh-dump -l facts -r -F -d 'Facts, which no state shows'
 complete -c cmh-dump -s o -l output -r -F -d 'The dump to write'
 complete -c cmh-dump -l pid -x -a '(__fish_complete_pids)' -d 'Processes of this machine to read'

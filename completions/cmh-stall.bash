@@ -5,7 +5,7 @@ _cmh_stall() {
     local options='--seconds --with --stacks --kill --heap --yes --cookie-file'
     options+=' --output --redact --true --all --why --service --keep --timeout --grace'
     options+=' --most-seconds --most-memory --help --version'
-    local systems='linux jvm go python erlang mpi rabbitmq postgres mariadb'
+    local systems='linux erlang go jvm mariadb mpi postgres python rabbitmq'
     COMPREPLY=()
     case " ${COMP_WORDS[*]:1:COMP_CWORD-1} " in
         *' --timeout '*' -- '*) _command_of_cmh_stall && return ;;
@@ -14,7 +14,7 @@ _cmh_stall() {
     case $before:$word in
         *:-*) mapfile -t COMPREPLY < <(compgen -W "$options" -- "$word") ;;
         cmh-stall:* | --with:*) mapfile -t COMPREPLY < <(compgen -W "$systems" -o plusdirs -- "$word") ;;
-        rabbitmq:* | erlang:*) mapfile -t COMPREPLY < <(compgen -W "$(_cmh_nodes)" -- "$word") ;;
+        erlang:* | rabbitmq:*) mapfile -t COMPREPLY < <(compgen -W "$(_cmh_nodes)" -- "$word") ;;
         *) compopt -o default ;;
     esac
 }

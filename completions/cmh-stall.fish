@@ -1,9 +1,9 @@
 # Completions of cmh-stall for fish. Put this file into ~/.config/fish/completions.
 
-complete -c cmh-stall -n __fish_use_subcommand -a 'linux jvm go python erlang mpi rabbitmq postgres mariadb'
-complete -c cmh-stall -n '__fish_seen_subcommand_from rabbitmq erlang' -x -a '(epmd -names 2> /dev/null | string replace -rf "^name (.*) at port .*" "\$1@"(uname -n | cut -d. -f1))'
+complete -c cmh-stall -n __fish_use_subcommand -a 'linux erlang go jvm mariadb mpi postgres python rabbitmq'
+complete -c cmh-stall -n '__fish_seen_subcommand_from erlang rabbitmq' -x -a '(epmd -names 2> /dev/null | string replace -rf "^name (.*) at port .*" "\$1@"(uname -n | cut -d. -f1))'
 complete -c cmh-stall -l seconds -x -d 'The time between the two readings'
-complete -c cmh-stall -l with -x -a 'linux jvm go python erlang mpi rabbitmq postgres mariadb' -d 'Take another system at the same time'
+complete -c cmh-stall -l with -x -a 'linux erlang go jvm mariadb mpi postgres python rabbitmq' -d 'Take another system at the same time'
 complete -c cmh-stall -l stacks -d 'Of linux: add the stacks of those at a futex'
 complete -c cmh-stall -l kill -d 'End a Go program by SIGQUIT, which prints its goroutines'
 complete -c cmh-stall -l heap -d 'Dump the heap of a JVM too'
