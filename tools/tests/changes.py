@@ -8,9 +8,9 @@ import json
 import os
 import random
 import re
-from typing import Any, Callable, Dict, FrozenSet, List, NamedTuple, Sequence, TypeVar
+from typing import Any, Dict, FrozenSet, List, NamedTuple, Sequence, TypeVar
 
-from common import TOOLS
+from common import TOOLS, tables_of
 from harness import read
 
 from cmh_tools.model import HOWS, Part, Sign, Strength, Wakers, unseen, wakers
@@ -269,102 +269,32 @@ def in_place_of(block: List[str], old: List[str]) -> List[str]:
 
 
 # A bystander in the text of a state: it sleeps in a function of its own, as a thread of the program that is shown, or
-# in a process of its own, where a state has several. A rank of MPI is none, as all share a communicator.
+# in a process of its own, where a state has several. A rank of MPI is none, as all share a communicator. Each system's
+# is among its tables: a block of text, a row of JSON with how ROWS of it begin, or a function.
 
-
-BYSTANDERS = {
-    "go": """goroutine 9001 [sleep]:
-time.Sleep(0x34630b8a000)
-\truntime/time.go:195 +0x135
-main.bystander()
-\tbystander/bystander.go:7 +0x25
-created by main.main
-\tbystander/bystander.go:3 +0x47
-""",
-    "jvm": """\
-"bystander" #9001 prio=5 os_prio=0 cpu=0.10ms elapsed=2.40s tid=0x7f0f54999990 nid=0x7ff9 sleeping [0x7f0f51fff000]
-   java.lang.Thread.State: TIMED_WAITING (sleeping)
-\tat java.lang.Thread.sleep(java.base/Native Method)
-\tat Bystander.run(Bystander.java:7)
-
-   Locked ownable synchronizers:
-\t- None
-""",
-}
 APART = 99_001  # the number of a bystander that is a process of its own
-OF_ERLANG = f"""=process <0.{APART}.0> NODE
-{{references,[]}}
-{{may_end,[]}}
-{{closures,false}}
-{{code,[]}}
-{{registered_name,bystander}}
-{{initial_call,{{bystander,run,0}}}}
-{{dictionary,[]}}
-{{monitors,[]}}
-{{links,[]}}
-{{trap_exit,false}}
-{{current_stacktrace,[{{timer,sleep,1,[]}},{{bystander,run,0,[{{file,"bystander.erl"}},{{line,7}}]}}]}}
-{{message_queue_len,0}}
-{{messages,[]}}
-{{status,waiting}}
-Program counter: 0x00007f3cba6583ac (timer:sleep/1 + 348)
-
-0x00007f3cb8746730 Return addr 0x00007f3cba656934 (bystander:run/0 + 204)
-
-0x00007f3cb8746740 Return addr 0x00007f3cba200c30 (<terminate process normally>)
-{{reductions,14}}
-"""
-SLEEPS = {"pid": APART, "ppid": 1, "group": APART, "start": 1, "state": "S", "comm": "bystander", "TracerPid": "0",
-          "command": "/srv/bystander", "SigCgt": "0", "exe": "/srv/bystander", "fds": {}, "timers": False,
-          "threads": [{"tid": APART, "state": "S", "pending": False, "call": "clock_nanosleep", "args": ["0x0"] * 6,
-                       "wchan": "hrtimer_nanosleep", "counts": [1, 1]}]}
-OF_MARIADB = {"thread": APART, "user": "bystander", "host": "localhost:59999", "db": "shop", "command": "Sleep",
-              "time": 1, "state": "", "info": None, "user_lock": None, "query_id": 1, "tid": APART}
-OF_POSTGRES = {"pid": APART, "backend": APART, "query": "select 1", "state": "idle", "application_name": "bystander",
-               "usename": "bystander", "usesysid": "10", "client_addr": "127.0.0.1", "client_port": 59999,
-               "backend_type": "client backend", "wait_event_type": "Client", "wait_event": "ClientRead",
-               "blocked_by": None, "xact_start": None, "query_start": "2026-11-29T01:00:00+00:00",
-               "state_change": "2026-11-29T01:00:00+00:00", "backend_xid": None, "backend_xmin": None}
-OF_PYTHON = {"of": APART, "thread": APART, "name": "MainThread", "native": APART, "daemon": False, "main": True,
-             "moved": False, "stops": 1, "spent": 0, "new_stops": 0, "asleep": True, "holds": [], "loop": None,
-             "call": {"words": "time.sleep", "how": "call", "on": {"type": "module", "id": "0x7fecfa0e73d0"},
-                      "module": "time", "function": "sleep", "arguments": None},
-             "frames": [{"in": "bystander.<module>", "file": "/srv/bystander.py", "line": 7}]}
-OF_RABBITMQ: Dict[str, Dict[str, Any]] = {
-    "list_connections": {"pid": "#PID<1.90.1>", "client_properties": [["connection_name", "longstr", "bystander"]],
-                         "state": "running"},
-    "list_channels": {"pid": "#PID<1.90.2>", "connection": "#PID<1.90.1>", "messages_unacknowledged": 0},
-    "list_consumers": {"queue_name": "bystanders", "channel_pid": "#PID<1.90.2>", "ack_required": True, "active": True,
-                       "consumer_tag": "bystander"},
-    "list_queues": {"name": "bystanders", "messages_ready": 0, "messages_unacknowledged": 0, "arguments": []},
-    "list_bindings": {"source_name": "", "destination_name": "bystanders", "routing_key": "bystanders",
-                      "destination_kind": "queue"},
-    "connections": {"pid": "#PID<1.90.1>"}, "channels": {"pid": "#PID<1.90.2>", "messages_unconfirmed": 0}}
 
 
 def one_more(text: str, system: str) -> str:
     """Returns a state with a bystander in each of its readings, or as it is if the system has none here."""
-    return WAYS[system](text, system) if system in WAYS else text
+    tables = tables_of(system)
+    if hasattr(tables, "one_more"):
+        return str(tables.one_more(text))
+    if hasattr(tables, "ROWS"):
+        return one_more_line(text, tables.BYSTANDER, *tables.ROWS)
+    return one_more_block(text, system, tables.BYSTANDER) if hasattr(tables, "BYSTANDER") else text
 
 
-def one_more_block(text: str, system: str) -> str:
+def one_more_block(text: str, system: str, block: str) -> str:
     rows = text.split("\n")
-    added = BYSTANDERS[system].split("\n")
+    added = block.split("\n")
     for run in reversed(runs_of(rows, system)):
         rows[run[0]:run[0]] = added
     return "\n".join(rows)
 
 
-def one_more_of_erlang(text: str, system: str) -> str:
-    """Each node has one, with the items that its others have, before what counts its processes."""
-    block = "".join(row for row in OF_ERLANG.splitlines(True) if row[0] != "{" or f"\n{row.partition(',')[0]}," in text)
-    return re.sub(r"^=end (\d+) (\S+)$",
-                  lambda end: f"{block.replace('NODE', end[2])}=end {int(end[1]) + 1} {end[2]}", text, flags=re.M)
-
-
-def one_more_line(text: str, system: str) -> str:
+def one_more_line(text: str, more: Dict[str, Any], mark: str, key: str) -> str:
     """One more row stands before each that counts those of a reading."""
-    mark, more, key = LINES[system]
     rows: List[str] = []
     like: Dict[str, Any] = {}
     for row in text.split("\n"):
@@ -375,41 +305,3 @@ def one_more_line(text: str, system: str) -> str:
             row = mark + json.dumps({**tree, key: tree[key] + 1})
         rows.append(row)
     return "\n".join(rows)
-
-
-def one_more_of_python(text: str, system: str) -> str:
-    """A process of its own is shown before the first one of each look."""
-    rows: List[str] = []
-    first = None
-    for row in text.split("\n"):
-        tree = json.loads(row[len(OF_STATE):]) if row.startswith(OF_STATE) else {}
-        first = first or tree.get("pid")
-        if "version" in tree and tree["pid"] == first:
-            none = dict.fromkeys({"queues"} & tree.keys(), 0)  # (it has no queue of multiprocessing)
-            head = {**tree, **none, "process": "bystander", "pid": APART, "parent": 1}
-            rows += [OF_STATE + json.dumps(it) for it in (head, OF_PYTHON, {"end": APART, "rows": 1})]
-        rows.append(row)
-    return "\n".join(rows)
-
-
-def one_more_of_rabbitmq(text: str, system: str) -> str:
-    """A connection has a consumer at a queue of its own."""
-    parts = re.split(r"(?m)^(# .*\n)", text)
-    for number in range(1, len(parts), 2):
-        name = parts[number].replace("# rabbitmqctl", "#").split()[1]
-        tree = json.loads(parts[number + 1]) if name in (*OF_RABBITMQ, "tables", "server") else None
-        if tree:
-            inner = tree.get("value", {}) if isinstance(tree, dict) else {name: tree}
-            for key, more in OF_RABBITMQ.items():
-                if inner.get(key):
-                    inner[key].append({**inner[key][0], **more})
-            parts[number + 1] = json.dumps(tree) + "\n"
-    return "".join(parts)
-
-
-OF_STATE = "cmh-state "
-LINES = {"linux": ("cmh-linux ", SLEEPS, "processes"), "mariadb": ("cmh-mariadb ", OF_MARIADB, "end"),
-         "postgres": ("cmh-postgres ", OF_POSTGRES, "end")}
-WAYS: Dict[str, Callable[[str, str], str]] = {
-    **dict.fromkeys(BYSTANDERS, one_more_block), **dict.fromkeys(LINES, one_more_line),
-        "erlang": one_more_of_erlang, "python": one_more_of_python, "rabbitmq": one_more_of_rabbitmq}

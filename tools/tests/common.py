@@ -2,6 +2,8 @@
 from __future__ import annotations
 
 import contextlib
+import functools
+import importlib.util
 import io
 import json
 import os
@@ -29,6 +31,7 @@ from plain import plain_edges, plain_roots  # noqa: E402
 
 DUMP, EXPLAIN = ([sys.executable, f"{TOOLS}/{name}"] for name in ("cmh-dump", "cmh-explain"))
 WORDS = {"waits_for_any": "any", "waits_for_all": "all"}  # how expected ones are written
+FRAME = re.compile(r"(?P<function>.*) \((?P<file>.*):(?P<line>\d+)\)")  # as the answers have it
 RESTING = 20  # looks, 0.05 s apart, in each of which one that rests has done nothing
 ALONE = ["unshare", "--user", "--map-root-user", "--pid", "--mount-proc", "--fork", "--kill-child"]
 
@@ -41,6 +44,16 @@ def heed_interrupts():
 def proposals(sketch):
     """Returns the lines of facts that a sketch asks for."""
     return [line.text() for line in propose(Waits(sketch))]
+
+
+@functools.lru_cache(maxsize=None)
+def tables_of(system: str) -> Any:
+    """Returns what the tests know of a system, beside its kept cases."""
+    path = f"{TOOLS}/tests/data/stalls/{system}/{system}_tables.py"
+    spec = importlib.util.spec_from_file_location(f"{system}_tables", path)
+    made = importlib.util.module_from_spec(spec)  # type: ignore[arg-type]
+    spec.loader.exec_module(made)  # type: ignore[union-attr]
+    return made
 
 
 class Truth(NamedTuple):
