@@ -218,14 +218,16 @@ class Picture:
         return [arrow for (start, style), ends in by_kind.items() for arrow in self.arrows_of(start, style, list(ends))]
 
     def ends_of(self, index: int, hubs: Dict[int, List[int]]) -> List[int]:
-        """Returns the boxes of those that one waits for. `hubs` keeps those of the lists that several share."""
-        if not self.waits.has_hub(index):
-            return [self.box_of[other] for other in self.waits.left[index] if other in self.box_of]
-        hub = self.waits.left[index][0]
-        if hub not in hubs:
-            others = (other for other in self.waits.left[hub] if other in self.box_of)
-            hubs[hub] = list(dict.fromkeys(self.box_of[other] for other in others))
-        return hubs[hub]
+        """Returns the boxes of those that one waits for, those of lists last. `hubs` keeps those of the lists that
+        several share."""
+        nodes = sorted(self.waits.left[index], key=lambda node: node >= self.waits.number)
+        for hub in nodes:
+            if hub >= self.waits.number and hub not in hubs:
+                hubs[hub] = list(dict.fromkeys(self.boxes_of(self.waits.all_left(hub))))
+        return [box for node in nodes for box in hubs.get(node) or self.boxes_of([node])]
+
+    def boxes_of(self, members: Row) -> List[int]:
+        return [self.box_of[member] for member in members if member in self.box_of]
 
     def arrows_of(self, start: int, style: str, ends: List[int]) -> List[Arrow]:
         """Returns the arrows from a box: one to a root as a whole if it waits for several boxes of it, or if several
@@ -304,9 +306,10 @@ class Picture:
             sent = by_first(self.pairs)
             return [([member], sent.get(member, []), True) for member in members]
         waiting = [member for member in members if self.waits.kinds[member] == style]
-        hubs = by_first((self.waits.left[member][0], member) for member in waiting if self.waits.has_hub(member))
-        own = [([member], self.waits.left[member], True) for member in waiting if not self.waits.has_hub(member)]
-        return [*own, *((row, self.waits.left[hub], False) for hub, row in hubs.items())]
+        lists = {member: self.waits.list_of(member) for member in waiting}
+        hubs = by_first((hub, member) for member, hub in lists.items() if hub is not None)
+        own = [([member], self.waits.all_left(member), True) for member, hub in lists.items() if hub is None]
+        return [*own, *((row, self.waits.all_left(hub), False) for hub, row in hubs.items())]
 
     def sentences(self) -> Iterator[str]:
         """Yields in words what the arrows say."""
