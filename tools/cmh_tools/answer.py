@@ -64,6 +64,7 @@ def tree_of(found: Findings, noted: Optional[str] = None, at: Optional[int] = No
         "premises": [{"name": it.name, "text": it.text, "processes": it.number} for it in reasons(found, PREMISE)],
         "facts": fact_rows(found),
         "warnings": list(sketch.warnings),
+        "in_transit": [list(pair) for pair in sketch.in_transit],
         "cut": cut_of(found),
         "why": None if at is None else why_row(found, at),
         "lists": {**{list_name(found, at): names(found, found.waits.all_left(at))
