@@ -2,11 +2,10 @@
 roots are the same."""
 from __future__ import annotations
 
-from typing import Dict, FrozenSet, List, NamedTuple, Set
+from typing import Dict, List, NamedTuple, Set
 
-from .explain import Explanation
 from .files import Failure, shown
-from .findings import LIKELY, STUCK, UNDECIDED
+from .say.view import LIKELY, STUCK, UNDECIDED, View
 from .sketch import ENDED
 
 GONE_ON, AWAY, OPEN, NEW, AGAIN, STILL = (
@@ -29,9 +28,9 @@ class RootChange(NamedTuple):
 class Comparison:
     """What changed from one answer to another. `changes` has what became of each who is stuck in one of them."""
 
-    def __init__(self, old: Explanation, new: Explanation) -> None:
+    def __init__(self, old: View, new: View) -> None:
         self.old, self.new = old, new
-        systems = [explanation.dump.sketch.system or "no system that is named" for explanation in (old, new)]
+        systems = [view.tree["system"] or "no system that is named" for view in (old, new)]
         if systems[0] != systems[1]:
             raise Failure(f"two answers of one system can be compared: the older one is of {shown(systems[0])}, and "
                           f"the newer one of {shown(systems[1])}", 2)
@@ -45,24 +44,22 @@ class Comparison:
 
     def change(self, name: str) -> str:
         """Returns what became of one who is stuck in one of the answers."""
-        before, after = self.old.waits.index.get(name), self.new.waits.index.get(name)
-        was, now = (None if index is None else explanation.verdict(index)
-                    for explanation, index in ((self.old, before), (self.new, after)))
-        if before is None or was not in (STUCK, LIKELY):
+        before, after = (view.rows[view.index[name]] if name in view.index else None for view in (self.old, self.new))
+        if before is None or before["verdict"] not in (STUCK, LIKELY):
             return NEW
-        if after is None or now == ENDED:
+        if after is None or after["verdict"] == ENDED:
             return AWAY
-        if now not in (STUCK, LIKELY):
-            return OPEN if now == UNDECIDED else GONE_ON
-        return STILL if self.old.place(before) == self.new.place(after) else AGAIN
+        if after["verdict"] not in (STUCK, LIKELY):
+            return OPEN if after["verdict"] == UNDECIDED else GONE_ON
+        return STILL if before["note"] == after["note"] else AGAIN
 
     def root_changes(self) -> List[RootChange]:
         """Returns what became of each root, those of the newer answer first."""
-        older = [member_names(self.old, number) for number in range(len(self.old.roots.roots))]
+        older = [frozenset(root["members"]) for root in self.old.tree["roots"]]
         used: Set[int] = set()
         changes = []
-        for number in range(len(self.new.roots.roots)):
-            members = member_names(self.new, number)
+        for number, root in enumerate(self.new.tree["roots"]):
+            members = frozenset(root["members"])
             nearest = max(range(len(older)), key=lambda other: (other not in used, len(older[other] & members)),
                           default=-1)
             if nearest < 0 or nearest in used or not older[nearest] & members:
@@ -74,9 +71,5 @@ class Comparison:
         return changes + [RootChange(number + 1, 0, OVER, [], []) for number in range(len(older)) if number not in used]
 
 
-def stuck_names(explanation: Explanation) -> List[str]:
-    return [explanation.process(index).name for index in explanation.stuck]
-
-
-def member_names(explanation: Explanation, number: int) -> FrozenSet[str]:
-    return frozenset(explanation.process(index).name for index in explanation.roots.roots[number])
+def stuck_names(view: View) -> List[str]:
+    return [view.rows[at]["name"] for at in view.with_verdict(STUCK, LIKELY)]

@@ -79,7 +79,7 @@ def dot(picture: Picture, plan: Plan = Plan()) -> str:
     lines = ["digraph stall {",
              f'  graph [rankdir=RL, compound=true, nodesep=0.22, ranksep={plan.gap}, pack=12, packmode="array_ctu1",',
              f'    labelloc=t, labeljust=l, fontname="{FONT}", fontsize=15, '
-             f'label={label(filter(None, [picture.cure(), picture.caption()]), CAPTION, LEFT)}];',
+             f'label={label(filter(None, [picture.cure, picture.caption()]), CAPTION, LEFT)}];',
              f'  node [shape=box, fontname="{FONT}", fontsize=11, margin="0.14,0.07", color="#222222"];',
              f'  edge [fontname="{FONT}", fontsize=11, color="#222222", arrowsize=0.8];', *legend(picture)]
     for name, boxes in from_below(picture):
@@ -108,7 +108,8 @@ def frames_of(boxes: Iterable[Box]) -> Frames:
     """Returns the boxes of each frame: a root, those behind roots, which have none, and the others."""
     frames: Frames = {}
     for box in boxes:
-        frames.setdefault(f"root_{box.part.root}" if box.part.sort == ROOT else FRAME_OF[box.part.sort], []).append(box)
+        sort, root = box.part
+        frames.setdefault(f"root_{root}" if sort == ROOT else FRAME_OF[sort], []).append(box)
     return frames
 
 

@@ -147,8 +147,7 @@ def main(words: Sequence[str]) -> int:
     index = None if asked.why is None else index_of(dump, asked.why)
     tree = answer(dump, noted, index)
     if is_form:
-        write_form(asked, tree, Explanation(dump, asked.all, style), index,
-                   None if old is None else Explanation(old, asked.all, style))
+        write_form(asked, tree, None if old is None else answer(old), style)
     elif asked.summary:
         write_out(summary(tree, style))
     elif not asked.quiet:

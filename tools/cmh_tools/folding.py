@@ -10,10 +10,11 @@ from __future__ import annotations
 from collections import Counter
 from typing import Collection, Dict, Iterable, List, NamedTuple, Optional, Set, Tuple
 
-from .explain import Explanation
 from .files import shown
 from .model import Strength
-from .sketch import ENDED, RUNS, UNKNOWN, Process
+from .say.view import Tree
+from .sketch import ENDED, RUNS, UNKNOWN
+from .wait_graph import WaitGraph
 
 ALIKE, LINE_OF_SITE, LINE, LARGEST, ONE = range(5)  # the steps
 ROOT, BEHIND, SHARED, MORE, UNDECIDED, OPEN, FREE, RUNNING, OVER = SORTS = (
@@ -23,6 +24,7 @@ ROOTS = 6  # roots that are drawn apart
 PARTS = 4  # a part has at most one of so many boxes
 ALIKE_ROOTS = 3  # of so many that are alike, one is drawn
 AMPLE = {ROOT: 8, BEHIND: 6, SHARED: 4, MORE: 1, UNDECIDED: 4, OPEN: 4, FREE: 3, RUNNING: 3, OVER: 2}  # of a part
+BESIDE = (Strength.AGAINST.value, Strength.UNSEEN.value)  # of those who end a wait in another way, or aren't seen
 Row = List[int]  # of processes that share a box
 
 
@@ -37,31 +39,31 @@ class Folding:
     """The rows of each part, at most `most`. `alone` are those that share no box, as they are asked for; if `is_whole`,
     nobody does."""
 
-    def __init__(self, explanation: Explanation, indices: Iterable[int], alone: Collection[int], is_whole: bool,
+    def __init__(self, graph: WaitGraph, indices: Iterable[int], alone: Collection[int], is_whole: bool,
                  most: int = MOST) -> None:
-        self.this, self.waits, self.alone, self.is_whole = explanation, explanation.waits, alone, is_whole
+        self.graph, self.alone, self.is_whole = graph, alone, is_whole
         self.small, self.few, self.most = min(SMALL, most), min(FEW, most), most
-        self.senders = {sender for senders in self.waits.senders for sender in senders}
-        self.apart = set(range(len(explanation.roots.roots)) if is_whole else roots_apart(explanation, most))
+        self.senders = {name for row in graph.rows for name in row["in_transit_from"]}
+        self.apart = {*range(len(graph.roots))} if is_whole else {*roots_apart(graph, most)}
         self.parts: Dict[Part, Row] = {}
         indices = list(indices)
         for index in indices:
             self.parts.setdefault(self.part_of(index), []).append(index)
-        self.whom, self.waiters = known_by(self.waits.left, indices), known_by(self.waits.waiters, indices)
+        self.whom, self.waiters = known_by(graph.successors, indices), known_by(graph.predecessors, indices)
 
     def part_of(self, index: int) -> Part:
-        roots = self.this.roots
-        if index in roots.above:
-            number, *others = roots.above[index]
-            if others:
-                return Part(SHARED)
-            return Part(ROOT if index in roots.root_of else BEHIND, number) if number in self.apart else Part(MORE)
-        kind = self.waits.kinds[index]
+        row, kind = self.graph.rows[index], self.graph.kind(index)
+        numbers = [row["root"]] if row["root"] else row["behind"]
+        if numbers[1:]:
+            return Part(SHARED)
+        if numbers:
+            sort, number = ROOT if row["root"] else BEHIND, numbers[0] - 1
+            return Part(sort, number) if number in self.apart else Part(MORE)
         if kind == ENDED:
             return Part(OVER)
-        if index in self.this.open:
+        if row["verdict"] == UNDECIDED:
             return Part(OPEN if kind == UNKNOWN else UNDECIDED)
-        return Part(RUNNING if kind == RUNS or index in self.this.quiet else FREE)
+        return Part(RUNNING if kind == RUNS or self.graph.is_quiet(index) else FREE)
 
     def rows(self) -> List[Tuple[Part, Row]]:
         """Returns the rows with their parts, those of roots first."""
@@ -94,7 +96,7 @@ class Folding:
     def ample(self, part: Part) -> int:
         """Returns how many rows are ample for a part: fewer where there are few in all. Where nobody is stuck, those
         that wait have more."""
-        ample = AMPLE[ROOT if part.sort == FREE and not self.this.stuck else part.sort]
+        ample = AMPLE[ROOT if part.sort == FREE and not self.graph.roots else part.sort]
         return min(ample, max(self.most // PARTS, 1))
 
     def groups(self, part: Part, step: int) -> List[Row]:
@@ -113,46 +115,46 @@ class Folding:
         return rows[:kept] + ([rest] if rest else [])
 
     def is_next_to_root(self, index: int) -> bool:
-        return any(other in self.this.roots.root_of for other in self.waits.left[index])
+        graph = self.graph
+        return any(graph.rows[other]["root"] for other in graph.successors[index] if other < graph.number)
 
     def key(self, index: int, step: int) -> object:
         """Returns what those have in common that share a row after a step. One whose place isn't known shares none."""
-        process = self.waits.processes[index]
-        place, sort = self.this.note(index) or shown(process.reason), (process.kind, self.this.goes_on(index))
+        row = self.graph.rows[index]
+        place, sort = self.graph.note(index) or shown(row["reason"]), (row["kind"], row["goes_on"])
         if step == ALIKE:
-            return sort, place, process.site, self.whom[index], self.waiters[index], index in self.senders
-        if process.frames:
-            place = f"{process.operation} {process.frames[0]}"
-        return (sort, place, process.site if step == LINE_OF_SITE else None) if place else index
+            return sort, place, row["site"], self.whom[index], self.waiters[index], row["name"] in self.senders
+        if row["frames"]:
+            place = f"{row['operation']} {row['frames'][0]}"
+        return (sort, place, row["site"] if step == LINE_OF_SITE else None) if place else index
 
 
-def roots_apart(this: Explanation, most: int) -> List[int]:
+def roots_apart(graph: WaitGraph, most: int) -> List[int]:
     """Returns the roots that are drawn: one of those that are alike, and at most a few, fewer where boxes are few."""
     alike: Dict[object, List[int]] = {}
-    for number, members in enumerate(this.roots.roots):
-        alike.setdefault(tuple(sorted(map(this.note, members))), []).append(number)
+    for number, members in enumerate(graph.roots):
+        alike.setdefault(tuple(sorted(map(graph.note, members))), []).append(number)
     drawn = (number for numbers in alike.values() for number in numbers[:1 if len(numbers) >= ALIKE_ROOTS else None])
     return sorted(drawn)[:min(ROOTS, max(most // PARTS, 1))]
 
 
-def stand_for_others(this: Explanation) -> Set[int]:
+def stand_for_others(graph: WaitGraph) -> Set[int]:
     """Returns those who only stand for others: with no place of their own, waiting for nobody, and named by no wait but
     as somebody who isn't in the state, or who may end it in another way."""
-    named: Dict[int, Iterable[str]] = {}
-    beside: Dict[int, Iterable[str]] = {}
-    for process in this.original.sketch.processes:
-        for group in (group for part in process.parts for group in part):
-            is_beside = group.strength in (Strength.AGAINST, Strength.UNSEEN)
-            (beside if is_beside else named).setdefault(id(group.who), group.names())
-    needed = {name for names in named.values() for name in names}
-    others = {name for names in beside.values() for name in names}.difference(needed)
-    numbers = [this.waits.index[name] for name in others if name in this.waits.index]
-    return {number for number in numbers if is_without_place(this.process(number))}
+    named: Dict[object, Tree] = {}
+    beside: Dict[object, Tree] = {}
+    for wakers in (wakers for row in graph.rows for part in row["wakers"] for wakers in part):
+        who = wakers["who"]
+        (beside if wakers["strength"] in BESIDE else named).setdefault(who if isinstance(who, str) else id(who), wakers)
+    needed, others = ({name for wakers in some.values() for name in graph.names_of(wakers)}
+                      for some in (named, beside))
+    numbers = [graph.index[name] for name in others - needed if name in graph.index]
+    return {number for number in numbers if is_without_place(graph.rows[number])}
 
 
-def is_without_place(process: Process) -> bool:
-    is_bare = process.frames in ([], [process.name])
-    return is_bare and not (process.parts or process.site or process.operation or process.thread)
+def is_without_place(row: Tree) -> bool:
+    is_bare = row["frames"] in ([], [row["name"]])
+    return is_bare and not (row["wakers"] or row["site"] or row["operation"] or row["thread"])
 
 
 def known_by(lists: List[List[int]], indices: Iterable[int]) -> Dict[int, Tuple[int, ...]]:

@@ -7,17 +7,18 @@ import stat
 import sys
 from typing import Any, Iterator, Optional
 
-from .answer import Tree
 from .comparison import Comparison
 from .dot import dot
 from .drawing import drawings
-from .explain import Explanation
 from .files import Failure, Refusal, read_text, write_out, write_texts
 from .page import Older, Page
 from .picture import Picture
 from .say.as_json import text_of_answer
+from .say.view import Tree
 from .say.whole import summary
 from .svg import check_graphviz, svg
+from .terminal import Style
+from .wait_graph import WaitGraph
 
 MOST_OF_STATES = 2_000_000  # characters, in a page
 
@@ -29,31 +30,29 @@ def check_form(asked: Any) -> None:
             check_graphviz()
 
 
-def write_form(asked: Any, tree: Tree, explanation: Explanation, index: Optional[int],
-               old: Optional[Explanation]) -> None:
-    """Writes an answer in the form that is asked for."""
+def write_form(asked: Any, tree: Tree, old: Optional[Tree], style: Style) -> None:
+    """Writes an answer in the form that is asked for, in a page beside an older one, if there is one."""
     if asked.json:
         write_out(text_of_answer(tree))
     elif asked.dot:
-        write_out(dot(Picture(explanation, index, asked.all)))
+        write_out(dot(Picture(WaitGraph(tree, asked.all), asked.all)))
     elif asked.svg:
         with words_for_picture():
-            picture = svg(Picture(explanation, index, asked.all))
+            picture = svg(Picture(WaitGraph(tree, asked.all), asked.all))
         write_out(picture)
     else:
-        write_page(asked, explanation, tree, index, old)
+        write_page(asked, WaitGraph(tree, asked.all), None if old is None else WaitGraph(old, asked.all))
+        write_out(summary(tree, style))
 
 
-def write_page(asked: Any, explanation: Explanation, tree: Tree, index: Optional[int],
-               old: Optional[Explanation]) -> None:
-    """Writes the page of an answer, with an older one beside it, if there is one, and prints its first line."""
+def write_page(asked: Any, graph: WaitGraph, old: Optional[WaitGraph]) -> None:
+    """Writes the page of an answer."""
     states = [(os.path.basename(path), read_text(path)) for path in asked.state]
     if sum(len(lines) for _, lines in states) > MOST_OF_STATES:
         raise Refusal(f"--state: a page takes states of at most {MOST_OF_STATES:,} characters")
-    drawn, *beside = drawings([(explanation, index), *([] if old is None else [(old, None)])])
-    older = None if old is None else Older(Comparison(old, explanation), beside[0].beside())
-    write_texts([(asked.html, Page(explanation, tree, drawn, states, older).html())])
-    write_out(summary(tree, explanation.style))
+    drawn, *beside = drawings([graph, *([] if old is None else [old])])
+    older = None if old is None else Older(Comparison(old, graph), beside[0].beside())
+    write_texts([(asked.html, Page(graph, drawn, states, older).html())])
 
 
 @contextlib.contextmanager

@@ -38,7 +38,7 @@ def layered_tree(picture: Picture) -> Element:
     """Returns a picture as SVG, laid out here."""
     layers = Layers(picture)
     layers = layers if layers.width <= FIT else Layers(picture, WIDTHS[1])
-    caption = [line for words in (picture.cure(), picture.caption()) if words for line in wrap(words, CAPTION)]
+    caption = [line for words in (picture.cure, picture.caption()) if words for line in wrap(words, CAPTION)]
     above = MARGIN + HEADLINE * len(caption)
     tree = ElementTree.Element(f"{{{SPACE}}}svg")
     graph = group(tree, "graph", "stall")

@@ -8,17 +8,17 @@ import html
 from typing import Collection, Dict, Iterable, Iterator, List, NamedTuple, Optional, Sequence, Tuple
 
 from . import VERSION
-from .answer import Tree
+from .captions import headline, restarts
 from .comparison import CHANGES, Comparison, RootChange
-from .explain import Explanation
-from .files import MOST_OF_LINE, escaped, shown
 from .drawing import Drawing
+from .files import MOST_OF_LINE, escaped, shown
 from .page_data import WORDS, Data, end_words, said_of, text_of_data
 from .page_look import FILTER, PAGE, PANEL, VIEW, script, style
-from .picture import headline, restarts
-from .proposals import legend
+from .say.view import Tree, View
+from .say.whole import Whole
 from .sketch import ALL, ANY, UNKNOWN
-from .steps import next_steps, ways_of
+from .steps import ways_of
+from .wait_graph import WaitGraph
 from .words import number_of
 
 ROWS, ROOTS, NAMES, STEPS, LINES = 100_000, 50, 5, 3, 100  # as many are shown, unless all are asked for
@@ -64,13 +64,12 @@ def list_of(items: Iterable[str]) -> List[str]:
 
 
 class Page:
-    """The page of an answer, which is `tree`. `states` are texts with their names. An older answer may stand beside."""
+    """The page of an answer. `states` are texts with their names. An older answer may stand beside."""
 
-    def __init__(self, this: Explanation, tree: Tree, picture: Drawing, states: States, older: Optional[Older]) -> None:
-        self.this, self.tree, self.picture, self.states, self.older = this, tree, picture, states, older
-        self.rows: List[Tree] = tree["processes"]
-        self.index, self.restarts = this.waits.index, restarts(this)
-        self.steps = next_steps(this)
+    def __init__(self, graph: WaitGraph, picture: Drawing, states: States, older: Optional[Older]) -> None:
+        self.view, self.tree, self.picture, self.states, self.older = graph, graph.tree, picture, states, older
+        self.rows, self.index, self.restarts = graph.rows, graph.index, restarts(graph)
+        self.steps = graph.next_steps()
         self.ways = ways_of(self.steps)
         order = sorted(range(len(self.rows)), key=self.place)
         self.order = order[:self.most(order, ROWS)]
@@ -105,7 +104,7 @@ class Page:
         looks, acts = style(), script()
         return PAGE.format(
             policy=f"style-src 'sha256-{digest(looks)}'; script-src 'sha256-{digest(acts)}'", style=looks, script=acts,
-            title=text(headline(self.this)), about=text(self.about()),
+            title=text(headline(self.view)), about=text(self.about()),
             links="\n".join(f'<a href="#{section.name}">{section.word}</a>' for section in there),
             sections="\n".join(map(text_of_section, there)), panel=PANEL, data=text_of_data(self.data()),
             made=MADE.format(VERSION, text(self.tree["program"]["sha256"])))
@@ -113,8 +112,7 @@ class Page:
     def data(self) -> Tree:
         """Returns what the script knows."""
         changes = self.older.comparison.changes if self.older else {}
-        data = Data(self.this, self.tree, self.order, self.steps, self.reasons, changes)
-        return data.tree_of(self.picture.picture)
+        return Data(self.view, self.order, self.steps, self.reasons, changes).tree_of(self.picture.picture)
 
     def about(self) -> str:
         """Returns what stands below the headline."""
@@ -131,7 +129,7 @@ class Page:
         if self.older is None:
             return
         compared = self.older.comparison
-        heads = [f"<p>{text(headline(explanation))}</p>" for explanation in (compared.old, compared.new)]
+        heads = [f"<p>{text(headline(view))}</p>" for view in (compared.old, compared.new)]
         yield f'<div class="beside"><div><h3>Older</h3>{heads[0]}</div><div><h3>Newer</h3>{heads[1]}</div></div>'
         rows = [f"<tr><td>{self.cell(compared.old, change.old)}</td><td>{self.cell(compared.new, change.new)}</td>"
                 f"<td>{self.root_words(change)}</td></tr>"
@@ -144,11 +142,9 @@ class Page:
                           for change, names in ((change, compared.names(change)) for change in CHANGES) if names)
         yield f"<details><summary>The older picture</summary>{self.older.picture}</details>"
 
-    def cell(self, explanation: Explanation, root: int) -> str:
+    def cell(self, view: View, root: int) -> str:
         """Returns a root of an answer with its first members, or nothing where it isn't in it."""
-        members = explanation.roots.roots[root - 1] if root else []
-        names = [explanation.process(index).name for index in members]
-        return f"Root {root}: {self.links(names)}" if root else ""
+        return f"Root {root}: {self.links(view.tree['roots'][root - 1]['members'])}" if root else ""
 
     def root_words(self, change: RootChange) -> str:
         came, left = (f"; {word} {self.links(names)}" if names else ""
@@ -164,7 +160,10 @@ class Page:
         if rows[most:]:
             yield f"<p>And {number_of(len(rows) - most, 'root', 'roots')} more, in the table below.</p>"
         if rows:
-            yield from (f"<p>{text(line)}</p>" for line in self.this.advice() if not line.startswith(" "))
+            yield from (f"<p>{text(line)}</p>" for line in self.advice() if not line.startswith(" "))
+
+    def advice(self) -> List[str]:
+        return Whole(self.tree, self.view.everything).advice()
 
     def root(self, row: Tree) -> str:
         number, members = row["root"], row["members"]
@@ -183,12 +182,11 @@ class Page:
 
     def doubts(self, row: Tree) -> List[str]:
         """Returns the doubts of a root, and the words that say that they are none."""
-        members = [self.index[name] for name in row["members"]]
-        doubts = self.this.doubts_of(members)
+        members, doubts = self.view.numbers(row["members"]), self.view.doubts_of(row["root"] - 1)
         if not doubts:
             return []
-        items = [f"{doubt.number}: {text(self.this.doubt_words(doubt, members))}" for doubt in doubts]
-        numbers = ",".join(str(doubt.number) for doubt in doubts)
+        items = [f"{doubt['number']}: {text(self.view.doubt_words(doubt, members))}" for doubt in doubts]
+        numbers = ",".join(str(doubt["number"]) for doubt in doubts)
         return ["<p>Unless</p>", *list_of(items),
                 f"<p>If none of them is so: <code>cmh-stall FOLDER --true {numbers}</code></p>"]
 
@@ -207,12 +205,12 @@ class Page:
         if name not in self.index:
             return self.short(shown(name), LONG_LINK)
         index = self.index[name]
-        words = self.short(self.this.name(index), LONG_LINK)
+        words = self.short(self.view.name(index), LONG_LINK)
         return f'<a href="#p{index}">{words}</a>' if index in self.in_table else words
 
     def short(self, words: str, most: int = LONG) -> str:
         """Returns a text, at most its beginning."""
-        return text(words) if len(words) <= most or self.this.everything else f"{text(words[:most])} …"
+        return text(words) if len(words) <= most or self.view.everything else f"{text(words[:most])} …"
 
     def links(self, names: Sequence[str], between: str = ", ") -> str:
         """Returns the links of some names, at most the first few and how many more there are."""
@@ -222,20 +220,20 @@ class Page:
 
     def most(self, rows: Collection[object], number: int) -> int:
         """Returns how many of some rows are shown: so many at most, unless all are asked for."""
-        return len(rows) if self.this.everything else number
+        return len(rows) if self.view.everything else number
 
     # Undecided, and not stuck
 
     def undecided_parts(self) -> Iterator[str]:
-        rows = self.tree["unknown"]
-        if not self.this.undecided:
+        rows, undecided = self.tree["unknown"], self.tree["counts"]["undecided"]
+        if not undecided:
             return
-        others = len(self.this.undecided) - len(rows)
+        others = undecided - len(rows)
         yield f"<p>Of {number_of(len(rows))} the state doesn't say enough{hang(others, ', and ', ' on these')}.</p>"
         yield from self.unknown_ones(rows)
-        facts = self.this.proposals()
+        facts = self.tree["proposals"]
         if facts:
-            lines = [*(fact.text() for fact in facts[:LINES]), *legend(facts, self.this.waits.processes)]
+            lines = [*(fact["says"] for fact in facts[:LINES]), *self.tree["legend"]]
             yield "<p>Facts that would decide them, to be completed:</p>"
             yield f"<pre>{text_of_lines(lines)}</pre>"
 
@@ -261,7 +259,7 @@ class Page:
 
     def premise_items(self) -> Iterator[str]:
         """Yields those that run on a premise, and do the same."""
-        for name, indices in self.this.runners_by_premise(with_limits=True).items():
+        for name, indices in self.view.runners_by_premise().items():
             groups: Dict[str, List[str]] = {}
             for index in indices:
                 groups.setdefault(self.rows[index]["reason"] or "runs", []).append(self.rows[index]["name"])
@@ -269,7 +267,7 @@ class Page:
                 yield f"{self.links(names)}: {text(reason)}, on the {self.premise_link(name)}"
 
     def premise_link(self, name: str) -> str:
-        sentence = self.this.dump.sketch.premises.get(name, name)
+        sentence = next((row["text"] for row in self.tree["premises"] if row["name"] == name), name)
         return self.to_reason(f"premise {name}", f"premise that {text(sentence)}")
 
     def limits(self) -> List[str]:
@@ -305,12 +303,12 @@ class Page:
         cells = (self.answer(row, index), self.short(row["site"] or ""), self.short(row["note"]), self.wait(index),
                  self.way(index), self.rests(row))
         body = "".join(f"<td>{cell}</td>" for cell in cells)
-        return f'<tr id="p{index}" class="{sort}"><th scope="row">{self.short(self.this.name(index))}</th>{body}</tr>'
+        return f'<tr id="p{index}" class="{sort}"><th scope="row">{self.short(self.view.name(index))}</th>{body}</tr>'
 
     def answer(self, row: Tree, index: int) -> str:
-        words = text(self.this.answer(index))
+        words = text(self.view.answer(index))
         root = row["root"] or next(iter(row["behind"]), None)
-        has_part = root is not None and (self.this.everything or root <= ROOTS)
+        has_part = root is not None and (self.view.everything or root <= ROOTS)
         return f'<a href="#root{root}">{words}</a>' if has_part else words
 
     def wait(self, index: int) -> str:
@@ -318,7 +316,7 @@ class Page:
         row, lists = self.rows[index], self.tree["lists"]
         names = row["waits_for"] or lists.get(row["waits_for_list"], [])
         if row["kind"] not in (ANY, ALL) or not names:
-            return text(said_of(self.this, row, self.tree))
+            return text(said_of(self.view, index))
         several = {ANY: "any of ", ALL: "all of "}[row["kind"]] if names[1:] or row["kind"] == ALL else ""
         sent = f"; a message is in transit from {self.links(row['in_transit_from'])}" if row["in_transit_from"] else ""
         return f"{several}{self.links(names)}{sent}"
@@ -326,7 +324,7 @@ class Page:
     def way(self, index: int) -> str:
         """Returns the way from one to what its answer rests on: the first few steps, and the last one."""
         if index not in self.ways:
-            return text(end_words(self.this, self.rows[index], index))
+            return text(end_words(self.view, index))
         length, end = self.ways[index]
         steps, last = [], index
         for _ in range(min(length, STEPS)):
@@ -336,7 +334,7 @@ class Page:
         links = [self.link(self.rows[step]["name"]) for step in steps]
         if length > len(steps):
             links.insert(-1, f"{length - len(steps):,} more")
-        return f"→ {' → '.join(links)}, {text(end_words(self.this, self.rows[end], end))}"
+        return f"→ {' → '.join(links)}, {text(end_words(self.view, end))}"
 
     def rests(self, row: Tree) -> str:
         return ", ".join(self.rest(reason) for reason in row["rests_on"]) or text(row["reason"])

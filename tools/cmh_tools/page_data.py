@@ -2,13 +2,11 @@
 from __future__ import annotations
 
 import json
-from typing import Any, Dict, Iterator, List, Sequence, Tuple, Union
+from typing import Any, Dict, Iterable, Iterator, List, Sequence, Tuple, Union
 
-from .answer import Tree
-from .explain import Explanation
 from .files import MOST_OF_LINE, shown
-from .findings import LIKELY, NOT_STUCK, STUCK, UNDECIDED
 from .picture import Picture
+from .say.view import LIKELY, NOT_STUCK, STUCK, UNDECIDED, Tree, View
 from .sketch import ALL, ANY, ENDED, RUNS, UNKNOWN
 
 VERDICTS = [STUCK, LIKELY, UNDECIDED, NOT_STUCK, ENDED]
@@ -24,87 +22,100 @@ class Texts:
     """Texts, as people are shown them, with their numbers. An empty one is number 0."""
 
     def __init__(self) -> None:
-        self.numbers: Dict[str, int] = {"": 0}
+        self.known: Dict[str, int] = {"": 0}
 
     def number(self, text: str) -> int:
-        return self.numbers.setdefault(shown(text), len(self.numbers))
+        return self.known.setdefault(shown(text), len(self.known))
+
+    def numbers(self, texts: Iterable[str]) -> List[int]:
+        return [*map(self.number, texts)]
 
 
 class Data:
     """The data of the rows of an answer, which are the processes of `order`. `steps` has the next one on the way from
-    each, `reasons` the anchors of facts and premises, and `changes` what became of some since an older answer."""
+    each, `anchors` those of facts and premises, and `changes` what became of some since an older answer."""
 
-    def __init__(self, this: Explanation, tree: Tree, order: Sequence[int], steps: Dict[int, int],
-                 reasons: Dict[str, int], changes: Dict[str, str]) -> None:
-        self.changes = changes
-        self.this, self.tree, self.order, self.steps, self.anchors = this, tree, order, steps, reasons
-        self.rows: List[Tree] = tree["processes"]
+    def __init__(self, view: View, order: Sequence[int], steps: Dict[int, int], anchors: Dict[str, int],
+                 changes: Dict[str, str]) -> None:
+        self.view, self.order, self.steps, self.anchors, self.changes = view, order, steps, anchors, changes
+        self.rows = [view.rows[index] for index in order]
         self.place = {index: row for row, index in enumerate(order)}
         self.texts = Texts()
         self.reasons: Dict[str, int] = {}
         self.left = MOST
         self.lists: List[List[int]] = []
-        self.numbers: Dict[str, int] = {}
-
-    def some(self, column: str) -> List[Any]:
-        return [self.rows[index][column] for index in self.order]
+        self.list_of: Dict[str, int] = {}
 
     def tree_of(self, picture: Picture) -> Tree:
         """Returns all of it, with the boxes and arrows of a picture."""
-        names = [self.this.name(index) for index in self.order]
-        columns = {
+        columns = {**self.answers(), **self.waits(), **self.ways(), **self.frames()}
+        return {**columns, "alike": alike(columns), "lists": self.lists, "roots": len(self.view.roots),
+                "verdicts": VERDICTS, "texts": list(self.texts.known), **self.picture_columns(picture),
+                "reasons": [[shown(words), self.anchors.get(key, -1)] for key, words in self.reason_words()]}
+
+    # The columns. Those of a few rows alone have these by their numbers.
+
+    def answers(self) -> Tree:
+        names = [*map(self.view.name, self.order)]
+        return {
             "names": names,
             "numbers": list(self.order),
-            "full": {row: self.rows[index]["name"] for row, index in enumerate(self.order)
-                     if self.rows[index]["name"] != names[row] and len(self.rows[index]["name"]) <= MOST_OF_LINE},
-            "verdict": [VERDICTS.index(verdict) for verdict in self.some("verdict")],
-            "answer": [self.texts.number(self.this.answer(index)) for index in self.order],
-            "root": [root or 0 for root in self.some("root")],
-            "behind": [roots[0] if len(roots) == 1 else roots or 0 for roots in self.some("behind")],
-            "site": [self.texts.number(site or "") for site in self.some("site")],
-            "place": [self.texts.number(note) for note in self.some("note")],
-            "kind": [KINDS.get(kind, 0) for kind in self.some("kind")],
-            "whom": [self.whom(index) for index in self.order],
-            "said": [self.texts.number(said_of(self.this, self.rows[index], self.tree)) for index in self.order],
-            "sent": {row: self.places(self.rows[index]["in_transit_from"]) for row, index in enumerate(self.order)
-                     if self.rows[index]["in_transit_from"]},
-            "next": [self.place.get(self.steps.get(index, -1), -1) for index in self.order],
-            "end": [self.texts.number(end_words(self.this, self.rows[index], index)) for index in self.order],
-            "rests": [self.rests(self.rows[index]) for index in self.order],
-            "change": [self.texts.number(self.changes.get(name, "")) for name in self.some("name")],
-            "operation": [self.texts.number(word) for word in self.some("operation")],
-            "frames": {row: [self.texts.number(frame) for frame in self.rows[index]["frames"][:FRAMES]]
-                       for row, index in enumerate(self.order) if self.rows[index]["frames"]},
-            "thread": {row: self.this.process(index).thread for row, index in enumerate(self.order)
-                       if self.this.process(index).thread},
+            "full": {number: row["name"] for number, row in enumerate(self.rows)
+                     if row["name"] != names[number] and len(row["name"]) <= MOST_OF_LINE},
+            "verdict": [VERDICTS.index(row["verdict"]) for row in self.rows],
+            "answer": self.texts.numbers(map(self.view.answer, self.order)),
+            "root": [row["root"] or 0 for row in self.rows],
+            "behind": [row["behind"][0] if len(row["behind"]) == 1 else row["behind"] or 0 for row in self.rows],
         }
-        return {**columns, "alike": alike(columns), "lists": self.lists, "roots": len(self.tree["roots"]),
-                "verdicts": VERDICTS, "texts": list(self.texts.numbers), **self.picture_columns(picture),
-                "reasons": [[shown(words), self.anchors.get(key, -1)] for key, words in self.reason_words()]}
+
+    def waits(self) -> Tree:
+        return {
+            "site": self.texts.numbers(row["site"] or "" for row in self.rows),
+            "place": self.texts.numbers(row["note"] for row in self.rows),
+            "kind": [KINDS.get(row["kind"], 0) for row in self.rows],
+            "whom": [*map(self.whom, self.rows)],
+            "said": self.texts.numbers(said_of(self.view, index) for index in self.order),
+            "sent": {number: self.places(row["in_transit_from"]) for number, row in enumerate(self.rows)
+                     if row["in_transit_from"]},
+        }
+
+    def ways(self) -> Tree:
+        return {
+            "next": [self.place.get(self.steps.get(index, -1), -1) for index in self.order],
+            "end": self.texts.numbers(end_words(self.view, index) for index in self.order),
+            "rests": [*map(self.rests, self.rows)],
+            "change": self.texts.numbers(self.changes.get(row["name"], "") for row in self.rows),
+        }
+
+    def frames(self) -> Tree:
+        return {
+            "operation": self.texts.numbers(row["operation"] for row in self.rows),
+            "frames": {number: self.texts.numbers(row["frames"][:FRAMES]) for number, row in enumerate(self.rows)
+                       if row["frames"]},
+            "thread": {number: row["thread"] for number, row in enumerate(self.rows) if row["thread"]},
+        }
 
     def reason_words(self) -> Iterator[Tuple[str, str]]:
         for key in self.reasons:
             yield key, WORDS.get(key) or key.partition(" ")[2]
 
     def places(self, names: Sequence[str]) -> List[int]:
-        numbers = self.this.waits.index
-        return [self.place[numbers[name]] for name in names if numbers[name] in self.place]
+        return [self.place[index] for index in self.view.numbers(names) if index in self.place]
 
-    def whom(self, index: int) -> Whom:
+    def whom(self, row: Tree) -> Whom:
         """Returns the rows of those that one waits for, or the number of the list that has them. What the page hasn't
         is counted at the end, below 0."""
-        row = self.rows[index]
         shared = row["waits_for_list"]
         if row["waits_for"] or shared is None:
             return self.cut(row["waits_for"])
-        if shared not in self.numbers:
-            self.numbers[shared] = len(self.lists)
-            self.lists.append(self.cut(self.tree["lists"].get(shared, [])))
-        return self.numbers[shared]
+        if shared not in self.list_of:
+            self.list_of[shared] = len(self.lists)
+            self.lists.append(self.cut(self.view.list_named(shared)))
+        return self.list_of[shared]
 
     def cut(self, names: Sequence[str]) -> List[int]:
         rows = self.places(names)
-        rows = rows if self.this.everything or len(rows) <= self.left else rows[:FIRST]
+        rows = rows if self.view.everything or len(rows) <= self.left else rows[:FIRST]
         self.left -= len(rows)
         return [*rows, len(rows) - len(names)] if len(rows) < len(names) else rows
 
@@ -121,22 +132,24 @@ class Data:
                 "boxes": [[shown(line, MOST_OF_LINE) for line in box.text()] for box in picture.boxes]}
 
 
-def said_of(this: Explanation, row: Tree, tree: Tree) -> str:
+def said_of(view: View, index: int) -> str:
     """Returns in words why one waits for nobody, or nothing if it waits."""
+    row = view.rows[index]
     if row["kind"] not in KINDS:
-        return this.wait(this.waits.index[row["name"]])
-    if row["waits_for"] or tree["lists"].get(row["waits_for_list"]):
+        return view.wait(index)
+    if row["waits_for"] or view.tree["lists"].get(row["waits_for_list"]):
         return ""
     return "can never be unblocked" if row["kind"] == ANY else "has all that it waited for"
 
 
-def end_words(this: Explanation, row: Tree, index: int) -> str:
+def end_words(view: View, index: int) -> str:
     """Returns what is at the end of a way."""
+    row = view.rows[index]
     if row["root"]:
         return f"in root {row['root']}"
     if row["kind"] in (UNKNOWN, RUNS, ENDED):
-        return this.answer(index)
-    return this.goes_on_words(index) if row["goes_on"] else ""
+        return view.answer(index)
+    return view.goes_on_words(index) if row["goes_on"] else ""
 
 
 def alike(columns: Dict[str, Any]) -> List[int]:

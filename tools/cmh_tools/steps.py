@@ -1,12 +1,10 @@
-"""The way of each process to what its answer rests on, for all at once: to a root, to an unknown one, or to one that
-goes on by itself."""
+"""Shortest ways through a graph whose nodes are numbers: from one, and from each to the nearest of some ends."""
 from __future__ import annotations
 
-from typing import Dict, Iterable, List, NamedTuple
+from typing import Container, Dict, Iterable, List, NamedTuple, Optional
 
-from .findings import Findings
-from .roots import Edges, edges_among
-from .sketch import ENDED, UNKNOWN
+START = -1  # no node
+Edges = Dict[int, List[int]]  # from each node to others
 
 
 class Way(NamedTuple):
@@ -16,51 +14,56 @@ class Way(NamedTuple):
     end: int
 
 
-def next_steps(findings: Findings) -> Dict[int, int]:
-    """Returns for each process the next one on a shortest way, but for those where a way ends."""
-    waits = findings.waits
-    steps = steps_to(findings.roots.edges, findings.roots.root_of)
-    unknown = [index for index in findings.undecided if waits.kinds[index] == UNKNOWN]
-    steps.update(steps_to(edges_among(waits, findings.undecided), unknown))
-    for index in range(waits.number):
-        cause = None if waits.kinds[index] == ENDED else findings.high.cause[index]
-        if cause is not None:
-            steps[index] = cause
-    return {index: past_hubs(steps, step, waits.number) for index, step in steps.items() if index < waits.number}
+def way(edges: Edges, start: int, ends: Container[int]) -> List[int]:
+    """Returns a shortest way from one to any of the ends, or only the start if there is none."""
+    before: Dict[int, Optional[int]] = {start: None}
+    todo = [start]
+    for node in todo:
+        if node in ends:
+            return way_back(before, node)
+        for other in edges.get(node, ()):
+            if other not in before:
+                before[other] = node
+                todo.append(other)
+    return [start]
+
+
+def way_back(before: Dict[int, Optional[int]], end: int) -> List[int]:
+    """Returns the way to an end, by who comes before each."""
+    found: List[int] = []
+    node: Optional[int] = end
+    while node is not None:
+        found.append(node)
+        node = before[node]
+    return found[::-1]
 
 
 def steps_to(edges: Edges, ends: Iterable[int]) -> Dict[int, int]:
     """Returns for each one that reaches an end the next one on a shortest way there."""
     back: Dict[int, List[int]] = {}
-    for index, others in edges.items():
+    for node, others in edges.items():
         for other in others:
-            back.setdefault(other, []).append(index)
+            back.setdefault(other, []).append(node)
     steps: Dict[int, int] = {}
     todo = list(ends)
     seen = {*todo}
-    for index in todo:
-        new = [before for before in back.get(index, ()) if before not in seen]
-        steps.update((before, index) for before in new)
+    for node in todo:
+        new = [before for before in back.get(node, ()) if before not in seen]
+        steps.update((before, node) for before in new)
         seen.update(new)
         todo += new
     return steps
-
-
-def past_hubs(steps: Dict[int, int], index: int, number: int) -> int:
-    while index >= number:
-        index = steps[index]
-    return index
 
 
 def ways_of(steps: Dict[int, int]) -> Dict[int, Way]:
     """Returns the way of each one that has a next step."""
     ways: Dict[int, Way] = {}
     for start in steps:
-        index, trail = start, []
-        while index in steps and index not in ways:
-            trail.append(index)
-            index = steps[index]
-        way = ways.get(index, Way(0, index))
+        node, trail = start, []
+        while node in steps and node not in ways:
+            trail.append(node)
+            node = steps[node]
+        way_on = ways.get(node, Way(0, node))
         for number, step in enumerate(reversed(trail), 1):
-            ways[step] = Way(way.length + number, way.end)
+            ways[step] = Way(way_on.length + number, way_on.end)
     return ways

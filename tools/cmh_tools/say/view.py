@@ -7,7 +7,7 @@ from typing import Any, Dict, Iterable, List, Sequence, Set, Tuple
 from ..doubt_words import NAMES, sentence
 from ..files import short_name, shown
 from ..model import COMES, Sign
-from ..sketch import ALL, ANY, DONE, ENDED, RUNS, UNKNOWN
+from ..sketch import ALL, ANY, DONE, ENDED, PREMISE, RUNS, UNKNOWN
 from ..terminal import PLAIN, Style
 from ..words import few, number_of, with_address
 
@@ -42,8 +42,27 @@ class View:
     def behind(self, root: int) -> List[int]:
         return self.numbers(self.tree["roots"][root]["behind"])
 
+    def is_cycle(self, root: int) -> bool:
+        """Whether a root is just one cycle of several, in the order of its members."""
+        return bool(self.tree["roots"][root]["is_cycle"])
+
+    def restart(self, root: int) -> str:
+        """Returns what breaks a root."""
+        row = self.tree["roots"][root]
+        return ". ".join(filter(None, [row["cure"]["says"], row["enough"]]))
+
     def doubts_of(self, root: int) -> List[Tree]:
         return [self.doubts[number] for number in self.tree["roots"][root]["doubts"]]
+
+    def runners_by_premise(self) -> Dict[str, List[int]]:
+        """Returns the premises on which some run, with these."""
+        runners: Dict[str, List[int]] = {}
+        for index, row in enumerate(self.rows):
+            reasons = row["rests_on"] if row["goes_on"] == RUNNING else ()
+            for word, _, name in (reason.partition(" ") for reason in reasons):
+                if word == PREMISE:
+                    runners.setdefault(name, []).append(index)
+        return runners
 
     # Lists
 

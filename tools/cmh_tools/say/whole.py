@@ -7,7 +7,7 @@ from typing import Callable, Dict, Iterable, Iterator, List, Sequence
 
 from ..doubt_words import NAMES
 from ..files import MOST_OF_LINE, short_name, shown
-from ..sketch import ALL, ANY, LIMIT, PREMISE
+from ..sketch import ALL, ANY, LIMIT
 from ..terminal import PLAIN, AsItIs, Painted, Style, fill, lay_out, paint_line
 from ..words import few, number_of
 from .reasons import more_lines, rests_lines
@@ -156,11 +156,6 @@ class Whole(View):
                          "may show a deadlock that never was: take another, and compare them with 'cmh-dump both'.")
         return lines
 
-    def restart(self, number: int) -> str:
-        """Returns what breaks a root."""
-        row = self.tree["roots"][number]
-        return ". ".join(filter(None, [row["cure"]["says"], row["enough"]]))
-
     # Those that aren't stuck
 
     def undecided_lines(self) -> List[str]:
@@ -200,7 +195,7 @@ class Whole(View):
         words = "; ".join(f"{number:,}: {reason}" for reason, number in why.most_common())
         if running:
             lines.append(f"  {number_of(len(running), 'runs', 'run')}" + (f" ({words})" if set(why) - {UNSAID} else ""))
-        return lines + self.followers(well) + self.supposed_lines(running) + self.limited_lines()
+        return lines + self.followers(well) + self.supposed_lines() + self.limited_lines()
 
     def followers(self, well: List[int]) -> List[str]:
         """Those that others hang on, with these, and others that go on by themselves."""
@@ -223,17 +218,12 @@ class Whole(View):
                 index = self.index[self.rows[index]["freed_by"]]
         return [*seen]
 
-    def supposed_lines(self, running: List[int]) -> List[str]:
+    def supposed_lines(self) -> List[str]:
         """Those that run on a premise alone, but for a limit of their wait."""
-        names: Dict[str, List[str]] = {}
-        for index in running:
-            reasons = self.rows[index]["rests_on"] if self.rows[index]["goes_on"] == RUNNING else ()
-            for word, _, name in (reason.partition(" ") for reason in reasons):
-                if word == PREMISE and name != LIMIT:
-                    names.setdefault(name, []).append(self.name(index))
         sentences = {row["name"]: row["text"] for row in self.tree["premises"]}
+        names = {name: [*map(self.name, indices)] for name, indices in self.runners_by_premise().items()}
         return self.first([f"  on the premise that {shown(sentences.get(name, name))}: {self.some(others)}"
-                           for name, others in names.items()], ("premise", "premises"))
+                           for name, others in names.items() if name != LIMIT], ("premise", "premises"))
 
     def limited_lines(self) -> List[str]:
         """Those that wait with a limit and stood at the same place in all states, with what would decide them."""
