@@ -6,7 +6,7 @@ from typing import Collection, Dict, FrozenSet, Iterable, List, NamedTuple, Tupl
 Pair = Tuple[int, int]
 
 
-class Reach(NamedTuple):
+class Coverage(NamedTuple):
     """How many of a box have whom of another one, each set once, and whether all of them have all of it."""
 
     number: int
@@ -14,15 +14,15 @@ class Reach(NamedTuple):
     is_whole: bool
 
 
-def words_of(reach: Reach, start: int, end: int, needs_all: bool) -> str:
+def words_of(coverage: Coverage, start: int, end: int, needs_all: bool) -> str:
     """Returns the words on an arrow between boxes of so many: how many have whom, if not all have all."""
-    who = "" if reach.number == start else f"{reach.number:,} of {start:,}"
-    if end == 1 or reach.is_whole:
+    who = "" if coverage.number == start else f"{coverage.number:,} of {start:,}"
+    if end == 1 or coverage.is_whole:
         return who if end == 1 or not who else f"{who} → {'all' if needs_all else 'any of'} {end:,}"
-    if len(reach.sets) == 1:
-        whom = f"{sum(map(len, reach.sets)):,} of {end:,}"
+    if len(coverage.sets) == 1:
+        whom = f"{sum(map(len, coverage.sets)):,} of {end:,}"
         return whom if start == 1 else f"{who or 'all'} → {whom}"
-    return f"{who} → {each_words(reach)}".lstrip("→ ")
+    return f"{who} → {each_words(coverage)}".lstrip("→ ")
 
 
 def lines_of_words(words: str) -> List[str]:
@@ -35,15 +35,15 @@ def far_words(number: int, start: int) -> str:
     return f"{number:,} of {start:,} directly" if number else "through others"
 
 
-def each_words(reach: Reach) -> str:
+def each_words(coverage: Coverage) -> str:
     """Returns whom each one has, if not all have the same."""
-    if any(len(whom) > 1 for whom in reach.sets):
+    if any(len(whom) > 1 for whom in coverage.sets):
         return "each some of these"
-    return "each its own" if len(reach.sets) == reach.number else "each one of these"
+    return "each its own" if len(coverage.sets) == coverage.number else "each one of these"
 
 
-def reach_of(rows: Iterable[Tuple[List[int], Collection[int], bool]], end: Collection[int]) -> Reach:
-    """Returns the reach of some into a box. Each row has those that share a list, it, and whether it is of one alone,
+def coverage_of(rows: Iterable[Tuple[List[int], Collection[int], bool]], end: Collection[int]) -> Coverage:
+    """Returns how far some cover a box. Each row has those that share a list, it, and whether it is of one alone,
     who doesn't have to be in it."""
     number, sets, is_whole, inside = 0, set(), True, frozenset(end)
     for members, whom, is_own in rows:
@@ -52,7 +52,7 @@ def reach_of(rows: Iterable[Tuple[List[int], Collection[int], bool]], end: Colle
             number += len(members)
             sets.add(common)
             is_whole = is_whole and len(common.union(inside.intersection(members) if is_own else ())) == len(inside)
-    return Reach(number, frozenset(sets), is_whole)
+    return Coverage(number, frozenset(sets), is_whole)
 
 
 def by_first(pairs: Iterable[Pair]) -> Dict[int, List[int]]:

@@ -20,7 +20,7 @@ LONG = 8  # ranks that an arrow crosses at most
 FONT = "Helvetica,Arial,sans-serif"
 
 
-class Look(NamedTuple):
+class BoxLook(NamedTuple):
     """How the boxes of a sort look, and what the legend says of them."""
 
     text: str
@@ -46,18 +46,18 @@ class Line(NamedTuple):
     look: str
 
 
-BEHIND_LOOK = Look("stuck behind a root", "filled", "#ffd8a8")
-WELL_LOOK = Look("not stuck", "filled,rounded", "#d3f2d3")
+BEHIND_LOOK = BoxLook("stuck behind a root", "filled", "#ffd8a8")
+WELL_LOOK = BoxLook("not stuck", "filled,rounded", "#d3f2d3")
 LOOKS = {
-    ROOT: Look("stuck, in a root", "filled,bold", "#ffb3ab", 2.5),
+    ROOT: BoxLook("stuck, in a root", "filled,bold", "#ffb3ab", 2.5),
     BEHIND: BEHIND_LOOK,
     SHARED: BEHIND_LOOK,
-    MORE: Look("roots that aren't drawn", "filled,bold,dashed", "#ffb3ab", 2.5),
-    UNDECIDED: Look("hangs on an unknown one", "filled,diagonals", "#fff3b0"),
-    OPEN: Look("unknown", "filled,diagonals,dashed", "#ffffff"),
+    MORE: BoxLook("roots that aren't drawn", "filled,bold,dashed", "#ffb3ab", 2.5),
+    UNDECIDED: BoxLook("hangs on an unknown one", "filled,diagonals", "#fff3b0"),
+    OPEN: BoxLook("unknown", "filled,diagonals,dashed", "#ffffff"),
     FREE: WELL_LOOK,
     RUNNING: WELL_LOOK,
-    OVER: Look("has ended", "filled,dotted", "#eeeeee"),
+    OVER: BoxLook("has ended", "filled,dotted", "#eeeeee"),
 }
 ARROWS = {
     ANY: Line("who waits", "for whom: of several, any one is enough", ""),

@@ -28,7 +28,7 @@ BESIDE = (Strength.AGAINST.value, Strength.UNSEEN.value)  # of those who end a w
 Row = List[int]  # of processes that share a box
 
 
-class Part(NamedTuple):
+class PicturePart(NamedTuple):
     """What a process is in the answer, and in or behind which root, if it is one alone."""
 
     sort: str
@@ -45,33 +45,33 @@ class Folding:
         self.small, self.few, self.most = min(SMALL, most), min(FEW, most), most
         self.senders = {name for row in graph.rows for name in row["in_transit_from"]}
         self.apart = {*range(len(graph.roots))} if is_whole else {*roots_apart(graph, most)}
-        self.parts: Dict[Part, Row] = {}
+        self.parts: Dict[PicturePart, Row] = {}
         indices = list(indices)
         for index in indices:
             self.parts.setdefault(self.part_of(index), []).append(index)
         self.whom, self.waiters = known_by(graph.successors, indices), known_by(graph.predecessors, indices)
 
-    def part_of(self, index: int) -> Part:
+    def part_of(self, index: int) -> PicturePart:
         row, kind = self.graph.rows[index], self.graph.kind(index)
         numbers = [row["root"]] if row["root"] else row["behind"]
         if numbers[1:]:
-            return Part(SHARED)
+            return PicturePart(SHARED)
         if numbers:
             sort, number = ROOT if row["root"] else BEHIND, numbers[0] - 1
-            return Part(sort, number) if number in self.apart else Part(MORE)
+            return PicturePart(sort, number) if number in self.apart else PicturePart(MORE)
         if kind == ENDED:
-            return Part(OVER)
+            return PicturePart(OVER)
         if row["verdict"] == UNDECIDED:
-            return Part(OPEN if kind == UNKNOWN else UNDECIDED)
-        return Part(RUNNING if kind == RUNS or self.graph.is_quiet(index) else FREE)
+            return PicturePart(OPEN if kind == UNKNOWN else UNDECIDED)
+        return PicturePart(RUNNING if kind == RUNS or self.graph.is_quiet(index) else FREE)
 
-    def rows(self) -> List[Tuple[Part, Row]]:
+    def rows(self) -> List[Tuple[PicturePart, Row]]:
         """Returns the rows with their parts, those of roots first."""
         rows = self.fold()
         order = sorted(rows, key=lambda part: (SORTS.index(part.sort), part.root or 0))
         return [(part, row) for part in order for row in rows[part]]
 
-    def fold(self) -> Dict[Part, List[Row]]:
+    def fold(self) -> Dict[PicturePart, List[Row]]:
         """Returns the rows of each part: if they are too many, as many as are ample for it, and then one for each part
         that has most, those of roots last."""
         if self.is_whole:
@@ -86,20 +86,20 @@ class Folding:
                 rows[part] = self.groups(part, ONE)
         return rows
 
-    def first_step(self, part: Part) -> int:
+    def first_step(self, part: PicturePart) -> int:
         """Returns the first step after which a part has no more rows than are ample."""
         if part.sort == MORE:
             return ONE
         fit = (step for step in (ALIKE, LINE_OF_SITE, LINE) if len(self.groups(part, step)) <= self.ample(part))
         return next(fit, LARGEST)
 
-    def ample(self, part: Part) -> int:
+    def ample(self, part: PicturePart) -> int:
         """Returns how many rows are ample for a part: fewer where there are few in all. Where nobody is stuck, those
         that wait have more."""
         ample = AMPLE[ROOT if part.sort == FREE and not self.graph.roots else part.sort]
         return min(ample, max(self.most // PARTS, 1))
 
-    def groups(self, part: Part, step: int) -> List[Row]:
+    def groups(self, part: PicturePart, step: int) -> List[Row]:
         """Returns the rows of a part after a step."""
         by_key: Dict[object, Row] = {}
         for index in self.parts[part]:
@@ -166,5 +166,5 @@ def known_by(lists: List[List[int]], indices: Iterable[int]) -> Dict[int, Tuple[
             for index in indices}
 
 
-def count(rows: Dict[Part, List[Row]]) -> int:
+def count(rows: Dict[PicturePart, List[Row]]) -> int:
     return sum(map(len, rows.values()))

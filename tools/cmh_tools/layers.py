@@ -1,5 +1,5 @@
 """A small layout in layers, for where Graphviz isn't there. Whoever waits stands at the right of those whom it waits
-for. Each root is a block: a ring in two rows, or a column with its arrows at the left. An arrow goes from layer to
+for. Each root is a cluster: a ring in two rows, or a column with its arrows at the left. An arrow goes from layer to
 layer in between, and through one by a place of its own, so it crosses no box and no title."""
 from __future__ import annotations
 
@@ -18,7 +18,7 @@ ROW, COLUMN, MARGIN = 18.0, 44.0, 16.0  # between boxes below each other, betwee
 LANE = 14.0  # between arrows that run side by side
 TALL = 10.0  # of the place by which an arrow goes through a layer
 SWEEPS = 6
-Unit = int  # a block: that of a root is below 0, and a box by itself has its number
+Unit = int  # a cluster: that of a root is below 0, and a box by itself has its number
 
 
 class Spot(NamedTuple):
@@ -39,9 +39,9 @@ class Spot(NamedTuple):
         return self._replace(left=self.left + right, top=self.top + down)
 
 
-class Block(NamedTuple):
-    """The boxes of a root, or one by itself, with their places in the block, and the paths of arrows in it. `inlets`
-    are the paths by which an arrow comes to a box from the right end of the block, and `outlets` from the left end."""
+class Cluster(NamedTuple):
+    """The boxes of a root, or one by itself, with their places in it, and the paths of arrows in it. `inlets` are the
+    paths by which an arrow comes to a box from the right end of the cluster, and `outlets` from the left end."""
 
     width: float
     height: float
@@ -75,8 +75,8 @@ class Layers:
         self.unit_of = {box.number: -1 - (box.part.root or 0) if box.part.sort == ROOT else box.number
                         for box in picture.boxes}
         self.links = {number: self.link(arrow) for number, arrow in enumerate(picture.arrows)}
-        self.blocks = {unit: self.block(unit) for unit in dict.fromkeys(self.unit_of.values())}
-        self.layer = layers_of(list(self.blocks), [link for link in self.links.values() if link])
+        self.clusters = {unit: self.cluster(unit) for unit in dict.fromkeys(self.unit_of.values())}
+        self.layer = layers_of(list(self.clusters), [link for link in self.links.values() if link])
         self.columns = self.order_columns(self.fill_columns())
         self.width, self.height = 0.0, 0.0
         self.frames: Dict[Unit, Spot] = {}
@@ -84,16 +84,16 @@ class Layers:
         self.rights: Dict[int, float] = {}
         self.place_columns()
         self.boxes = {number: spot.shift(self.frames[unit].left, self.frames[unit].top)
-                      for unit, block in self.blocks.items() for number, spot in block.boxes.items()}
+                      for unit, cluster in self.clusters.items() for number, spot in cluster.boxes.items()}
         self.parts = self.parts_of_boxes()
         self.paths = [Path(number, self.path(number)) for number in self.links]
 
     def lines(self, number: int) -> List[str]:
         return [line for text in self.picture.boxes[number].text() for line in wrap(text, self.letters)]
 
-    # Blocks
+    # Clusters
 
-    def block(self, unit: Unit) -> Block:
+    def cluster(self, unit: Unit) -> Cluster:
         numbers = [number for number, own in self.unit_of.items() if own == unit]
         sizes = {number: size_of(self.lines(number)) for number in numbers}
         if unit >= 0:
@@ -101,16 +101,17 @@ class Layers:
             height = max(height, 3 * LINE * sum(arrow.start == unit and arrow.words != "" for arrow in
                                                 self.picture.arrows))
             spot = Spot(0, 0, width, height)
-            return Block(width, height, {unit: spot}, {}, {unit: [(width, height / 2)]}, {unit: [(0, height / 2)]}, [])
+            ends = {unit: [(width, height / 2)]}, {unit: [(0.0, height / 2)]}
+            return Cluster(width, height, {unit: spot}, {}, *ends, [])
         letters = HEAD * self.letters // WIDTHS[0]
         title = [line for text in self.picture.root_lines(-1 - unit) for line in wrap(text, letters)]
         is_ring = all(number in self.picture.ring for number in numbers)
-        block = self.ring(numbers, sizes, title) if is_ring else self.column(numbers, sizes, title)
-        return block._replace(width=max(block.width, LETTER * max(map(len, title)) + 2 * MARGIN))
+        cluster = self.ring(numbers, sizes, title) if is_ring else self.column(numbers, sizes, title)
+        return cluster._replace(width=max(cluster.width, LETTER * max(map(len, title)) + 2 * MARGIN))
 
     def parts_of_boxes(self) -> Dict[int, float]:
-        """Returns for each arrow between blocks at which part of the height of its box it begins: the higher the higher
-        it leads."""
+        """Returns for each arrow between clusters at which part of the height of its box it begins: the higher the
+        higher it leads."""
         by_box: Dict[int, List[int]] = {}
         for number, link in self.links.items():
             arrow = self.picture.arrows[number]
@@ -120,7 +121,7 @@ class Layers:
                 for place, number in enumerate(sorted(arrows, key=self.aim))}
 
     def aim(self, number: int) -> float:
-        """Returns how far down an arrow between blocks leads first."""
+        """Returns how far down an arrow between clusters leads first."""
         link, arrow = self.links[number], self.picture.arrows[number]
         high, low = (self.layer[unit] for unit in link) if link else (0, 0)
         gates = self.gates.get((number, high - 1 if high > low else high + 1))
@@ -131,7 +132,7 @@ class Layers:
         return [(number, arrow) for number, arrow in enumerate(self.picture.arrows)
                 if {arrow.start, arrow.end} <= inside and not arrow.to_root]
 
-    def column(self, numbers: List[int], sizes: Dict[int, Tuple[float, float]], title: List[str]) -> Block:
+    def column(self, numbers: List[int], sizes: Dict[int, Tuple[float, float]], title: List[str]) -> Cluster:
         """Boxes below each other, with their arrows in lanes at the left."""
         arrows = self.arrows_within(numbers)
         words = sum(width_of_words(arrow.words) for _, arrow in arrows)
@@ -151,9 +152,9 @@ class Layers:
         width = left + wide + MARGIN
         inlets = {number: [(width, spot.middle()), (spot.right(), spot.middle())] for number, spot in boxes.items()}
         outlets = {number: [(0.0, spot.middle()), (spot.left, spot.middle())] for number, spot in boxes.items()}
-        return Block(width, top - ROW + MARGIN, boxes, paths, inlets, outlets, title)
+        return Cluster(width, top - ROW + MARGIN, boxes, paths, inlets, outlets, title)
 
-    def ring(self, numbers: List[int], sizes: Dict[int, Tuple[float, float]], title: List[str]) -> Block:
+    def ring(self, numbers: List[int], sizes: Dict[int, Tuple[float, float]], title: List[str]) -> Cluster:
         """A ring in two rows: the upper one leads to the right, and the lower one back."""
         order = sorted(numbers, key=lambda number: self.picture.ring[number])
         upper, lower = order[:(len(order) + 1) // 2], order[(len(order) + 1) // 2:][::-1]
@@ -176,18 +177,18 @@ class Layers:
             across = spot.left + spot.width * 0.7
             inlets[number] = [(width, lane), (across, lane), (across, spot.top + spot.height)]
         outlets = {number: [(0.0, corners[0][1]), *corners[1:]] for number, corners in inlets.items()}
-        return Block(width, height, boxes, paths, inlets, outlets, title)
+        return Cluster(width, height, boxes, paths, inlets, outlets, title)
 
     # Layers
 
     def link(self, arrow: Arrow) -> Optional[Tuple[Unit, Unit]]:
-        """Returns the blocks between which an arrow leads, as whoever waits and for whom; or nothing within one."""
+        """Returns the clusters between which an arrow leads, as whoever waits and for whom; or nothing within one."""
         start, end = self.unit_of[arrow.start], self.unit_of[arrow.end]
         start, end = (end, start) if arrow.style == MESSAGE else (start, end)
         return None if start == end else (start, end)
 
     def fill_columns(self) -> List[List[Tuple[int, int]]]:
-        """Returns what each layer has: blocks, as (0, unit), and places of arrows that go through, as (1 + arrow, 0).
+        """Returns what each layer has: clusters, as (0, unit), and places of arrows that go through, as (1 + arrow, 0).
         """
         columns: List[List[Tuple[int, int]]] = [[] for _ in range(max(self.layer.values()) + 1)]
         for unit, layer in self.layer.items():
@@ -214,7 +215,7 @@ class Layers:
         return columns
 
     def neighbours_of(self, key: Tuple[int, int], places: Dict[Tuple[int, int], int]) -> Set[Tuple[int, int]]:
-        """Returns what of a layer beside a block, or the place of an arrow, is joined to it."""
+        """Returns what of a layer beside a cluster, or the place of an arrow, is joined to it."""
         joined = set()
         for number, link in self.links.items():
             if link and (key == (1 + number, 0) or key[0] == 0 and key[1] in link):
@@ -222,18 +223,18 @@ class Layers:
         return joined - {key}
 
     def place_columns(self) -> None:
-        """Gives each block its frame, and each arrow that goes through a layer its gates."""
+        """Gives each cluster its frame, and each arrow that goes through a layer its gates."""
         heights = [sum(self.tall(key) + ROW for key in column) - ROW for column in self.columns]
         left = MARGIN
         for layer, column in enumerate(self.columns):
-            wide = max(self.blocks[unit].width if not number else 0 for number, unit in column)
+            wide = max(self.clusters[unit].width if not number else 0 for number, unit in column)
             top = MARGIN + (max(heights) - heights[layer]) / 2
             self.rights[layer] = left + wide
             for number, unit in column:
                 if number:
                     self.gates[number - 1, layer] = (left, top + TALL / 2), (left + wide, top + TALL / 2)
                 else:
-                    self.frames[unit] = Spot(left, top, self.blocks[unit].width, self.blocks[unit].height)
+                    self.frames[unit] = Spot(left, top, self.clusters[unit].width, self.clusters[unit].height)
                 top += self.tall((number, unit)) + ROW
             left += wide + COLUMN + self.words_beside(layer)
         self.width, self.height = left - COLUMN + MARGIN, max(heights) + 2 * MARGIN
@@ -244,7 +245,7 @@ class Layers:
                            if link and self.layer[link[1]] <= layer < self.layer[link[0]] == layer + 1)])
 
     def tall(self, key: Tuple[int, int]) -> float:
-        return TALL if key[0] else self.blocks[key[1]].height
+        return TALL if key[0] else self.clusters[key[1]].height
 
     # Arrows
 
@@ -272,7 +273,7 @@ class Layers:
     def inlet(self, box: int) -> List[Point]:
         """Returns the path from the right end of a layer to a box in it."""
         unit = self.unit_of[box]
-        corners = self.blocks[unit].inlets[box]
+        corners = self.clusters[unit].inlets[box]
         frame = self.frames[unit]
         return [(self.rights[self.layer[unit]], frame.top + corners[0][1]),
                 *((frame.left + right, frame.top + down) for right, down in corners[len(corners) > 1:])]
@@ -280,14 +281,14 @@ class Layers:
     def outlet(self, box: int, arrow: Optional[int] = None) -> List[Point]:
         """Returns the path from the left end of a layer to a box in it, by a place of its own for an arrow."""
         unit = self.unit_of[box]
-        frame, corners = self.frames[unit], self.blocks[unit].outlets[box]
+        frame, corners = self.frames[unit], self.clusters[unit].outlets[box]
         if len(corners) == 1 and arrow is not None:
             return [(frame.left, frame.top + frame.height * self.parts[arrow])]
         return [(frame.left + right, frame.top + down) for right, down in corners]
 
     def path_within(self, number: int, arrow: Arrow) -> List[Point]:
         unit = self.unit_of[arrow.start]
-        own, frame = self.blocks[unit].paths.get(number), self.frames[unit]
+        own, frame = self.clusters[unit].paths.get(number), self.frames[unit]
         if own:
             return [(frame.left + right, frame.top + down) for right, down in own]
         spot = self.boxes[arrow.start]
@@ -312,8 +313,8 @@ def edge_between(first: Spot, last: Spot, beside: float) -> List[Point]:
 
 
 def layers_of(units: List[Unit], links: List[Tuple[Unit, Unit]]) -> Dict[Unit, int]:
-    """Returns the layer of each block: one more than the last of those that it waits for. Of a circle, one link is left
-    out, and of a root, all that lead elsewhere than to roots."""
+    """Returns the layer of each cluster: one more than the last of those that it waits for. Of a circle, one link is
+    left out, and of a root, all that lead elsewhere than to roots."""
     whom: Dict[Unit, List[Unit]] = {unit: [] for unit in units}
     for start, end in links:
         whom[start] += [end] if start >= 0 or end < 0 else []

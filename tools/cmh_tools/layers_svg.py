@@ -66,7 +66,7 @@ def draw_frames(graph: Element, layers: Layers, above: float) -> None:
             right, bottom = spot.right(), spot.top + spot.height
             element(made, "path", fill=ROOT_FILL, stroke=ROOT_EDGE, stroke_width=2,
                     d=f"M{spot.left:.1f},{spot.top:.1f} H{right:.1f} V{bottom:.1f} H{spot.left:.1f} Z")
-            for number, line in enumerate(layers.blocks[unit].title, 1):
+            for number, line in enumerate(layers.clusters[unit].title, 1):
                 text(made, line, spot.left + 8, spot.top + LINE * number + 2)
 
 

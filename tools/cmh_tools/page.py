@@ -39,7 +39,7 @@ class Older(NamedTuple):
     picture: str
 
 
-class Section(NamedTuple):
+class PageSection(NamedTuple):
     """A part of the page: its anchor, its heading, what the list of parts calls it, and what it has."""
 
     name: str
@@ -91,15 +91,15 @@ class Page:
 
     def html(self) -> str:
         """Returns the text of the page."""
-        sections = [Section("since", "Since the older answer", "Since then", list(self.since())),
-                    Section("roots", "Roots: where it has to be broken", "Roots", list(self.roots())),
-                    Section("picture", "Picture", "Picture", [VIEW.format(picture=self.picture.svg)]),
-                    Section("undecided", "Undecided", "Undecided", list(self.undecided_parts())),
-                    Section("processes", "Processes", "Processes", self.table()),
-                    Section("well", "Not stuck", "Not stuck", self.well()),
-                    Section("reasons", "On what the answer rests", "Reasons", self.reason_parts()),
-                    Section("warnings", "Warnings", "Warnings", list_of(map(text, self.tree["warnings"]))),
-                    Section("state", "The state", "State", list(self.state_parts()))]
+        sections = [PageSection("since", "Since the older answer", "Since then", list(self.since())),
+                    PageSection("roots", "Roots: where it has to be broken", "Roots", list(self.roots())),
+                    PageSection("picture", "Picture", "Picture", [VIEW.format(picture=self.picture.svg)]),
+                    PageSection("undecided", "Undecided", "Undecided", list(self.undecided_parts())),
+                    PageSection("processes", "Processes", "Processes", self.table()),
+                    PageSection("well", "Not stuck", "Not stuck", self.well()),
+                    PageSection("reasons", "On what the answer rests", "Reasons", self.reason_parts()),
+                    PageSection("warnings", "Warnings", "Warnings", list_of(map(text, self.tree["warnings"]))),
+                    PageSection("state", "The state", "State", list(self.state_parts()))]
         there = [section for section in sections if section.parts]
         looks, acts = style(), script()
         return PAGE.format(
@@ -371,7 +371,7 @@ def several(change: str, number: int) -> str:
     return change if number == 1 else f"{({'is': 'are', 'has': 'have'})[verb]} {rest}"
 
 
-def text_of_section(section: Section) -> str:
+def text_of_section(section: PageSection) -> str:
     body = "\n".join(section.parts)
     head = f'<h2 id="{section.name}">{section.head}</h2>'
     return f'<section aria-labelledby="{section.name}" id="{section.name}part">\n{head}\n{body}\n</section>\n'

@@ -7,11 +7,11 @@ from collections import Counter
 from functools import cached_property
 from typing import Collection, Dict, Iterator, List, NamedTuple, Optional, Set, Tuple
 
-from .arrow_words import by_first, reach_of, far_words, words_of
+from .arrow_words import by_first, coverage_of, far_words, words_of
 from .captions import cure, headline, restarts
 from .files import short_name, shown
 from .folding import (BEHIND, FREE, MORE, MOST, OPEN, OVER, ROOT, RUNNING, SHARED, SMALL, SORTS, UNDECIDED, Folding,
-                      Row, Part, stand_for_others)
+                      Row, PicturePart, stand_for_others)
 from .sketch import ALL, ANY
 from .wait_graph import WaitGraph
 from .words import number_of
@@ -30,7 +30,7 @@ class Box(NamedTuple):
     have one, if there are several."""
 
     number: int
-    part: Part
+    part: PicturePart
     members: Row
     lines: List[str]
     site: str
@@ -141,14 +141,14 @@ class Picture:
 
     # Boxes
 
-    def box(self, number: int, part: Part, members: Row) -> Box:
+    def box(self, number: int, part: PicturePart, members: Row) -> Box:
         lines = self.lines_of_one(part, members[0]) if len(members) == 1 else self.lines_of_many(part, members)
         sites = {self.graph.rows[member]["site"] for member in members}
         named = [site_words(site) for site in sites if site is not None] if self.has_sites else []
         site = f"{len(named):,} sites" if named[1:] else "".join(named if len(sites) == 1 else [])
         return Box(number, part, members, [line for line in lines if line], site, len(sites) == 1)
 
-    def lines_of_one(self, part: Part, index: int) -> List[str]:
+    def lines_of_one(self, part: PicturePart, index: int) -> List[str]:
         graph, row = self.graph, self.graph.rows[index]
         reason = shown(row["reason"])
         state = {OPEN: f"unknown: {reason}" if reason else "unknown", OVER: graph.answer(index),
@@ -156,7 +156,7 @@ class Picture:
                  FREE: graph.goes_on_words(index) if row["goes_on"] is not None else ""}
         return [graph.name(index), graph.note(index), state.get(part.sort, "")]
 
-    def lines_of_many(self, part: Part, members: Row) -> List[str]:
+    def lines_of_many(self, part: PicturePart, members: Row) -> List[str]:
         if part.sort == MORE:
             return self.lines_of_more(members)
         if len(members) <= NAMES:
@@ -258,7 +258,7 @@ class Picture:
 
     def first_of_root(self, number: Optional[int]) -> int:
         """Returns the first box of a root."""
-        return next(box.number for box in self.boxes if box.part == Part(ROOT, number))
+        return next(box.number for box in self.boxes if box.part == PicturePart(ROOT, number))
 
     def cut_arrows(self, start: int, arrows: List[Arrow]) -> List[Arrow]:
         """Returns the arrows from a box that a large picture has."""
@@ -294,8 +294,8 @@ class Picture:
         if len(start) == len(end) == 1:
             return ""
         if arrow.is_far:
-            return far_words(reach_of(self.lists_of(start, arrow.style), end).number, len(start))
-        return words_of(reach_of(self.lists_of(start, arrow.style), end), len(start), len(end), arrow.style != ANY)
+            return far_words(coverage_of(self.lists_of(start, arrow.style), end).number, len(start))
+        return words_of(coverage_of(self.lists_of(start, arrow.style), end), len(start), len(end), arrow.style != ANY)
 
     def lists_of(self, members: Row, style: str) -> List[Tuple[Row, Collection[int], bool]]:
         """Returns whom some have, those that share a list once, and whether a list is of one alone."""
