@@ -10,14 +10,14 @@ from .proposals import Line, Proposal, Words, lines_of, propose
 from .reasons import Reason, Rests, counts_of
 from .doubts import Doubt
 from .rule import STATUSES, Decision, Headline
-from .roots import Knots, Roots, count_waiters, edges_among, ends, way, without_hubs
+from .roots import Knots, Roots, count_waiters, edges_among, ends, without_hubs
 from .sketch import ALL, ANY, ENDED, LIMIT, RUNS, UNKNOWN, Process, premise
+from .steps import way
 from .stuck import Answer, Waits
 from .words import first_words, with_address
 
 # Verdicts, beside ENDED.
 STUCK, LIKELY, UNDECIDED, NOT_STUCK = "stuck", "likely", "undecided", "not_stuck"
-START = -1  # no process
 MINUTE = 60  # seconds
 RUNNING, MESSAGE, COME = "runs", "message_in_transit", "all_have_come"  # why one goes on by itself
 
@@ -173,16 +173,6 @@ class Findings(Verdicts):
         is_cycle = len(members) > 1 and all(inside.intersection(self.waits.without_hubs(edges[at])) == {other}
                                             for at, other in zip(members, [*members[1:], members[0]]))
         return members if is_cycle else []
-
-    def shortest_cycle(self, number: int) -> List[int]:
-        """Returns members of a root in the order in which each waits for the next, and the last for the first, of which
-        there are as few as may be with its first member; or nothing, if that waits for no member."""
-        first, edges = self.roots.roots[number][0], self.roots.edges
-        others = [it for it in edges[first] if it != first]
-        if not others:
-            return [first] * len(edges[first])
-        found = without_hubs(self.waits, way({**edges, START: others}, START, {first})[1:-1])
-        return [first, *(found or [it for it in edges[others[0]] if it != first][:1])]
 
     def sites(self, members: List[int]) -> Tuple[List[str], bool]:
         """Returns the sites of some, and whether some have none."""

@@ -9,11 +9,11 @@ from __future__ import annotations
 from itertools import islice
 from typing import AbstractSet, Callable, Container, Dict, Iterable, Iterator, List, Optional, Set, Tuple
 
+from .steps import Edges, way
 from .stuck import Answer, Waits
 
 MOST_ROOTS = 4  # of those behind which one is stuck, as many are kept apart
 STEPS = 3_000_000  # as many steps, all together, count those behind unknown ones
-Edges = Dict[int, List[int]]  # from each one to others of its list
 
 
 class Knots:
@@ -176,30 +176,6 @@ def along(edges: Edges, members: List[int]) -> List[int]:
             seen[at] = None
             todo += [it for it in reversed(edges[at]) if it in inside]
     return list(seen)
-
-
-def way(edges: Edges, start: int, ends: Container[int]) -> List[int]:
-    """Returns a shortest way from one to any of the ends, or only the start if there is none."""
-    before: Dict[int, Optional[int]] = {start: None}
-    todo = [start]
-    for at in todo:
-        if at in ends:
-            return way_back(before, at)
-        for other in edges.get(at, ()):
-            if other not in before:
-                before[other] = at
-                todo.append(other)
-    return [start]
-
-
-def way_back(before: Dict[int, Optional[int]], end: int) -> List[int]:
-    """Returns the way to an end, by who comes before each."""
-    found: List[int] = []
-    at: Optional[int] = end
-    while at is not None:
-        found.append(at)
-        at = before[at]
-    return found[::-1]
 
 
 def count_waiters(waits: Waits, among: Container[int], starts: List[int],
