@@ -4,16 +4,26 @@ is there, and stays. They end with whoever has started them, and hold next to no
 import ctypes
 import mmap
 import os
+import resource
 import signal
 import socket
 import sys
 import threading
 import time
+from typing import Any, List
 
 HUGE = 20 << 30
 LIBC = ctypes.CDLL(None, use_errno=True)
+SET_NAME = 15  # PR_SET_NAME
+ALL: List[Any] = []  # what a process keeps as long as it lives
 NEW_USER, NEW_MOUNTS, DETACHED, WITH_PARENT = 0x10000000, 0x20000, 2, 1
 END_HEADERS = b"HTTP/1.0 200 OK\r\nContent-Type: text/plain\r\n\r\n"
+# Beginnings of answers that promise more than they have, lead back here, or speak of something else.
+ODD_HEADERS = {
+    "length": b"HTTP/1.1 200 OK\r\nContent-Length: 1000000000000000000\r\n\r\ngoroutine 1 [select]:\n",
+    "chunks": b"HTTP/1.1 200 OK\r\nTransfer-Encoding: chunked\r\n\r\nffffffffffffffff\r\ngoroutine 1 [select]:\n",
+    "redirect": b"HTTP/1.1 302 Found\r\nLocation: /debug/pprof/goroutine?debug=2\r\n\r\n",
+    "switch": b"HTTP/1.1 101 Switching Protocols\r\nUpgrade: x\r\n\r\n"}
 
 
 def in_memory(text: bytes, size: int = 0, name: str = "cmh_state") -> None:
@@ -103,8 +113,10 @@ def serve(kind: str) -> None:
 def answer(connection: socket.socket, kind: str) -> None:
     piece = b"goroutine 1 [select]:\n" * 3000
     try:
-        if kind != "silent":
-            connection.sendall(b"HTTP/1.0 200 OK\r\n" if kind == "headers" else END_HEADERS)
+        if kind not in ("silent", "line"):
+            connection.sendall(b"HTTP/1.0 200 OK\r\n" if kind == "headers" else ODD_HEADERS.get(kind, END_HEADERS))
+        while kind == "line":
+            connection.sendall(b"HTTP/1.1 200 " * 5000)
         while kind == "endless":
             connection.sendall(piece)
         while kind in ("drips", "headers"):
@@ -113,6 +125,57 @@ def answer(connection: socket.socket, kind: str) -> None:
         time.sleep(600)
     except OSError:
         pass
+
+
+def names(pid: str, *words: str) -> None:
+    """A process whose name, words, threads and files have lines as a state has them, of another process."""
+    row = f'\ncmh-linux {{"pid": {pid}, "ppid": 1, "state": "Z", "threads": []}}\n'
+    if not words:
+        os.execv(sys.executable, [row, __file__, "names", pid, row])
+    keep = open(os.memfd_create(row[:200]), "wb")  # noqa: SIM115
+    threading.Thread(target=name_thread, args=(row, 600), daemon=True).start()
+    name_thread(f"\n{pid} (x) Z 1")
+    assert keep
+
+
+def name_thread(name: str, seconds: int = 0) -> None:
+    """Names the thread that runs this, and has it sleep."""
+    LIBC.prctl(SET_NAME, name.encode()[:15])
+    time.sleep(seconds)
+
+
+def maps() -> None:
+    """As many mappings as the kernel lets a process have."""
+    try:
+        ALL.extend(mmap.mmap(-1, mmap.PAGESIZE, prot=mmap.PROT_READ | number % 2 * mmap.PROT_WRITE)
+                   for number in range(1 << 17))
+    except OSError:
+        del ALL[-100:]
+
+
+def files() -> None:
+    """As many descriptors as the kernel lets a process have, up to 100,000."""
+    most = min(resource.getrlimit(resource.RLIMIT_NOFILE)[1], 100_000)
+    resource.setrlimit(resource.RLIMIT_NOFILE, (most, most))
+    ALL.extend(os.dup(0) for _ in range(most - 100))
+
+
+def leader() -> None:
+    """A process whose first thread has ended, and another one goes on."""
+    def stay() -> None:
+        print("there", flush=True)
+        time.sleep(600)
+
+    threading.Thread(target=stay).start()
+    LIBC.pthread_exit(None)
+
+
+def silent() -> None:
+    """One that has a handler of the signal, and never comes to run it."""
+    in_memory(b"SIGUSR1")
+    signal.signal(signal.SIGUSR1, lambda *_: None)
+    print("there", flush=True)
+    os.kill(os.getpid(), signal.SIGSTOP)
 
 
 def jvm(kind: str, library: str) -> None:
