@@ -3,6 +3,7 @@ whoever runs is counted, and who is linked or monitored is there.
 """
 from __future__ import annotations
 
+import re
 from typing import Dict, Iterator, List, Sequence, Set, Tuple
 
 from ...snapshots import PARTS, Reading
@@ -10,6 +11,8 @@ from .readings import NodeReading
 from .text import PID, Block
 
 NEWER = "it wasn't there before, and processes that are newer were"
+OWNERS = "its looks differ in who has asked for a lock"
+OWNER = re.compile(r"{(<[\d.]+>),(#Ref<[\d.]+>)}")
 NAMED = "it doesn't have {}, to which a process of it is linked, or which one monitors"
 
 
@@ -34,6 +37,10 @@ def doubt_readings(readings: Sequence[Reading]) -> None:
         for function in first.receives.keys() & second.receives.keys():
             if first.receives[function] != second.receives[function]:  # (its code says one thing)
                 del first.receives[function], second.receives[function]
+        owners = [dict((reference, pid) for _, rows in reading.locks for pid, reference in OWNER.findall(rows))
+                  for reading in (first, second)]
+        if any(owners[1].get(reference, pid) != pid for reference, pid in owners[0].items()):
+            first.extent, first.missing = PARTS, first.missing or OWNERS
         lack_named(first, later - there)
         lack_named(second, there - later)
 

@@ -326,6 +326,8 @@ def contradiction(pair: Tuple[Row, Row]) -> str:
         return f"its readings differ in {key}, of which there are less in the later one"
     if has_made_none(was, now) and POLL not in (was["kind"], now["kind"]) and record_of(was) != record_of(now):
         return "its readings show two calls, and it has made none between them"
+    if has_made_none(was, now) and was["kind"] == now["kind"] != 0 and ("place" in was) != ("place" in now):
+        return "one of its readings lacks its place"
     calls = was.get("call"), now.get("call")
     if was["state"] == now["state"] == "S" and None not in calls and calls[0] != calls[1] and was.get(
             "switches") == now.get("switches"):
