@@ -39,7 +39,7 @@ LINKS = re.compile(r"(ppid|group|session|parent|owner|for|wait|held|partner|bloc
                    r"|waits|loop|current|taken|holds|sets|users|object|args|at|to|key|comm|links|monitors|code)$")
 # Keys that show that a process has moved, or computes.
 MOVES = re.compile(r"(counts|calls|stops|spent|new_stops|moved|asleep|switches|used|polls|entered|reductions|state"
-                   r"|status|query_id|wait|done|(recv|send)_(cnt|oct)|count)$")
+                   r"|status|query_id|wait|(?:\w+_)?start(?:ed)?|state_change|done|(recv|send)_(cnt|oct)|count)$")
 COUNTED = re.compile(r'"counts"|"stops"|"calls"|{reductions,|voluntary_ctxt_switches| cpu=|"query_id"|"query_start"'
                      r'|"send_cnt"')
 # What counts the moves of one, with its value.
@@ -48,6 +48,7 @@ COUNTS = re.compile(r'"(?:counts|stops|spent|calls|switches|entered)": ?(?:\[[^]
 BESIDE = "doubled, then taken from another case"  # an entry of a list, with one of another case beside it
 ENTRIES = {"fds", "handlers", "callers", "parents"}  # objects whose keys are entries
 MARKS = ("is_all", "is_full", "is_direct")  # keys that old rows of a heap have where they say something, and else not
+SWAPPED = ("channel_pid",)  # keys whose values, swapped in all looks, still name what is there
 COMES = ("tid", "start")  # another number of one of these is a thread or a process that has come for one that has ended
 SWEEPING = re.compile(r"^\*\s+->\s+(runs|ended)", re.M)  # a fact that decides all who aren't understood
 ODD: List[Any] = [None, 0, 1, -1, "", "0", [], {}, True, False, 1 << 62, 0.5, "x"]
@@ -308,6 +309,8 @@ class Spoiler:
         is_json, is_list = isinstance(path[0], str) or len(path) > 1, isinstance(value, (list, dict))
         if is_json and is_list and COUNTS.search(text_of_json(value)) and how == "taken from another case":
             return "row"
+        if key in SWAPPED and how.startswith("swapped") and look == ALL:
+            return "link"
         is_beside = how == BESIDE and isinstance(value, dict) and not isinstance(path[-1], str)
         if is_beside or how == "lost" and key in MARKS:
             return "row"
