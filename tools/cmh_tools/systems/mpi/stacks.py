@@ -18,7 +18,7 @@ from ...sketch import frame
 STEP = re.compile(r"#(?<!.#)(\d+) +(0x[0-9a-f]+ in )?(.*)")
 FRAME = re.compile(r"(?P<function>(?!\d)\S.*?) \((?P<arguments>.*)\)"
                    r"(?: at (?P<file>.+?):(?P<line>\d+)| from (?P<library>.+?))?\s*")
-TEXTS, BRACKETS = re.compile(r'"(?:[^"\\]|\\.)*"|\'(?:[^\'\\]|\\.)*\''), re.compile("[()]")  # in arguments
+TEXTS = re.compile(r'"(?:[^"\\]|\\.)*"')  # in arguments
 DIGITS = 9  # of the number of a frame, at most
 # What eu-stack prints: a frame with its module, or a thread. It shows no arguments.
 BARE = re.compile(r"(#(?<!.#)\d+ +0x[0-9a-f]+)(?: (?!- )(\S.*?))? - (\S*)$", re.M)
@@ -78,7 +78,7 @@ class Step(NamedTuple):
 def step_of(text: str) -> Optional[Step]:
     """Returns a frame by what stands behind its number and its address, or None if that isn't understood."""
     row = FRAME.fullmatch(ENTRY.sub(r"\1=", text) if "@entry=" in text else text)
-    if row is None or not is_balanced(row["arguments"]):
+    if row is None or "),(" in TEXTS.sub("", row["arguments"]):  # (between arguments is a space)
         return None
     function, file = row["function"], row["file"]
     call, is_of_mpi = CALL.match(function), OF_LIBRARY.match(function) is not None
@@ -87,15 +87,6 @@ def step_of(text: str) -> Optional[Step]:
                 FINALIZE.match(function) is not None,
                 not (row["library"] or is_of_mpi or is_of_system(function, file or "")),
                 (f"{function} {' '.join(names_of(row['arguments']))}", file or row["library"] or "", row["line"]))
-
-
-def is_balanced(arguments: str) -> bool:
-    """Whether no bracket of some arguments ends before it has begun, but for those in texts."""
-    depth, depths = 0, [0]
-    for bracket in BRACKETS.findall(TEXTS.sub("", arguments)):
-        depth += 1 if bracket == "(" else -1
-        depths.append(depth)
-    return min(depths) >= 0
 
 
 def names_of(arguments: str) -> List[str]:

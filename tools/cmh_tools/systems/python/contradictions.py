@@ -19,19 +19,20 @@ NUMBERS = {"thread": "native", "task": "number"}
 def doubt_looks(looks: List[Look]) -> None:
     """Says of threads and tasks of a process that they aren't understood, where two of its looks contradict each other
     in them. Such a one is called in each look as in the first."""
+    known = {id(row) for look in looks for row in look.threads.values() if row.fault}  # (by its text alone)
     for first, second in zip(looks, looks[1:]):
         doubt_rows("thread", first.threads, second.threads)
         doubt_rows("task", first.tasks, second.tasks)
     for look in looks:
-        doubt_loops(look)
+        doubt_loops(look, {key for key, row in look.threads.items() if row.fault and id(row) not in known})
 
 
-def doubt_loops(look: Look) -> None:
-    """Says of the tasks of a loop that they aren't understood, where the thread that runs it isn't."""
+def doubt_loops(look: Look, threads: Set[Any]) -> None:
+    """Says of the tasks of loops that they aren't understood, which some threads run of which two looks contradict each
+    other."""
     for row in look.tasks.values():
         loop = look.loops.get(row.more["loop"])
-        thread = look.threads.get(loop["thread"]) if loop is not None else None
-        row.fault = row.fault or (OF_LOOP if thread is not None and thread.fault else "")
+        row.fault = row.fault or (OF_LOOP if loop is not None and loop["thread"] in threads else "")
 
 
 def doubt_rows(kind: str, first: Dict[Any, Row], second: Dict[Any, Row]) -> None:
