@@ -72,4 +72,4 @@ class Comparison:
 
 
 def stuck_names(view: View) -> List[str]:
-    return [view.rows[at]["name"] for at in view.with_verdict(STUCK, LIKELY)]
+    return [view.rows[index]["name"] for index in view.with_verdict(STUCK, LIKELY)]

@@ -146,8 +146,8 @@ def stand_for_others(graph: WaitGraph) -> Set[int]:
     for wakers in (wakers for row in graph.rows for part in row["wakers"] for wakers in part):
         who = wakers["who"]
         (beside if wakers["strength"] in BESIDE else named).setdefault(who if isinstance(who, str) else id(who), wakers)
-    needed, others = ({name for wakers in some.values() for name in graph.names_of(wakers)}
-                      for some in (named, beside))
+    needed, others = ({name for wakers in lists.values() for name in graph.names_of(wakers)}
+                      for lists in (named, beside))
     numbers = [graph.index[name] for name in others - needed if name in graph.index]
     return {number for number in numbers if is_without_place(graph.rows[number])}
 

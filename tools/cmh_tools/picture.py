@@ -62,7 +62,7 @@ class Picture:
     def __init__(self, graph: WaitGraph, is_whole: bool = False, most: int = MOST) -> None:
         self.graph, self.is_whole = graph, is_whole
         chain = graph.numbers(graph.tree["why"]["chain"]) if graph.tree["why"] else []
-        self.at = chain[0] if chain else None
+        self.asked = chain[0] if chain else None
         drawn = self.with_root(chain) if chain else list(range(graph.number))
         others = set() if is_whole else stand_for_others(graph).difference(chain)
         self.stand_ins = len(others.intersection(drawn)) if not others.issuperset(drawn) else 0
@@ -106,12 +106,14 @@ class Picture:
 
     def caption(self) -> str:
         """Returns the sentence above."""
-        return headline(self.graph) if self.at is None else f"{self.graph.name(self.at)}: {self.graph.answer(self.at)}"
+        if self.asked is None:
+            return headline(self.graph)
+        return f"{self.graph.name(self.asked)}: {self.graph.answer(self.asked)}"
 
     @cached_property
     def cure(self) -> str:
         """What to do first, or nothing."""
-        return cure(self.graph, self.restarts) if self.at is None else ""
+        return cure(self.graph, self.restarts) if self.asked is None else ""
 
     def root_lines(self, number: int) -> List[str]:
         """Returns what stands above a root: how many are in it and behind it, who waits for whom around, and what can

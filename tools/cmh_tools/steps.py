@@ -30,12 +30,12 @@ def way(edges: Edges, start: int, ends: Container[int]) -> List[int]:
 
 def way_back(before: Dict[int, Optional[int]], end: int) -> List[int]:
     """Returns the way to an end, by who comes before each."""
-    found: List[int] = []
+    back: List[int] = []
     node: Optional[int] = end
     while node is not None:
-        found.append(node)
+        back.append(node)
         node = before[node]
-    return found[::-1]
+    return back[::-1]
 
 
 def steps_to(edges: Edges, ends: Iterable[int]) -> Dict[int, int]:

@@ -3,7 +3,7 @@ behind those of the processes."""
 from __future__ import annotations
 
 from functools import cached_property
-from typing import AbstractSet, Dict, Iterable, List, Optional
+from typing import AbstractSet, Dict, Iterable, List, Optional, Sequence
 
 from .say.view import LIKELY, RUNNING, STUCK, Tree, View
 from .sketch import ALL, ANY, RUNS, UNKNOWN
@@ -35,11 +35,11 @@ class WaitGraph(View):
 
     @cached_property
     def predecessors(self) -> List[List[int]]:
-        found: List[List[int]] = [[] for _ in self.successors]
+        waiters: List[List[int]] = [[] for _ in self.successors]
         for node, others in enumerate(self.successors):
             for other in others:
-                found[other].append(node)
-        return found
+                waiters[other].append(node)
+        return waiters
 
     def nodes_of(self, index: int) -> List[int]:
         row = self.rows[index]
@@ -70,15 +70,14 @@ class WaitGraph(View):
 
     # The edges of roots
 
-    def edges_among(self, some: Iterable[int]) -> Edges:
+    def edges_among(self, processes: Sequence[int]) -> Edges:
         """Returns the edges from some to some, and through lists. A list that leads to none of them has no edge."""
-        some = list(some)
-        among = {*some}
+        among = {*processes}
         lists = {node: [other for other in self.successors[node] if other in among]
                  for node in range(self.number, len(self.successors))}
         lists = {node: others for node, others in lists.items() if others}
         among.update(lists)
-        return {**{node: [other for other in self.near[node] if other in among] for node in some}, **lists}
+        return {**{node: [other for other in self.near[node] if other in among] for node in processes}, **lists}
 
     @cached_property
     def edges(self) -> Edges:
@@ -101,9 +100,9 @@ class WaitGraph(View):
         others = [node for node in self.edges[first] if node != first]
         if not others:
             return [first] * len(self.edges[first])
-        around = way({**self.edges, START: others}, START, {first})[1:-1]
-        found = [node for node in around if node < self.number]
-        return [first, *(found or [node for node in self.edges[others[0]] if node != first][:1])]
+        between = way({**self.edges, START: others}, START, {first})[1:-1]
+        members = [node for node in between if node < self.number]
+        return [first, *(members or [node for node in self.edges[others[0]] if node != first][:1])]
 
     def next_steps(self) -> Dict[int, int]:
         """Returns for each the next one on its way to what its answer rests on: a root, an unknown one, or one that
