@@ -5,6 +5,7 @@ _cmh_stall() {
     local options='--seconds --with --stacks --kill --heap --yes --cookie-file'
     options+=' --output --redact --true --all --why --service --keep --timeout --grace'
     options+=' --most-seconds --most-memory --help --version'
+    options+=' --summary --quiet --json --dot --svg --html --state --color --pager --without-notes'
     local systems='linux erlang go jvm mariadb mpi postgres python rabbitmq'
     COMPREPLY=()
     case " ${COMP_WORDS[*]:1:COMP_CWORD-1} " in
@@ -12,8 +13,10 @@ _cmh_stall() {
     esac
     [[ $before != --@(seconds|most-seconds|most-memory|timeout|grace|service|keep) ]] || return
     case $before:$word in
+        --html:* | --state:*) compopt -o default ;;
+        --color:*) mapfile -t COMPREPLY < <(compgen -W 'auto always never' -- "$word") ;;
         *:-*) mapfile -t COMPREPLY < <(compgen -W "$options" -- "$word") ;;
-        cmh-stall:* | --with:*) mapfile -t COMPREPLY < <(compgen -W "$systems" -o plusdirs -- "$word") ;;
+        cmh-stall:* | --with:*) mapfile -t COMPREPLY < <(compgen -W "$systems" -A file -- "$word") ;;
         erlang:* | rabbitmq:*) mapfile -t COMPREPLY < <(compgen -W "$(_cmh_nodes)" -- "$word") ;;
         *) compopt -o default ;;
     esac

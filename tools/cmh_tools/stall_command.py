@@ -20,10 +20,11 @@ from .command import Parser, dump_of_notes, is_notes, known_doubts, notes_path, 
 from .dump import Dump
 from .dump_command import NO_GUESSES, texts_of
 from .explain import Explanation
-from .explain_command import index_of, load_noted
+from .explain_command import add_answer_options, answer_on_files, index_of, write_answer
 from .facts import Facts, read_facts
 from .files import MOST_TOGETHER, Failure, Refusal, decode, say, shown, write_out
 from .folder import Folder, NewFolder
+from .loading import load_noted
 from .making import sketch_for
 from .memory import bound_memory
 from .proposals import Proposal, propose
@@ -55,7 +56,7 @@ OPTIONS = [(system, option) for system in SYSTEMS for option in system.options]
 WAYS = "\n".join(f"       cmh-stall {system.name} {option.usage}" for system, option in OPTIONS if option.usage)
 USAGE = f"""cmh-stall SYSTEM TARGET.. [--seconds S] [--with SYSTEM TARGET..] [-o FOLDER]
 {WAYS}
-       cmh-stall FOLDER [--true 1,3] [--all | --why NAME]
+       cmh-stall FOLDER|FILE.. [--true 1,3] [--all | --why NAME | --summary | --quiet | --json | --html PAGE]
        cmh-stall FOLDER --redact
        cmh-stall --service UNIT [--keep N] [--seconds S] [-o FOLDER]
        cmh-stall --timeout TIME [--grace TIME] [--seconds S] [-o FOLDER] -- COMMAND [WORD..]
@@ -63,7 +64,8 @@ USAGE = f"""cmh-stall SYSTEM TARGET.. [--seconds S] [--with SYSTEM TARGET..] [-o
 NAMED = ", ".join(f"{system.name} {system.target}" for system in SYSTEMS)
 ABOUT = textwrap.fill(f"""Takes the state of a system that hangs twice, and says who is stuck. All that it saw is kept
 in a new folder. SYSTEM TARGET is one of: {NAMED}. Some show more by an option of their own, and stop more meanwhile.
-With a FOLDER that it made, it says the answer again, with the facts that you have written there. Alone, it says what
+With a FOLDER that it made, it says the answer again, with the facts that you have written there; with a FILE, that
+on a dump, a sketch, or states. Alone, it says what
 runs here, and the command for each. With --service it looks at a service of systemd, as a timer may do. With --timeout
 it runs a command, looks at all its processes if that takes longer, and then ends them.""", 120)
 MORE = """status: 0 no process is stuck, 3 some process is stuck, 5 LIKELY DEADLOCK, IDLE OR STALLED or NOT KNOWN,
@@ -98,8 +100,6 @@ def parser() -> Parser:
     add("--yes", action="store_true", help="of an option that stops much: do it")
     add("--guesses", action="store_true", help=argparse.SUPPRESS)
     add("--true", metavar="NUMBERS", help="of a folder: say that these doubts are none, as 1,3, and answer")
-    add("--all", action="store_true", help="show all that is known, in place of the first screen")
-    add("--why", metavar="NAME", help="of a folder: show the chain from one to what its answer rests on")
     add("-o", "--output", metavar="FOLDER", help="the new folder (stall-SYSTEM-TIME)")
     add("--redact", action="store_true",
         help="of a folder: write a copy of dump and answer without names and arguments, for mailing")
@@ -107,13 +107,14 @@ def parser() -> Parser:
         "is started anew; -o is the folder for the folders of the last look and of stalls (stalls-UNIT)")
     add("--keep", metavar="N", type=int, default=KEPT, help="of --service: how many stalls are kept (10)")
     add_options(made)
+    add_answer_options(made)
     made.add_version()
     return made
 
 
 def main(words: Sequence[str]) -> int:
     made = parser()
-    asked = made.parse_args(words)
+    asked = made.parse_intermixed_args(words)
     if not words:
         return show_what_runs()
     if not asked.words and not asked.service:
@@ -127,9 +128,12 @@ def main(words: Sequence[str]) -> int:
             made.error("--most-seconds is no more than the time between the looks")
         path = asked.output or f"stall-{parts[0].system}-{time.strftime('%Y%m%d-%H%M%S')}"
         return stall(parts, asked, path, asked.output is not None)[0]
-    if asked.others or asked.output or asked.words[1:] or not os.path.lexists(f"{asked.words[0]}/{RECORD}"):
+    is_folder = os.path.lexists(f"{asked.words[0]}/{RECORD}")
+    if not is_folder and is_file(asked.words[0]) and not (asked.others or asked.output or asked.redact or asked.true):
+        return answer_on_files(asked)
+    if asked.others or asked.output or asked.words[1:] or not is_folder:
         names = ", ".join(sorted(NAMES))
-        made.error(f"{asked.words[0]} is neither one of {names} nor a folder that cmh-stall has made")
+        made.error(f"{asked.words[0]} is neither one of {names}, nor a folder that cmh-stall has made, nor a file")
     check_folder_words(made, asked)
     if asked.most_memory:
         BUDGET.give(BUDGET.seconds(), asked.most_memory << 20)
@@ -141,6 +145,11 @@ def main(words: Sequence[str]) -> int:
         if numbers:
             say_in(folder, numbers)
         return explain(folder, asked)
+
+
+def is_file(path: str) -> bool:
+    """Whether a word names what may have a dump, a sketch or a state."""
+    return path == "-" or os.path.exists(path) and not os.path.isdir(path)
 
 
 def check_folder_words(parser: Parser, asked: argparse.Namespace) -> None:
@@ -497,17 +506,19 @@ def answer(folder: Folder, asked: Optional[argparse.Namespace] = None, look: str
     """Keeps the first screen of the answer to the dump of a folder there, and prints that, or what is asked of it, with
     colours on a terminal. `look` takes it anew. A copy, of which nothing is asked, has no name of its folder."""
     path = folder.at("dump.json")
-    dump, _ = load_noted(folder.read_bytes(path), path, notes_path(path), folder.read_text)
-    has_all = asked is not None and (asked.all or asked.why is not None)
-    explanation = Explanation(dump, has_all)
+    dump, noted = load_noted(folder.read_bytes(path), path, notes_path(path), folder.read_text)
+    explanation = Explanation(dump, False)
     is_kept = folder.has_file(folder.at(RECORD))
     more = More(f"cmh-stall {shlex.quote(folder.path)}", True, look) if is_kept else More(look, False, look)
     more = more if asked else More("cmh-explain dump.json")
-    index = None if asked is None or asked.why is None else index_of(dump, asked.why)
+    if asked is not None and asked.why is not None:
+        index_of(dump, asked.why)
     folder.keep([(folder.at("answer"), screen(explanation, more))])
-    explanation.style = style_of_output()
-    text = screen(explanation, more) if not has_all else explanation.text() if index is None else explanation.why(index)
-    write_out(text)
+    if asked is None:
+        explanation.style = style_of_output()
+        write_out(screen(explanation, more))
+    else:
+        write_answer(asked, dump, noted, more=more)
     return explanation
 
 

@@ -29,7 +29,7 @@ from cmh_tools.sketch_json import sketch_of  # noqa: E402
 from cmh_tools.stuck import Waits  # noqa: E402
 from plain import plain_edges, plain_roots  # noqa: E402
 
-DUMP, EXPLAIN = ([sys.executable, f"{TOOLS}/{name}"] for name in ("cmh-dump", "cmh-explain"))
+DUMP, EXPLAIN, STALL = ([sys.executable, f"{TOOLS}/cmh-{name}"] for name in ("dump", "explain", "stall"))
 WORDS = {"waits_for_any": "any", "waits_for_all": "all"}  # how expected ones are written
 FRAME = re.compile(r"(?P<function>.*) \((?P<file>.*):(?P<line>\d+)\)")  # as the answers have it
 RESTING = 20  # looks, 0.05 s apart, in each of which one that rests has done nothing
