@@ -1,5 +1,5 @@
-"""The command `cmh-explain`: who is stuck in a dump, who isn't, who is undecided, and where it has to be broken. So does
-`cmh-stall` of a file: the options of an answer are the same."""
+"""The command `cmh-explain`, and `cmh-stall` of a file: who is stuck in a dump, who isn't, who is undecided, and where
+it has to be broken."""
 from __future__ import annotations
 
 from typing import Any, Optional, Sequence, Tuple
@@ -15,17 +15,17 @@ from .screen import More, screen
 from .sketch import BARE, near_name, quote
 from .terminal import show, style_of_output
 
-ABOUT = """Says in words what is known of a dump, from the notes that cmh-dump wrote beside it, of a sketch, or of states.
-The program cmh has to confirm it on two dumps, with all unknown ones active and with all idle, and what is likely on
-two more."""
+ABOUT = """Says in words what is known of a dump, from the notes that cmh-dump wrote beside it, of a sketch, or of
+states. The program cmh has to confirm it on two dumps, with all unknown ones active and with all idle, and what is
+likely on two more."""
 MORE = """status: 0 no process is stuck, 3 some process is stuck, 5 LIKELY DEADLOCK, IDLE OR STALLED or NOT KNOWN,
 1 the file is refused, 2 the command line is, 4 out of memory, an I/O error, or the program doesn't confirm it"""
 
 
 def parser() -> Parser:
     made = Parser("cmh-explain", usage="cmh-explain [options] FILE [FILE ..]", description=ABOUT, epilog=MORE)
-    made.add_argument("words", metavar="FILE", nargs="+", help="a dump, whose notes are read from DUMP.notes.json, a "
-                      "sketch, or all states of a system; of two dumps the newer one is the second: --html FILE OLD NEW")
+    made.add_argument("words", metavar="FILE", nargs="+", help="a dump, whose notes are read from DUMP.notes.json, "
+                      "a sketch, or all states of a system; of two dumps the newer one is the second: --html PAGE OLD NEW")
     add_answer_options(made)
     made.add_version()
     return made

@@ -57,8 +57,8 @@ def sketch_in(tree: Any, data: bytes, paths: Sequence[str]) -> Optional[Sketch]:
     is_text = tree is None and TEXT.match(data) is not None
     found = sketches_of(paths, text_of_bytes(data, paths[0])) if data.strip() else []
     if is_text and not found:
-        raise Refusal(f"{shown(paths[0])}: it is no JSON, as a dump and a sketch are, and no system knows it as a state "
-                      "of its own: 'cmh-dump SYSTEM STATE -o DUMP' says why one doesn't")
+        raise Refusal(f"{shown(paths[0])}: it is no JSON, as a dump and a sketch are, and no system knows it as a "
+                      "state of its own: 'cmh-dump SYSTEM STATE -o DUMP' says why one doesn't")
     if found[1:]:
         systems = " or of ".join(sketch.system for sketch in found)
         raise Failure(f"{shown(paths[0])}: it may be a state of {systems}: cmh-dump takes the name of the system", 2)

@@ -20,7 +20,7 @@ from .command import Parser, dump_of_notes, is_notes, known_doubts, notes_path, 
 from .dump import Dump
 from .dump_command import NO_GUESSES, texts_of
 from .explain import Explanation
-from .explain_command import add_answer_options, answer_on_files, index_of, write_answer
+from .explain_command import add_answer_options, answer_on_files, write_answer
 from .facts import Facts, read_facts
 from .files import MOST_TOGETHER, Failure, Refusal, decode, say, shown, write_out
 from .folder import Folder, NewFolder
@@ -511,8 +511,6 @@ def answer(folder: Folder, asked: Optional[argparse.Namespace] = None, look: str
     is_kept = folder.has_file(folder.at(RECORD))
     more = More(f"cmh-stall {shlex.quote(folder.path)}", True, look) if is_kept else More(look, False, look)
     more = more if asked else More("cmh-explain dump.json")
-    if asked is not None and asked.why is not None:
-        index_of(dump, asked.why)
     folder.keep([(folder.at("answer"), screen(explanation, more))])
     if asked is None:
         explanation.style = style_of_output()
