@@ -25,7 +25,7 @@ MORE = """status: 0 no process is stuck, 3 some process is stuck, 5 LIKELY DEADL
 def parser() -> Parser:
     made = Parser("cmh-explain", usage="cmh-explain [options] FILE [FILE ..]", description=ABOUT, epilog=MORE)
     made.add_argument("words", metavar="FILE", nargs="+", help="a dump, whose notes are read from DUMP.notes.json, "
-                      "a sketch, or all states of a system; of two dumps the newer one is the second: --html PAGE OLD NEW")
+                      "a sketch, or all states of a system; with --html two dumps of one system, the older one first")
     add_answer_options(made)
     made.add_version()
     return made
