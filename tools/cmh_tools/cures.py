@@ -8,8 +8,7 @@ from typing import Dict, Iterable, List, NamedTuple, Sequence, Set, Tuple
 
 from .files import short_name, shown
 from .findings import Findings
-from .model import Sign, Strength
-from .rule import Headline
+from .model import Headline, Sign, Strength
 from .sketch import BARE, ENDED, Process
 from .systems import described
 

@@ -6,10 +6,9 @@ from __future__ import annotations
 from dataclasses import replace
 from typing import AbstractSet, Dict, Iterable, Iterator, List, NamedTuple, Optional, Sequence, Set, Tuple
 
-from . import rule
 from .doubt_words import told_reason
 from .facts import OTHERS, STILL, word_of
-from .model import HOWS, Part, Sign, Strength
+from .model import HOWS, Aside, Part, Sign, Strength
 from .proposals import HAS_ENDED, LEFT_OUT, MOST, NUMBER, freeing_nobody, place_name
 from .rule import Decision
 from .sketch import UNREADABLE, Process, Sketch
@@ -43,7 +42,7 @@ class Likely:
 
     def __init__(self, waits: Waits, known: Sequence[str] = ()) -> None:
         self.waits, self.decision, self.keys = waits, waits.decision, list(known)
-        self.left: Dict[Tuple[int, int], List[Part]] = {}  # of waits, by the ids of their parts and of those that hold
+        self.left: Dict[Tuple[int, int], List[Part]] = {}  # of waits, by the ids of their parts and of what is left of these
         self.numbers = {waits.processes[at].name: at for at in sorted(self.decision.likely - self.decision.certain)}
 
     def process(self, name: str) -> Process:
@@ -58,10 +57,10 @@ class Likely:
 
     def without_doubts(self, process: Process) -> Process:
         """Returns one that is likely to be stuck without the wakers that were set aside."""
-        made, holding = process.copy(), self.decision.holding_parts(self.numbers[process.name])
-        key = id(process.parts), id(holding)
+        made, number = process.copy(), self.numbers[process.name]
+        key = id(process.parts), id(self.decision.waits[number])
         if key not in self.left:
-            parts = set(map(id, holding))
+            parts = set(map(id, self.decision.holding_parts(number)))
             self.left[key] = [part_left(part, self.decision) if id(part) in parts else part for part in process.parts]
         made.parts = self.left[key]
         return made
@@ -70,8 +69,8 @@ class Likely:
 
     def doubts(self, members: AbstractSet[str]) -> List[Doubt]:
         """Returns the doubts: those on members of roots first, and of these those that most often hold."""
-        families: Dict[str, List[rule.Doubt]] = {}
-        groups: Dict[str, List[rule.Doubt]] = {}
+        families: Dict[str, List[Aside]] = {}
+        groups: Dict[str, List[Aside]] = {}
         for aside in self.decision.doubts_of_likely:
             families.setdefault(self.key_of(aside), []).append(aside)
         for key, asides in families.items():
@@ -91,26 +90,27 @@ class Likely:
         todo = list(hinges)
         seen: Set[int] = set()
         while todo:
-            parts = self.decision.holding_parts(self.numbers[todo.pop()])
-            lists = {id(wakers.who): wakers.names() for part in parts for wakers in part
-                     if id(wakers.who) not in seen} if id(parts) not in seen else {}
-            seen.update((id(parts), *lists))
+            number = self.numbers[todo.pop()]
+            wait = id(self.decision.waits[number])
+            parts = self.decision.holding_parts(number) if wait not in seen else ()
+            lists = {id(wakers.who): wakers.names() for part in parts for wakers in part if id(wakers.who) not in seen}
+            seen.update((wait, *lists))
             new = {name for row in lists.values() for name in row if name in self.numbers} - hinges
             hinges |= new
             todo += new
         return hinges
 
-    def sign_of(self, aside: rule.Doubt) -> Optional[Sign]:
-        is_seen = aside.who is not None and aside.strength is not Strength.UNSEEN
-        return self.decision.sign_of(aside.who or "") if is_seen else None
+    def sign_of(self, aside: Aside) -> Optional[Sign]:
+        number = self.decision.index.get(aside.who or "") if aside.strength is not Strength.UNSEEN else None
+        return None if number is None else self.decision.subjects[number].sign
 
-    def key_of(self, aside: rule.Doubt) -> str:
+    def key_of(self, aside: Aside) -> str:
         """Returns what those share of whom one sentence is said: processes of one family and sign, or a way to end a
         wait that isn't seen."""
         sign, family = self.sign_of(aside), NUMBER.sub("*", aside.who or "")
         return f"{aside.how} {family}".strip() if sign is None else f"{family} {sign.value}"
 
-    def kind_of(self, key: str, asides: List[rule.Doubt]) -> str:
+    def kind_of(self, key: str, asides: List[Aside]) -> str:
         """Returns what families share of whom one sentence is said: of those who go on, sleep or aren't understood each
         has its own."""
         sign, how = self.sign_of(asides[0]), asides[0].how
@@ -121,10 +121,10 @@ class Likely:
         reasons = {told_reason(self.process(aside.who or "").reason) for aside in asides if sign is Sign.RESTS}
         return " ".join([*sorted(reasons), sign.value])
 
-    def place(self, aside: rule.Doubt) -> Tuple[bool, int]:
+    def place(self, aside: Aside) -> Tuple[bool, int]:
         return aside.strength is Strength.UNSEEN, ORDER.index(self.sign_of(aside))
 
-    def doubt_of(self, key: str, asides: List[rule.Doubt]) -> Doubt:
+    def doubt_of(self, key: str, asides: List[Aside]) -> Doubt:
         first = asides[0]
         who = list(dict.fromkeys(aside.who for aside in asides if aside.who is not None))
         lists = {id(aside.waits): aside.waits for aside in asides}

@@ -5,11 +5,11 @@ from typing import Dict, FrozenSet, Iterable, Iterator, List, NamedTuple, Option
 
 from .dump import Dump
 from .files import shown
-from .model import Sign, Strength
+from .model import STATUSES, Headline, Sign, Strength
 from .proposals import Line, Proposal, Words, lines_of, propose
 from .reasons import Reason, Rests, counts_of
 from .doubts import Doubt
-from .rule import STATUSES, Decision, Headline
+from .rule import Decision
 from .roots import Knots, Roots, count_waiters, edges_among, ends, without_hubs
 from .sketch import ALL, ANY, ENDED, LIMIT, RUNS, UNKNOWN, Process, premise
 from .steps import way

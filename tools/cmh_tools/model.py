@@ -8,7 +8,7 @@ wakers is one that nobody can end.
 from __future__ import annotations
 
 from enum import Enum
-from typing import Callable, Dict, Iterable, List, NamedTuple, Sequence, Tuple, TypeVar, Union
+from typing import Callable, Dict, Iterable, List, NamedTuple, Optional, Sequence, Tuple, TypeVar, Union
 
 
 class Sign(Enum):
@@ -122,6 +122,38 @@ class Wakers(NamedTuple):
 
 
 Part = Tuple[Wakers, ...]
+
+
+class Subject(NamedTuple):
+    """What the rule sees of a process. `parts` are those of its wait that nobody has ended yet: one that is blocked and
+    has none goes on."""
+
+    name: str
+    sign: Sign
+    parts: Sequence[Part] = ()
+
+
+class Aside(NamedTuple):
+    """Somebody whom the rule sets aside, and who may free some of those that are likely to be stuck: `waits` has their
+    names, and may be shared by others. `who` is None for anybody who isn't in the state."""
+
+    who: Optional[str]
+    how: str
+    strength: Strength
+    waits: Sequence[str]
+
+
+class Headline(Enum):
+    """The first of these that holds is the answer."""
+
+    DEADLOCK = "DEADLOCK"
+    LIKELY = "LIKELY DEADLOCK"
+    NONE = "NO DEADLOCK"
+    IDLE = "IDLE OR STALLED"
+    NOT_KNOWN = "NOT KNOWN"
+
+
+STATUSES = {Headline.DEADLOCK: 3, Headline.LIKELY: 5, Headline.NONE: 0, Headline.IDLE: 5, Headline.NOT_KNOWN: 5}
 
 
 Answer = TypeVar("Answer")

@@ -9,9 +9,8 @@ from collections import Counter
 from typing import Collection, Dict, Iterable, List, NamedTuple, Sequence, Set, Tuple
 
 from .facts import FREES, OTHERS, STILL, word_of
-from .model import Sign, Strength
+from .model import Aside, Sign, Strength
 from .places import FRAME, is_like
-from .rule import Doubt
 from .sketch import COMPLETE, REST, RUNS, UNKNOWN, UNREADABLE, Process, has_how
 from .stuck import Waits
 
@@ -112,7 +111,7 @@ def is_by_reach(process: Process) -> bool:
 
 def freeing_lines(waits: Waits) -> List[Proposal]:
     """Returns a line for those who may end the wait of some, likely end none, and alone keep these from being stuck."""
-    groups: Dict[int, List[Doubt]] = {}  # by the ids of those that wait
+    groups: Dict[int, List[Aside]] = {}  # by the ids of those that wait
     for doubt in waits.decision.doubts_of_likely:
         groups.setdefault(id(doubt.waits), []).append(doubt)
     lists: Dict[Tuple[str, ...], Dict[str, None]] = {}

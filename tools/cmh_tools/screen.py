@@ -16,9 +16,8 @@ from .doubt_words import STAND_INS
 from .doubts import Doubt
 from .explain import Explanation
 from .files import short_name, shown
-from .model import Sign, Strength, Wakers
+from .model import Headline, Sign, Strength, Wakers
 from .nearness import MAY_HAVE
-from .rule import Headline
 from .sketch import ALL, ANY, ENDED, OF_SERVER, REST, UNREADABLE
 from .systems import KERNEL, all_described, described
 from .terminal import AsItIs, Painted, fill, paint_line

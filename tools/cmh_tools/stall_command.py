@@ -27,9 +27,9 @@ from .folder import Folder, NewFolder
 from .loading import load_noted
 from .making import sketch_for
 from .memory import bound_memory
+from .model import STATUSES, Headline
 from .proposals import Proposal, propose
 from .redact import redacted_texts
-from .rule import STATUSES, Headline
 from .running import proposals as what_runs
 from .saying import numbers_of, say_true
 from .screen import More, screen

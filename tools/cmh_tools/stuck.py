@@ -17,9 +17,9 @@ from itertools import chain
 from typing import AbstractSet, Callable, Dict, FrozenSet, Iterable, List, Optional, Sequence, Set, Tuple
 
 from .files import Refusal
-from .model import COMES, Part, Sign, Strength, Wakers, once
+from .model import COMES, Part, Sign, Strength, Subject, Wakers, once
 from .nearness import NEAR, Nearness
-from .rule import Decision, Subject
+from .rule import Decision
 from .sketch import ALL, ANY, DONE, ENDED, GOING, RUNS, Process, Sketch, is_open, kind_of_wait, lists_of_wakers, \
     shared_lists, shared_waits
 
@@ -143,7 +143,6 @@ class Waits:
                 made.kinds[number] = made.kind_of(number)
             made.decision = Decision(made.subjects)
             made.number_nodes()
-        made.decision.freed = self.decision.freed_beside
         return made
 
     def number_nodes(self) -> None:
@@ -316,7 +315,8 @@ class Waits:
         """Returns who would still be stuck if some ran. Where nobody waits for all, that is nobody behind a root."""
         if ALL not in self.kinds:
             return []
-        return sorted(self.decision.certain_without({*running}))
+        waiting = (self.decision.blocked | self.decision.resting).difference(running)
+        return sorted(waiting.difference(self.decision.outside(waiting)))
 
 
 class Answer:

@@ -11,7 +11,7 @@ import time
 from typing import Callable, Dict, List, Tuple
 
 from .files import Failure, Refusal, cause_of, failure_of, say, shown, signal_words
-from .rule import Headline
+from .model import Headline
 
 TRIES = 5  # looks at a service that is started anew during each
 PAUSE = 2.0  # seconds in which a service that is about to run gets its process

@@ -8,8 +8,8 @@ from typing import Dict, FrozenSet, List, NamedTuple, Optional, Sequence, Set, T
 
 from plain import plain_roots
 
-from cmh_tools.model import ANYBODY, COMES, HOWS, Anybody, Part, Sign, Strength, Wakers, wakers
-from cmh_tools.rule import Headline, Subject
+from cmh_tools.model import (ANYBODY, COMES, HOWS, Anybody, Headline, Part, Sign, Strength, Subject, Wakers,
+                             wakers)
 
 GOES_ON, TICKS, SLEEPS, POLLS, RESTS, BLOCKED, UNKNOWN, ENDED = list(Sign)
 NAMED, ABLE, AGAINST, UNSEEN = list(Strength)

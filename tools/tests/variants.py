@@ -18,8 +18,9 @@ from harness import pythons, read, write
 from cmh_linux.command import collect
 from cmh_tools.facts import Facts
 from cmh_tools.making import record, with_facts
+from cmh_tools.model import Headline
 from cmh_tools.systems import State, parser_of
-from cmh_tools.rule import Decision, Headline
+from cmh_tools.rule import Decision
 from cmh_tools.stuck import Waits
 
 STALL = "shop"
