@@ -66,7 +66,7 @@ def files_of(numbers: Iterable[int]) -> Files:
     return found
 
 
-class Process:
+class ClientProcess:
     """A client's process, as it is read."""
 
     def __init__(self, row: Row, sockets: Sockets) -> None:
@@ -152,11 +152,11 @@ def clients(rows: List[Row]) -> Iterator[Row]:
     found = {row["pid"]: row for row in read if "threads" in row and "unreadable" not in row}
     sockets = Sockets([*found.values()])
     for pid, row in found.items():
-        yield from connections_of(Process(row, sockets), [it for it, owner in owners.items() if owner == pid],
+        yield from connections_of(ClientProcess(row, sockets), [it for it, owner in owners.items() if owner == pid],
                                   connections, ends)
 
 
-def connections_of(process: Process, numbers: List[int], connections: Dict[int, str],
+def connections_of(process: ClientProcess, numbers: List[int], connections: Dict[int, str],
                    ends: Dict[str, str]) -> Iterator[Row]:
     """Yields the connections of a process: the first with what its threads do, and each other one with the first one's
     name. Where a thread waits at this one, among others, it says so."""

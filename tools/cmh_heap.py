@@ -158,7 +158,7 @@ class Shapes(Dict[int, Optional[Callable[..., Tuple[int, ...]]]]):
     """By a class, what reads the lower halves of the references that an object of it has. A text refers to none but its
     letters."""
 
-    def __init__(self, heap: Heap) -> None:
+    def __init__(self, heap: HeapDump) -> None:
         super().__init__()
         self.heap = heap
 
@@ -171,7 +171,7 @@ class Shapes(Dict[int, Optional[Callable[..., Tuple[int, ...]]]]):
         return found
 
 
-class Heap:
+class HeapDump:
     """What is kept of a heap dump: when it was taken, in seconds; by the identity of an object the values of its
     fields, for each group; of each thread, by its number in the file, its object, its trace, and which objects each of
     its frames has, or its natives. `of_all` are those that the JVM has, or a static field of the JDK's,
@@ -393,7 +393,7 @@ class Heap:
 
 
 @dataclass(eq=False)
-class Thread:
+class HeapThread:
     """A thread that lives: its object, as rows print it, what it is parked at, its frames, and who is in which."""
 
     identity: int
@@ -412,12 +412,12 @@ class Thread:
         return {identity for depth, identity in self.locals if depth in depths and identity in some}
 
 
-class Reach:
+class HeapReach:
     """Who has a path of references to some objects. `into` has, of each object on a path, those that refer to it, `own`
     the threads that alone use a field of theirs which does, `having` those that have it in a frame, `of_all` are those
     to which anybody may come, the JVM too, and `unused` those to which a field refers that nobody uses."""
 
-    def __init__(self, heap: Heap, alive: Iterable[int]) -> None:
+    def __init__(self, heap: HeapDump, alive: Iterable[int]) -> None:
         self.heap, self.alive = heap, set(alive)
         self.into: Dict[int, Set[int]] = {}
         self.own: Dict[int, Set[int]] = defaultdict(set)
@@ -587,24 +587,24 @@ def is_hidden(kind: str) -> bool:
     return HIDDEN.fullmatch(kind) is not None and OF_THE_JDK.fullmatch(kind) is None
 
 
-class Waits:
+class HeapWaits:
     """Who waits for what in a heap dump, as rows. `optimised` are the methods in which the JVM may have taken objects
     apart, if that is known: of what a thread of the job has by one of these alone, no heap dump says that."""
 
-    def __init__(self, heap: Heap, optimised: Optional[Set[str]] = None) -> None:
+    def __init__(self, heap: HeapDump, optimised: Optional[Set[str]] = None) -> None:
         self.heap, self.found, self.optimised = heap, heap.found, optimised
-        self.threads: Dict[int, Thread] = {}
+        self.threads: Dict[int, HeapThread] = {}
         for serial, (identity, trace) in heap.roots.items():
             number, native, blocker = self.found[THREAD].get(identity, (None, 0, 0))[:3]
             if number is not None and native:
                 frames = [heap.frame(it) for it in heap.traces.get(trace, []) if it in heap.frames]
                 here = heap.locals.get(serial, [])
-                self.threads[identity] = Thread(identity, [number, f"{native:#x}"], blocker or 0, frames, here)
-        self.having: Dict[int, List[Thread]] = defaultdict(list)
+                self.threads[identity] = HeapThread(identity, [number, f"{native:#x}"], blocker or 0, frames, here)
+        self.having: Dict[int, List[HeapThread]] = defaultdict(list)
         for thread in self.threads.values():
             for held in {held for _, held in thread.locals}:
                 self.having[held].append(thread)
-        self.reach = Reach(heap, self.threads)
+        self.reach = HeapReach(heap, self.threads)
         self.at = {it.identity: self.object_of(it) for it in self.threads.values()}
         self.hiding = [it.identity for it in self.threads.values() if not it.top(GETS_TASK)
                        and not all(JDK.match(name) for name, _ in it.frames)
@@ -639,7 +639,7 @@ class Waits:
                        **row, "reach": [] if some is not None and is_all else some,
                        "is_all": some is not None and is_all}
 
-    def object_of(self, thread: Thread) -> int:
+    def object_of(self, thread: HeapThread) -> int:
         """Returns by which object others end the wait of a thread without a limit: one of the JDK's at which it is
         parked, or one on which it is in Object.wait(). Else it returns 0."""
         names = [name for name, _ in thread.frames[:SHOWN]]
@@ -652,7 +652,7 @@ class Waits:
         found = {identity for depth, identity in thread.locals if depth in depths}
         return found.pop() if len(found) == 1 else 0
 
-    def reaching(self, thread: Thread) -> Tuple[Optional[List[List[Any]]], bool]:
+    def reaching(self, thread: HeapThread) -> Tuple[Optional[List[List[Any]]], bool]:
         """Returns who may end the wait of a thread, by what it waits at or by an interrupt, or None if that may be
         anybody, and whether all threads may. In the place of a worker of a pool that is idle stands who may give it
         something to do. (The end of a thread ends a wait at it.)"""
@@ -678,7 +678,7 @@ class Waits:
         lock: int = self.found[CONDITION].get(at, self.found[LONG_CONDITION].get(at, (0,)))[0] or 0
         return lock
 
-    def is_in_group(self, thread: Thread) -> bool:
+    def is_in_group(self, thread: HeapThread) -> bool:
         """Whether a thread is in a group of threads that the job has made, by which it may be interrupted: all but the
         first group, and those beside it, stand below that."""
         holder, group = self.found[THREAD][thread.identity][3:]
@@ -687,13 +687,13 @@ class Waits:
         above, = groups.get(group, (-1,))
         return above != 0 and groups.get(above, (-1,)) != (0,)
 
-    def is_at_rest(self, thread: Thread) -> bool:
+    def is_at_rest(self, thread: HeapThread) -> bool:
         """Whether a thread of a pool waits without a limit until somebody has a task for it."""
         names = [name for name, _ in thread.frames[:SHOWN]]
         at = names.index(GETS_TASK) if GETS_TASK in names else 0
         return at > 0 and TAKES.fullmatch(names[at - 1]) is not None and self.at[thread.identity] != 0
 
-    def row_of(self, thread: Thread) -> Row:
+    def row_of(self, thread: HeapThread) -> Row:
         """Returns what a thread waits for, or nothing if the heap doesn't show it for certain."""
         if thread.blocker in self.found[TASK] and thread.top(AWAIT):
             return self.task(thread)
@@ -717,7 +717,7 @@ class Waits:
             return self.future(thread, next(iter(futures))) if len(futures) == 1 else {}
         return {}
 
-    def stream(self, thread: Thread) -> Row:
+    def stream(self, thread: HeapThread) -> Row:
         """Returns who runs parts of a parallel stream at whose end a thread of no such pool waits, if no part waits for
         somebody to run it. The part that ends last ends the stream, and one that fails too. A part that is queued is in
         an array, one that is done has nothing left, and one that only an optimised method has may be missing."""
@@ -742,11 +742,11 @@ class Waits:
             part = self.found[PART][part][0]
         return found
 
-    def besides(self, thing: int, but: Sequence[Thread]) -> List[List[Any]]:
+    def besides(self, thing: int, but: Sequence[HeapThread]) -> List[List[Any]]:
         """Returns who else has an object in its frames."""
         return [it.label for it in self.having[thing] if it not in but]
 
-    def task(self, thread: Thread) -> Row:
+    def task(self, thread: HeapThread) -> Row:
         """Returns who runs a task, or the threads of the pool in whose queue it stands."""
         state, runner = self.found[TASK][thread.blocker][:2]
         if runner in self.threads:
@@ -772,21 +772,21 @@ class Waits:
     def workers(self, pool: int) -> List[List[Any]]:
         return [self.threads[it].label for its, it in self.found[WORKER].values() if its == pool and it in self.threads]
 
-    def is_periodic(self, thread: Thread) -> bool:
+    def is_periodic(self, thread: HeapThread) -> bool:
         """Whether all that a thread has to do later it does again and again: the tasks of its pool, or of all timers.
         """
         periods = [self.found[TIMED if thread.top(TIMER) else TASK][it][1 if thread.top(TIMER) else 2]
                    for it in self.to_do(thread)]
         return periods != [] and all(periods)
 
-    def to_do(self, thread: Thread) -> List[int]:
+    def to_do(self, thread: HeapThread) -> List[int]:
         """Returns what a thread has to do later: the tasks of its pool, or of all timers."""
         pools = self.pools_of(thread)
         if thread.top(TIMER):
             return [it for it, (state, _) in self.found[TIMED].items() if state == SCHEDULED]
         return [it for it, (state, _, _, pool) in self.found[TASK].items() if not state and pool in pools]
 
-    def pools_of(self, thread: Thread) -> Set[int]:
+    def pools_of(self, thread: HeapThread) -> Set[int]:
         return {pool for pool, it in self.found[WORKER].values() if it == thread.identity}
 
     def is_for_hook(self, at: int) -> bool:
@@ -807,7 +807,7 @@ class Waits:
             tasks.add(task)
         return tasks
 
-    def is_lost(self, thread: Thread) -> bool:
+    def is_lost(self, thread: HeapThread) -> bool:
         """Whether one that had a lock, or wrote or read under it, has ended with it, as that one alone gives it back.
         Who has it, or writes, keeps out all others, and who reads those that want to write."""
         taken, owner = self.found[MUTEX].get(thread.blocker, (0, 0))
@@ -841,7 +841,7 @@ class Waits:
         is_read = readers and is_whole and not state & 0xFFFF
         return {"waits": "readers", "for": [labels[it] for it in readers]} if is_read else {}
 
-    def future(self, thread: Thread, future: int, above: Sequence[int] = ()) -> Row:
+    def future(self, thread: HeapThread, future: int, above: Sequence[int] = ()) -> Row:
         """Returns who computes what a future comes from, at the beginning of its chain, and whether that one also does
         all that follows; or the threads of the pool in whose queue the work for it stands."""
         chain: List[int] = []
@@ -872,7 +872,7 @@ class Waits:
         kind, (_, first, _, second) = self.step_to(future)
         return [first, second] if kind.startswith(f"{FUTURE}$Bi") and first and second else []
 
-    def all_of(self, thread: Thread, parts: List[int], above: Sequence[int]) -> Row:
+    def all_of(self, thread: HeapThread, parts: List[int], above: Sequence[int]) -> Row:
         """Returns who computes some futures, if each of them that isn't complete has one who does."""
         rows = [self.future(thread, it, above) for it in self.leaves_of(parts)]
         if len(rows) == 1:
@@ -897,9 +897,9 @@ class Waits:
             seen.add(part)
         return found if not todo else []
 
-    def computing(self, future: int) -> Dict[Thread, str]:
+    def computing(self, future: int) -> Dict[HeapThread, str]:
         """Returns the threads that are in the function whose value a future gets, and by which method of the JDK."""
-        found: Dict[Thread, str] = {}
+        found: Dict[HeapThread, str] = {}
         for thread in self.having[future]:
             methods = [thread.frames[at][0] for at, held in thread.locals if held == future and at < len(thread.frames)]
             found.update((thread, name) for name in methods if COMPUTES.fullmatch(name))
@@ -938,9 +938,9 @@ def main(words: List[str]) -> int:
         return 2
     try:
         with open(words[0], "rb") as file, mmap.mmap(file.fileno(), 0, access=mmap.ACCESS_READ) as data:
-            heap = Heap(data)
+            heap = HeapDump(data)
             heap.read()
-            rows = list(Waits(heap, *map(optimised_in, words[1:])).rows())
+            rows = list(HeapWaits(heap, *map(optimised_in, words[1:])).rows())
     except (Fault, OSError) as error:
         return fail(f"{words[0]}: {error}")
     except (ValueError, KeyError, IndexError, struct.error):

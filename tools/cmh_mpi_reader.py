@@ -105,7 +105,7 @@ def has_alarms(pid: int) -> bool:
 # One rank
 
 
-class Rank:
+class RankRecord:
     """The record of a rank, as it is when this is made. `fault` says why it isn't one to be trusted."""
 
     def __init__(self, pid: int, handle: int) -> None:
@@ -226,7 +226,7 @@ def row_of_rank(pid: int) -> Row:
     """Returns what is known of a rank at this moment."""
     path, fault = record_of(pid)
     with contextlib.suppress(OSError, struct.error), plain(path) as handle:  # (it may be cut off meanwhile)
-        rank = Rank(pid, handle)
+        rank = RankRecord(pid, handle)
         if not rank.fault:
             return row_of_record(rank)
         fault = rank.fault
@@ -236,7 +236,7 @@ def row_of_rank(pid: int) -> Row:
     return {"pid": pid, "fault": fault or "it has ended its record", **({} if number is None else {"rank": number})}
 
 
-def row_of_record(rank: Rank) -> Row:
+def row_of_record(rank: RankRecord) -> Row:
     # The threads are looked at before and after their records: who hasn't moved between stood there meanwhile.
     states = [stat_of_thread(rank.pid, tid) for tid in threads_of(rank.pid)]
     records = rank.records()

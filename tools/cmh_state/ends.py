@@ -13,7 +13,7 @@ from .frames import is_own
 from .locks import inside, kept_in, taken_in
 from .objects import PACKAGES, attributes_of, cells_in, coroutines_of, is_library, is_library_module, wrapped_in
 from .pace import PACE
-from .reach import MEANT, NEAR, Found, called_later
+from .reach import MEANT, NEAR, FoundReach, called_later
 
 TYPE_CHECKING = False
 if TYPE_CHECKING:
@@ -62,7 +62,7 @@ def reached(words: Set[str], frames: Stack, start_of: Callable[[Frame], int], ca
     ways: Ways = [(names_ahead(frame.f_code, start_of(frame)), dict(frame.f_locals), frame.f_globals, ())
                   for frame, _ in frames if is_own(frame)]
     own = [names_ahead(frame.f_code, start_of(frame), ATTRIBUTES) for frame, _ in frames if is_own(frame)]
-    found = Found()
+    found = FoundReach()
     found.spread([*called, *called_later(frames)])
     seen: Set[types.FunctionType] = set()
     for _ in range(far):

@@ -183,7 +183,7 @@ def holds_others(value: object) -> bool:
     return type(value) in (*ROWS, functools.partial, types.MethodType) or issubclass(type(value), dict)
 
 
-class Found:
+class FoundReach:
     """What is known of values that code has names for: the names of the functions among them, those of these that are
     the program's, and the attributes of objects, and of their classes, that methods may find in `self`: by the names of
     these classes, a few of each."""
@@ -217,7 +217,7 @@ class Found:
                 owners[id(value)] = value, here
                 owners.update(rows)
 
-    def join(self, other: Found) -> None:
+    def join(self, other: FoundReach) -> None:
         """Adds what is known of others."""
         self.names |= other.names
         self.functions |= other.functions
@@ -240,12 +240,12 @@ class Meant:
     what several rows reach."""
 
     def __init__(self) -> None:
-        self.named: Dict[Tuple[FrozenSet[str], int], Found] = {}
-        self.insides: Dict[int, Tuple[Thing, Found]] = {}
+        self.named: Dict[Tuple[FrozenSet[str], int], FoundReach] = {}
+        self.insides: Dict[int, Tuple[Thing, FoundReach]] = {}
         self.lasting: Dict[int, Thing] = {}  # (kept, so that no other one gets its place)
         KNOWN.extend((self.named, self.insides, self.lasting))
 
-    def add(self, found: Found, names: FrozenSet[str], near: Attributes, module: Attributes,
+    def add(self, found: FoundReach, names: FrozenSet[str], near: Attributes, module: Attributes,
             owners: Iterable[Tuple[Thing, Attributes]]) -> None:
         """Adds what is known of what names stand for: in near variables, as globals, and in what some owners have."""
         self.lasting[id(module)] = module
@@ -256,24 +256,24 @@ class Meant:
             else:
                 found.spread(named_by(names, place))
 
-    def once(self, names: FrozenSet[str], owner: Thing, place: Attributes) -> Found:
+    def once(self, names: FrozenSet[str], owner: Thing, place: Attributes) -> FoundReach:
         key = names, id(owner)
         if key not in self.named:
-            made = Found()
+            made = FoundReach()
             made.spread(named_by(names, place))
             self.named[key] = self.keep(made)
         return self.named[key]
 
-    def inside(self, value: Thing) -> Found:
+    def inside(self, value: Thing) -> FoundReach:
         """What is known of a value that holds others, and of these."""
         if id(value) in self.insides:
             return self.insides[id(value)][1]
-        made = Found(spread([value]))
+        made = FoundReach(spread([value]))
         if PACE.is_shared(value):
             self.insides[id(value)] = value, self.keep(made)
         return made
 
-    def keep(self, made: Found) -> Found:
+    def keep(self, made: FoundReach) -> FoundReach:
         self.lasting.update({at: row[0] for rows in made.owners.values() for at, row in rows.items()})
         return made
 

@@ -30,7 +30,7 @@ class Found(NamedTuple):
     words: str
 
 
-class Part(NamedTuple):
+class FaultyPart(NamedTuple):
     """A value in an object or an array, and where it begins. `key_at` is where its key begins, or else itself."""
 
     key: Any
@@ -57,7 +57,7 @@ class Text:
         """Returns the first place from `place` on that is no white space."""
         return SPACE.match(self.text, place).end()  # type: ignore[union-attr]
 
-    def parts(self, place: int) -> Iterator[Part]:
+    def parts(self, place: int) -> Iterator[FaultyPart]:
         """Yields what an object or an array has that begins at `place`."""
         is_object, number = self.text[place] == "{", 0
         place = self.skip(place + 1)
@@ -67,23 +67,23 @@ class Text:
                 key, place = DECODER.raw_decode(self.text, place)
                 place = self.skip(self.skip(place) + 1)
             value, end = DECODER.raw_decode(self.text, place)
-            yield Part(key, key_at, value, place)
+            yield FaultyPart(key, key_at, value, place)
             place, number = self.skip(end), number + 1
             if self.text[place] == ",":
                 place = self.skip(place + 1)
 
-    def keys(self, place: int) -> Dict[str, Part]:
+    def keys(self, place: int) -> Dict[str, FaultyPart]:
         """Returns what an object has, by key. Of a repeated one the last counts."""
         return {part.key: part for part in self.parts(place)}
 
-    def top(self, key: str) -> Part:
+    def top(self, key: str) -> FaultyPart:
         return self.keys(self.start)[key]
 
-    def entry(self, place: int, number: int) -> Part:
+    def entry(self, place: int, number: int) -> FaultyPart:
         """Returns an entry of an array, counted from 0."""
         return next(islice(self.parts(place), number, None))
 
-    def row(self, number: int) -> Part:
+    def row(self, number: int) -> FaultyPart:
         return self.entry(self.top("processes").at, number)
 
     def names(self) -> List[str]:
@@ -167,7 +167,7 @@ def bad_process(text: Text, number: int) -> Iterator[Found]:
         yield fault._replace(words=process_words(row.value) + fault.words)
 
 
-def bad_values(text: Text, keys: Dict[str, Part]) -> Iterator[Found]:
+def bad_values(text: Text, keys: Dict[str, FaultyPart]) -> Iterator[Found]:
     """Yields the values of a process that are none."""
     for key in ("name", "site"):
         why = key in keys and name_fault(keys[key].value)
@@ -200,7 +200,7 @@ def missing_name(name: str, text: Text) -> str:
     return f"no process is called {quote(name)}{near_name(name, text.names())}"
 
 
-def find_repeated(text: Text, parts: Iterator[Part], number: int, words: str) -> Iterator[Found]:
+def find_repeated(text: Text, parts: Iterator[FaultyPart], number: int, words: str) -> Iterator[Found]:
     """Yields the second of two parts that are the same."""
     those = list(islice(parts, number + 1))
     first = next(part for part in those if part.value == those[number].value)

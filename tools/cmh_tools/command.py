@@ -22,7 +22,7 @@ SUFFIX = ".json"  # of a dump
 MANY = 4096  # processes of a dump whose memory is worth a search for what is used no more
 
 
-class Parser(argparse.ArgumentParser):
+class CommandParser(argparse.ArgumentParser):
     """A parser of the words of a command. What it writes goes the way of all that a command writes."""
 
     def __init__(self, prog: Optional[str] = None, **more: Any) -> None:

@@ -6,7 +6,7 @@ from collections import Counter
 from itertools import chain
 from typing import Any, Dict, Iterator, List, Sequence, Tuple
 
-from .command import Parser, likely_path, notes_path, run
+from .command import CommandParser, likely_path, notes_path, run
 from .dump import Dump
 from .facts import FREES, HOLDS, Facts, kind_of_line, read_facts
 from .files import (MOST_OF_LINE, Failure, Refusal, decode, hindrance, read_bytes, read_text, say, short_name, shown,
@@ -40,9 +40,9 @@ JOIN = "notes of several systems of one machine, read at one time: what one know
 CHECK = "a dump: whether cmh accepts it, or where its fault is"
 
 
-def parser(words: Sequence[str]) -> Parser:
+def parser(words: Sequence[str]) -> CommandParser:
     """Returns the parser of a command line. What reads a live system is loaded only if its name stands there."""
-    made = Parser("cmh-dump", usage=USAGE, description=ABOUT, epilog=MORE)
+    made = CommandParser("cmh-dump", usage=USAGE, description=ABOUT, epilog=MORE)
     made.add_version()
     systems = made.add_subparsers(title="SYSTEM is one of", metavar="SYSTEM", dest="system", required=True,
                                   prog=made.prog)
@@ -117,7 +117,7 @@ def some_names(names: List[str]) -> str:
     return (", ".join(map(short_name, names[:FEW])) or "nobody") + more
 
 
-def check_outputs(parser: Parser, asked: Any) -> None:
+def check_outputs(parser: CommandParser, asked: Any) -> None:
     """Ends the command where it would write to what is no file for that."""
     taken = [*asked.states, *([asked.facts] if asked.facts else [])]
     taken += map(notes_path, asked.states if asked.system in ("both", "join") else [])
@@ -150,7 +150,7 @@ def collect_state(asked: Any) -> str:
         raise Failure(f"the processes can't be read: {error}") from error
 
 
-def check_live(parser: Parser, asked: Any) -> None:
+def check_live(parser: CommandParser, asked: Any) -> None:
     """Ends the command where a state and processes are both named, or neither."""
     is_live = bool(getattr(asked, "pid", None))
     if is_live == bool(asked.states):

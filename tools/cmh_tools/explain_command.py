@@ -5,7 +5,7 @@ from __future__ import annotations
 from typing import Any, Optional, Sequence, Tuple
 
 from .answer import Tree, answer
-from .command import Parser, notes_path, run
+from .command import CommandParser, notes_path, run
 from .dump import Dump
 from .explain import Explanation
 from .files import Failure, hindrance, say, shown, write_out
@@ -22,8 +22,8 @@ MORE = """status: 0 no process is stuck, 3 some process is stuck, 5 LIKELY DEADL
 1 the file is refused, 2 the command line is, 4 out of memory, an I/O error, or the program doesn't confirm it"""
 
 
-def parser() -> Parser:
-    made = Parser("cmh-explain", usage="cmh-explain [options] FILE [FILE ..]", description=ABOUT, epilog=MORE)
+def parser() -> CommandParser:
+    made = CommandParser("cmh-explain", usage="cmh-explain [options] FILE [FILE ..]", description=ABOUT, epilog=MORE)
     made.add_argument("words", metavar="FILE", nargs="+", help="a dump, whose notes are read from DUMP.notes.json, "
                       "a sketch, or all states of a system; with --html two dumps of one system, the older one first")
     add_answer_options(made)
@@ -31,7 +31,7 @@ def parser() -> Parser:
     return made
 
 
-def add_answer_options(made: Parser) -> None:
+def add_answer_options(made: CommandParser) -> None:
     """Adds the options of an answer."""
     add = made.add_argument
     add("--all", action="store_true", help="show all that is known, in place of the first screen")

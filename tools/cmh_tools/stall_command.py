@@ -16,7 +16,7 @@ from typing import Any, Callable, Dict, Iterator, List, NamedTuple, Optional, Se
 from cmh_proc.budget import BUDGET, size_in_words
 
 from .captures import captures_for, labels_of, take
-from .command import Parser, dump_of_notes, is_notes, known_doubts, notes_path, put_away, run
+from .command import CommandParser, dump_of_notes, is_notes, known_doubts, notes_path, put_away, run
 from .dump import Dump
 from .dump_command import NO_GUESSES, texts_of
 from .explain import Explanation
@@ -74,7 +74,7 @@ of --timeout as for timeout(1): 124 it took longer, 125 a fault of cmh-stall, 12
 own"""
 
 
-class Look(NamedTuple):
+class FurtherLook(NamedTuple):
     """A further look: at what, for how long, and why."""
 
     parts: List[Capture]
@@ -82,8 +82,8 @@ class Look(NamedTuple):
     why: str
 
 
-def parser() -> Parser:
-    made = Parser("cmh-stall", usage=USAGE, description=ABOUT, epilog=MORE)
+def parser() -> CommandParser:
+    made = CommandParser("cmh-stall", usage=USAGE, description=ABOUT, epilog=MORE)
     add = made.add_argument
     add("words", metavar="SYSTEM TARGET", nargs="*", help="what to take, or a folder that was made before")
     add("--with", dest="others", metavar="WORD", nargs="+", action="append", default=[],
@@ -152,7 +152,7 @@ def is_file(path: str) -> bool:
     return path == "-" or os.path.exists(path) and not os.path.isdir(path)
 
 
-def check_folder_words(parser: Parser, asked: argparse.Namespace) -> None:
+def check_folder_words(parser: CommandParser, asked: argparse.Namespace) -> None:
     """Ends the command where what is asked of a folder doesn't go together."""
     if asked.redact and (asked.true is not None or asked.all or asked.why is not None):
         parser.error("--redact copies an answer that is there: it stands alone")
@@ -169,7 +169,7 @@ def value_of(option: Option, asked: argparse.Namespace) -> Any:
     return getattr(asked, option.name.replace("-", "_"))
 
 
-def captures_of(parser: Parser, named: List[List[str]], asked: argparse.Namespace) -> List[Capture]:
+def captures_of(parser: CommandParser, named: List[List[str]], asked: argparse.Namespace) -> List[Capture]:
     """Returns what is asked to be taken, or ends the command where words are wrong."""
     wishes = [option.name for _, option in OPTIONS if value_of(option, asked)]
     for name, *_ in named:
@@ -185,7 +185,7 @@ def captures_of(parser: Parser, named: List[List[str]], asked: argparse.Namespac
     return captures_for(named, wishes)
 
 
-def check_option(parser: Parser, named: List[List[str]], system: str, option: Option) -> None:
+def check_option(parser: CommandParser, named: List[List[str]], system: str, option: Option) -> None:
     """Ends the command where an option is given without its system, or beside what it doesn't go with."""
     is_of_it = any(words[0] == system for words in named)
     if not is_of_it or option.is_alone and (named[1:] or len(named[0]) != 2):
@@ -193,7 +193,7 @@ def check_option(parser: Parser, named: List[List[str]], system: str, option: Op
         parser.error(f"--{option.name} is of {system}{alone}: {system} {option.usage}")
 
 
-def look_at_service(parser: Parser, asked: argparse.Namespace) -> int:
+def look_at_service(parser: CommandParser, asked: argparse.Namespace) -> int:
     """Looks at a service as Linux sees it, which stops nothing."""
     if asked.words or asked.others or asked.keep < 1:
         parser.error("--service UNIT stands alone: what is taken is its main process, and --keep is 1 or more")
@@ -254,7 +254,7 @@ def give_budget(parts: List[Capture], seconds: float, asked: argparse.Namespace)
     return f"{most:g} s and {size_in_words(size)}"
 
 
-def next_look(explanation: Explanation, parts: List[Capture], seconds: float, most: float) -> Optional[Look]:
+def next_look(explanation: Explanation, parts: List[Capture], seconds: float, most: float) -> Optional[FurtherLook]:
     """Returns how to look anew, if that may decide what is open, for so many seconds at most: at the other ends of
     connections, or for longer."""
     if not all(part.is_light() for part in parts):
@@ -263,9 +263,9 @@ def next_look(explanation: Explanation, parts: List[Capture], seconds: float, mo
         if not parts[1:] and explanation.headline in OPEN else []
     if pids:
         more = Capture(KERNEL, pids, label=KERNEL)
-        return Look([*parts, more], seconds, "some wait at connections: looking at these too")
+        return FurtherLook([*parts, more], seconds, "some wait at connections: looking at these too")
     if explanation.is_hidden_by_sleepers() and seconds < LONGER < most:
-        return Look(parts, LONGER, f"who sleeps may only come back to its loop: looking for {LONGER:g} s")
+        return FurtherLook(parts, LONGER, f"who sleeps may only come back to its loop: looking for {LONGER:g} s")
     return None
 
 
@@ -292,7 +292,7 @@ def keep_states(folder: Folder, parts: List[Capture], seconds: float, asked: arg
     return [part for part, _ in taken]
 
 
-def has_more(folder: Folder, look: Look, asked: argparse.Namespace) -> bool:
+def has_more(folder: Folder, look: FurtherLook, asked: argparse.Namespace) -> bool:
     """Takes the states anew. Returns whether they are there: Ctrl-C ends the look alone, and what has ended meanwhile
     leaves what was seen of it."""
     try:

@@ -40,7 +40,7 @@ STEP = 0.05  # seconds from one look at who has ended to the next
 USAGE = "cmh-stall --timeout TIME [--grace TIME] [--seconds S] [-o FOLDER] -- COMMAND [WORD..]"
 
 
-class Words(argparse.ArgumentParser):
+class TimeoutWords(argparse.ArgumentParser):
     """The parser of what stands before the command."""
 
     def error(self, message: str) -> NoReturn:
@@ -85,7 +85,7 @@ def add_options(parser: argparse.ArgumentParser) -> None:
 
 
 def parse(words: Sequence[str]) -> argparse.Namespace:
-    parser = Words("cmh-stall", add_help=False, allow_abbrev=False)
+    parser = TimeoutWords("cmh-stall", add_help=False, allow_abbrev=False)
     add_options(parser)
     parser.add_argument("--seconds", type=seconds_of, default=5.0)
     parser.add_argument("-o", "--output", metavar="FOLDER")

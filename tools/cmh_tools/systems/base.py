@@ -69,7 +69,7 @@ class Snapshot:
         return [min(begin for begin, _ in times), max(end for _, end in times)] if whole else []
 
 
-class Reach:
+class Reachable:
     """Who can reach what: by each object, those who may end a wait at it, in which way and why. A parser adds a row for
     each reference, descriptor, frame or subscription that it sees, and those who wait at one object share its lists."""
 

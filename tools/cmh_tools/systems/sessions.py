@@ -175,7 +175,7 @@ def doubt_newcomers(looks: Sequence[AnyLook], kind: str, may_be_new: Callable[[R
             row["odd"] = row.get("odd", kind)
 
 
-class Limits:
+class SessionLimits:
     """What breaks waits off by itself, by the names that it has among the processes: with when it comes, as of the last
     look. A wait has the same ones in all looks."""
 

@@ -10,20 +10,20 @@ from ...sketch import SYSTEM, Process, blocked, goes_on, premise
 from .keepers import who_may_answer
 from .nodes import More, Nodes, limited, not_shown
 from .readings import NodeReading
-from .text import Block, Call, Key, of_elixir
+from .text import ErlangBlock, ErlangCall, Key, of_elixir
 
 NO_MAIL = "its mailbox is too long to be read, and may have what it waits for"
 ANSWERS, LETS_GO = "answers", "lets-go"
 REGISTRY = "'Elixir.Registry.Partition'"
 
 
-def holders(block: Block, snapshot: Nodes, tails: Set[str]) -> List[Block]:
+def holders(block: ErlangBlock, snapshot: Nodes, tails: Set[str]) -> List[ErlangBlock]:
     """Returns the others that have one of the references of a call."""
     having = {id(other): other for tail in sorted(tails) for other in snapshot.has_tail[tail] if other is not block}
     return list(having.values())
 
 
-def may_keep(server: Block, having: List[Block]) -> bool:
+def may_keep(server: ErlangBlock, having: List[ErlangBlock]) -> bool:
     """Whether a server is in its loop, and may have a caller in its state: an older text doesn't show that."""
     return server.hibernates or server.is_loop() and (server in having or server.extra("references") is None)
 
@@ -45,7 +45,7 @@ def place_elsewhere(reading: NodeReading) -> str:
     return f"{registries[0]} keeps terms" if registries else ""
 
 
-def keeps_elsewhere(server: Block, snapshot: Nodes, is_held: bool) -> str:
+def keeps_elsewhere(server: ErlangBlock, snapshot: Nodes, is_held: bool) -> str:
     """Returns where a server that no longer has a request may have put it, or nothing. If nobody else has it, any
     module may have put it where no process has it."""
     if server.extra("code") is None or server.extra("references") is None:
@@ -55,14 +55,14 @@ def keeps_elsewhere(server: Block, snapshot: Nodes, is_held: bool) -> str:
     return "" if is_held or not snapshot.elsewhere else f"no longer has its request, and {snapshot.elsewhere}"
 
 
-def who_may_end(servers: List[Block], snapshot: Nodes, *own: Block) -> Part:
+def who_may_end(servers: List[ErlangBlock], snapshot: Nodes, *own: ErlangBlock) -> Part:
     """Returns those who may end one of some servers, as wakers, and some more."""
     enders = [snapshot.enders[server.node, server.pid] for server in servers]
     shared = [group for one in enders for group in one.shared]
     return snapshot.any_of_lists("kills", [*own, *(other for one in enders for other in one.own)], *shared)
 
 
-def callees(block: Block, snapshot: Nodes) -> Tuple[List[Optional[Block]], List[str]]:
+def callees(block: ErlangBlock, snapshot: Nodes) -> Tuple[List[Optional[ErlangBlock]], List[str]]:
     """The processes that it has called, None for one that isn't in the state, and their names. A call monitors whom it
     calls, and has the name on its stack; whom it monitors besides, it doesn't wait for."""
     term, watched = block.call.whom if block.call else "", snapshot.watched(block)
@@ -73,7 +73,7 @@ def callees(block: Block, snapshot: Nodes) -> Tuple[List[Optional[Block]], List[
     return watched, [snapshot.name(other) if other else str(key) for other, key in zip(watched, block.monitored)]
 
 
-def wait_of_call(block: Block, call: Call, snapshot: Nodes, more: More) -> Process:
+def wait_of_call(block: ErlangBlock, call: ErlangCall, snapshot: Nodes, more: More) -> Process:
     """Returns a process that has called others and waits for an answer."""
     called, more["objects"] = callees(block, snapshot)
     more["operation"] = call.function
@@ -88,7 +88,7 @@ def wait_of_call(block: Block, call: Call, snapshot: Nodes, more: More) -> Proce
     return wait_for_answer(block, snapshot, called, more)
 
 
-def wait_for_answer(block: Block, snapshot: Nodes, called: List[Optional[Block]], more: More) -> Process:
+def wait_for_answer(block: ErlangBlock, snapshot: Nodes, called: List[Optional[ErlangBlock]], more: More) -> Process:
     """Returns a process whose call has no limit. A 'DOWN' or an answer may be in its mailbox."""
     name = snapshot.name(block)
     if block.is_answered(block.references, "{{'DOWN',{0},"):
@@ -108,7 +108,7 @@ def wait_for_answer(block: Block, snapshot: Nodes, called: List[Optional[Block]]
     return wait_for_holders(block, snapshot, there, more)
 
 
-def wait_for_holders(block: Block, snapshot: Nodes, called: List[Block], more: More) -> Process:
+def wait_for_holders(block: ErlangBlock, snapshot: Nodes, called: List[ErlangBlock], more: More) -> Process:
     """Returns a process that waits for whoever has the reference of its call. Whom it has called and who hasn't it any
     more gives no answer, but ends the call if it fails."""
     name, tails = snapshot.name(block), set(block.awaited)
@@ -135,11 +135,12 @@ def wait_for_holders(block: Block, snapshot: Nodes, called: List[Block], more: M
     return blocked(name, any_of(*part), because, **more)
 
 
-def others_of(blocks: List[Block], taken: List[Block]) -> List[Block]:
+def others_of(blocks: List[ErlangBlock], taken: List[ErlangBlock]) -> List[ErlangBlock]:
     return [block for block in blocks if block not in taken]
 
 
-def wait_for_keepers(block: Block, snapshot: Nodes, keepers: List[Block], having: List[Block], more: More) -> Process:
+def wait_for_keepers(block: ErlangBlock, snapshot: Nodes, keepers: List[ErlangBlock], having: List[ErlangBlock],
+                     more: More) -> Process:
     """Returns a process whose call a server keeps that is at rest, to answer it once something else has come: a pool, a
     server of locks, a long poll. It wakes by a timer of its own, by whom it knows, or by somebody from outside."""
     able = [other for server in keepers for other in who_may_answer(block, server, snapshot)]

@@ -8,7 +8,7 @@ from typing import Dict, Iterator, List, Sequence, Set, Tuple
 
 from ...snapshots import PARTS, Reading
 from .readings import NodeReading
-from .text import PID, Block
+from .text import PID, ErlangBlock
 
 NEWER = "it wasn't there before, and processes that are newer were"
 OWNERS = "its looks differ in who has asked for a lock"
@@ -18,7 +18,7 @@ NAMED = "it doesn't have {}, to which a process of it is linked, or which one mo
 
 def doubt_blocks(readings: List[Reading]) -> None:
     """Says of processes that they aren't understood, where two texts can't be of one."""
-    before: Dict[Tuple[str, str], Block] = {}
+    before: Dict[Tuple[str, str], ErlangBlock] = {}
     for block in (block for reading in readings for block in reading.rows):
         first = before.setdefault((block.node, block.pid), block)
         why = first.contradicts(block)
@@ -60,7 +60,7 @@ def age_of(pid: str) -> Tuple[int, ...]:
     return int(serial), int(number)
 
 
-def doubt_newcomers(blocks: List[Block]) -> None:
+def doubt_newcomers(blocks: List[ErlangBlock]) -> None:
     for block in blocks:
         block.fault = block.fault or NEWER
 

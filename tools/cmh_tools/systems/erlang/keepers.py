@@ -7,7 +7,7 @@ import re
 from typing import Any, Dict, Iterable, List, Set
 
 from .nodes import Nodes
-from .text import ANY_PID, REFERENCE, Block
+from .text import ANY_PID, REFERENCE, ErlangBlock
 
 SIGNS = re.compile(r"[{\[]|[}\]]|<[\d.]+>|#Ref<\d+\.([\d.]+)>")
 # How many groups are around what the state of a server has: of a gen_statem also that of its name and its data.
@@ -65,25 +65,25 @@ def is_pid(part: Any) -> bool:
     return isinstance(part, str) and part[0] == "<"
 
 
-def kept_callers(server: Block, snapshot: Nodes) -> Dict[str, Block]:
+def kept_callers(server: ErlangBlock, snapshot: Nodes) -> Dict[str, ErlangBlock]:
     """Returns those whose calls a server keeps, by the tails of their references."""
     return {tail: other for tail in REFERENCE.findall(server.extra("references") or "")
             for other in snapshot.has_tail[tail] if tail in other.awaited and other.call}
 
 
-def who_may_answer(block: Block, server: Block, snapshot: Nodes) -> List[Block]:
+def who_may_answer(block: ErlangBlock, server: ErlangBlock, snapshot: Nodes) -> List[ErlangBlock]:
     """Returns those by whom a server may come to answer a caller that it keeps: whose pids lie beside the reference of
     the call in its state, or else all whom it knows there, monitors or is linked to, or else all who know it. One that
     waits alone doesn't answer itself."""
     return owners_of(block, server, snapshot) or unless_alone(block, who_know(block, server, snapshot))
 
 
-def unless_alone(block: Block, part: List[Block]) -> List[Block]:
+def unless_alone(block: ErlangBlock, part: List[ErlangBlock]) -> List[ErlangBlock]:
     """Returns a list, which many may share, or nobody if one is alone in it."""
     return [] if part == [block] else part
 
 
-def who_know(block: Block, server: Block, snapshot: Nodes) -> List[Block]:
+def who_know(block: ErlangBlock, server: ErlangBlock, snapshot: Nodes) -> List[ErlangBlock]:
     """Returns those who aren't at rest and have the address of a server: by its name, which anybody may have, by a link
     or a monitor, or by a call that it keeps."""
     if server.role not in ("[]", "") or block.call and block.call.whom.startswith("{"):
@@ -97,7 +97,7 @@ def who_know(block: Block, server: Block, snapshot: Nodes) -> List[Block]:
     return snapshot.known[id(server)]
 
 
-def owners_of(block: Block, server: Block, snapshot: Nodes) -> List[Block]:
+def owners_of(block: ErlangBlock, server: ErlangBlock, snapshot: Nodes) -> List[ErlangBlock]:
     """Returns those who are likely to have what a server gives away, by how its state and its monitors show them."""
     callers = kept_callers(server, snapshot)
     around = groups_around(server.extra("kept") or "", set(block.awaited))
@@ -112,7 +112,7 @@ def owners_of(block: Block, server: Block, snapshot: Nodes) -> List[Block]:
     return [other for other in dict.fromkeys([*awake(pids, server, snapshot), *watched]) if other not in limited]
 
 
-def besides_parents(server: Block, snapshot: Nodes) -> List[str]:
+def besides_parents(server: ErlangBlock, snapshot: Nodes) -> List[str]:
     """Returns the pids to which a server is linked, without those that began it, if it is linked to others."""
     linked = {pid: snapshot.find((server.node, pid)) for pid in ANY_PID.findall(server.items.get("links", ""))}
     above = server.ancestors()
@@ -120,11 +120,11 @@ def besides_parents(server: Block, snapshot: Nodes) -> List[str]:
     return others if others or server.monitored else [*linked]
 
 
-def awake(pids: Iterable[str], server: Block, snapshot: Nodes) -> List[Block]:
+def awake(pids: Iterable[str], server: ErlangBlock, snapshot: Nodes) -> List[ErlangBlock]:
     """Returns those with some pids who aren't servers without a request."""
     known = [snapshot.find((server.node, pid)) for pid in sorted(pids)]
     return [other for other in known if other is not None and other is not server and is_awake(other)]
 
 
-def is_awake(block: Block) -> bool:
+def is_awake(block: ErlangBlock) -> bool:
     return not block.hibernates and not (block.is_loop() and block.messages == "[]")

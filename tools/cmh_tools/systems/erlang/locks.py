@@ -12,7 +12,7 @@ from ...model import all_of, any_of
 from ...sketch import SYSTEM, Process, blocked, premise, quote
 from .nodes import More, Nodes, limited, not_shown
 from .readings import NodeReading
-from .text import Block, of_elixir
+from .text import ErlangBlock, of_elixir
 
 LOCKS = "global-locks"
 OPERATION = "global:set_lock"
@@ -43,7 +43,7 @@ def locks_of(readings: List[NodeReading]) -> Dict[Tuple[str, str], Tuple[str, st
     return locks
 
 
-def wait_of_lock(block: Block, snapshot: Nodes, more: More) -> Process:
+def wait_of_lock(block: ErlangBlock, snapshot: Nodes, more: More) -> Process:
     """Returns a process that wants a lock. The table of its own node was read before it the first time, and after it
     the second time: so a lock that another one has in both, by one reference, was never free between."""
     name, lock = snapshot.name(block), [term for term in block.lock if term.startswith("{")]
@@ -68,15 +68,15 @@ def wait_of_lock(block: Block, snapshot: Nodes, more: More) -> Process:
     return blocked(name, parts, [SYSTEM, premise(LOCKS)], **more)
 
 
-def holders_of(block: Block, snapshot: Nodes, nodes: str, what: str,
-               for_whom: str) -> Tuple[str, List[Tuple[Block, str]]]:
+def holders_of(block: ErlangBlock, snapshot: Nodes, nodes: str, what: str,
+               for_whom: str) -> Tuple[str, List[Tuple[ErlangBlock, str]]]:
     """Returns why it isn't known who has a lock, or nothing, and who has it, each with the reference of that."""
     if block.node not in re.findall(r"[^\[\],']+", nodes):
         return "the lock that it wants is one of other nodes alone", []
     its, having = snapshot.locks.get((block.node, what), ("", ""))
     if not having or its == for_whom:
         return "nobody else has the lock that it wants, so it may be about to take it", []
-    owners: List[Tuple[Optional[Block], str]] = [(snapshot.find((block.node, pid)), reference)
+    owners: List[Tuple[Optional[ErlangBlock], str]] = [(snapshot.find((block.node, pid)), reference)
                                                 for pid, reference in HOLDER.findall(having)]
     there = [(other, reference) for other, reference in owners if other is not None]
     if len(there) < len(owners):

@@ -10,7 +10,7 @@ from ...model import all_of, any_of, wakers
 from ...sketch import SYSTEM, Process, blocked, premise
 from .nodes import More, Nodes, not_shown
 from .readings import NodeReading
-from .text import Block, of_elixir
+from .text import ErlangBlock, of_elixir
 
 ENDS, RETRIES = "transactions", re.compile(r"mnesia_tm:restart/\d+")
 QUEUES = re.compile(r"mnesia_locker:(l_req_rec|receive_wlocks|send_requests|rlock_get_reply)/\d+")
@@ -19,7 +19,7 @@ CUT = "..."  # in an older text of a long key, which may be that of another one
 READS, WRITES = {"read"}, {"write", "read_write"}
 
 
-class Row(NamedTuple):
+class MnesiaRow(NamedTuple):
     """Who has a lock or wants it: the node that gives it out, the table and the key in it, its kind, the process, if
     that is in the state, and the pid of the one whose transaction it is."""
 
@@ -27,10 +27,10 @@ class Row(NamedTuple):
     table: str
     key: str
     kind: str
-    who: Optional[Block]
+    who: Optional[ErlangBlock]
     owner: str
 
-    def excludes(self, wanted: Row) -> bool:
+    def excludes(self, wanted: MnesiaRow) -> bool:
         """Whether who has this lock keeps another one from what that wants."""
         is_same = self.key == wanted.key or WHOLE in (self.key, wanted.key)
         kinds = {self.kind, wanted.kind}
@@ -38,19 +38,19 @@ class Row(NamedTuple):
             and kinds != READS and self.owner != wanted.owner
 
 
-def rows_of(readings: Iterable[NodeReading], snapshot: Nodes, word: str) -> List[Row]:
+def rows_of(readings: Iterable[NodeReading], snapshot: Nodes, word: str) -> List[MnesiaRow]:
     """Returns who has which lock, or who wants it."""
     rows = []
     for reading in readings:
         for row in reading.mnesia:
             table, _, key = row["what"].partition(",")
             who = snapshot.find((reading.source, row["pid"]))
-            made = Row(reading.source, table, key, row["kind"], who, row["owner"] or row["pid"])
+            made = MnesiaRow(reading.source, table, key, row["kind"], who, row["owner"] or row["pid"])
             rows += [made] if row["word"] == word else []
     return rows
 
 
-def wait_of_transaction(block: Block, snapshot: Nodes, more: More) -> Optional[Process]:
+def wait_of_transaction(block: ErlangBlock, snapshot: Nodes, more: More) -> Optional[Process]:
     """Returns a process that wants a lock of Mnesia, or None for one that is elsewhere."""
     if block.extra("status") != "waiting":
         return None
@@ -61,7 +61,7 @@ def wait_of_transaction(block: Block, snapshot: Nodes, more: More) -> Optional[P
     return wait_in_queue(block, snapshot, more)
 
 
-def wait_for_others(block: Block, snapshot: Nodes, more: More) -> Process:
+def wait_for_others(block: ErlangBlock, snapshot: Nodes, more: More) -> Process:
     """Returns one that tries again. As its lock isn't known, those are able who have one."""
     more.update(operation=OPERATION, note=f"{OPERATION} in {block.frames()[0]}")
     numbers = [other for other in block.retrying if other.startswith("{tid,")]
@@ -71,7 +71,7 @@ def wait_for_others(block: Block, snapshot: Nodes, more: More) -> Process:
     return not_shown(block, snapshot, why, more, *snapshot.some("reaches", list(filter(None, others))))
 
 
-def wait_in_queue(block: Block, snapshot: Nodes, more: More) -> Optional[Process]:
+def wait_in_queue(block: ErlangBlock, snapshot: Nodes, more: More) -> Optional[Process]:
     """Returns one that stands in the queue for a lock. The locker was asked before all processes of its node were read
     the first time, and after them the second time: so who has the lock in both has had it while this one waited."""
     name, wanted = snapshot.name(block), [row for row in snapshot.wanted if row.who is block]

@@ -8,7 +8,7 @@ from collections import defaultdict
 from typing import DefaultDict, Dict, List, Set
 
 from ...snapshots import Reading
-from .text import Block, Key
+from .text import ErlangBlock, Key
 
 # A call by a name of `global`, or by one of a module that keeps names, in a registry of it. (Another module of Elixir's
 # has many names for one process.)
@@ -49,7 +49,7 @@ def words_of_callers(readings: List[Reading]) -> DefaultDict[Key, Set[str]]:
     return words
 
 
-def word_of(block: Block) -> List[str]:
+def word_of(block: ErlangBlock) -> List[str]:
     """Returns the name of whom a process calls, if it has one that is a word."""
     named = NAMED.fullmatch(block.call.whom) if block.call else None
     word = WORD.fullmatch(named["name"] or named["key"]) if named else None

@@ -9,7 +9,7 @@ from ...files import escaped
 from ...model import Part, Sign, Wakers, any_of, unseen, wakers
 from ...sketch import LIMIT, REST, Process, blocked, goes_on, premise
 from ..base import Snapshot
-from .text import Block, Key, Receives
+from .text import ErlangBlock, Key, Receives
 
 MOST = 1000000  # names of lists that a few beside them keep from being shared
 MANY = "many processes"
@@ -20,20 +20,21 @@ More = Dict[str, Any]  # what is the same of a process, whatever it waits for: i
 class Enders(NamedTuple):
     """Who may end a process: those that may end few others, and lists that many processes share."""
 
-    own: List[Block]
-    shared: List[List[Block]]
+    own: List[ErlangBlock]
+    shared: List[List[ErlangBlock]]
 
 
 class Lists:
     """The names of a few processes and of those in lists that many share. Who asks for the same ones gets one list. As
     soon as those are too long together that a few keep from being shared, somebody unknown stands for the many."""
 
-    def __init__(self, name: Callable[[Block], str]) -> None:
+    def __init__(self, name: Callable[[ErlangBlock], str]) -> None:
         self.name, self.room = name, MOST
         self.made: Dict[Tuple[Any, ...], List[str]] = {}
-        self.sets: Dict[int, Tuple[List[Block], Set[Block]]] = {}  # (with the list, so that its id stays its own)
+        # (With the list, so that its id stays its own.)
+        self.sets: Dict[int, Tuple[List[ErlangBlock], Set[ErlangBlock]]] = {}
 
-    def names(self, few: Iterable[Block], shared: Iterable[List[Block]]) -> List[str]:
+    def names(self, few: Iterable[ErlangBlock], shared: Iterable[List[ErlangBlock]]) -> List[str]:
         known = {id(blocks): blocks for blocks in shared}
         sets = [self.set_of(blocks) for blocks in known.values()]
         own = [block for block in dict.fromkeys(few) if not any(block in blocks for blocks in sets)]
@@ -45,7 +46,7 @@ class Lists:
             self.room -= len(names) if own else 0
         return self.made[key]
 
-    def set_of(self, blocks: List[Block]) -> Set[Block]:
+    def set_of(self, blocks: List[ErlangBlock]) -> Set[ErlangBlock]:
         if id(blocks) not in self.sets:
             self.sets[id(blocks)] = blocks, set(blocks)
         return self.sets[id(blocks)][1]
@@ -63,15 +64,15 @@ class Nodes(Snapshot):
     with what that is, and of these whoever an older state may only lack; and the names of lists of processes that many
     share."""
 
-    by_key: Dict[Key, Block]
-    has_tail: Dict[str, List[Block]]
-    name: Callable[[Block], str]
+    by_key: Dict[Key, ErlangBlock]
+    has_tail: Dict[str, List[ErlangBlock]]
+    name: Callable[[ErlangBlock], str]
     answers: List[Tuple[str, str]]
     enders: Dict[Key, Enders]
     ending_any: Part
     spared: Any
-    children: Set[Block]
-    closures: List[Block]
+    children: Set[ErlangBlock]
+    closures: List[ErlangBlock]
     receives: Dict[Tuple[str, ...], Receives]
     asks: Dict[Tuple[str, ...], List[str]]
     elsewhere: str
@@ -79,15 +80,15 @@ class Nodes(Snapshot):
     locks: Dict[Tuple[str, str], Tuple[str, str]]
     held: List[Any]
     wanted: List[Any]
-    awake: List[Block]
-    known: Dict[int, List[Block]]
-    above: Dict[Block, Block]
+    awake: List[ErlangBlock]
+    known: Dict[int, List[ErlangBlock]]
+    above: Dict[ErlangBlock, ErlangBlock]
     ports: Dict[str, Set[str]]
     stand_ins: Dict[str, str]
     unlooked: Set[str]
     lists: Lists
 
-    def find(self, key: Key) -> Optional[Block]:
+    def find(self, key: Key) -> Optional[ErlangBlock]:
         """Returns a process by what another one knows it by: a pid of another node begins with the number of that."""
         if self.nodes and isinstance(key, tuple):
             number, _, rest = key[1].partition(".")
@@ -95,11 +96,11 @@ class Nodes(Snapshot):
             key = (node, f"<0.{rest}") if node else key
         return self.by_key.get(key)
 
-    def watched(self, block: Block) -> List[Optional[Block]]:
+    def watched(self, block: ErlangBlock) -> List[Optional[ErlangBlock]]:
         """Returns those that a process monitors, None for one that isn't in the state."""
         return list(map(self.find, block.monitored))
 
-    def names(self, blocks: Iterable[Block]) -> List[str]:
+    def names(self, blocks: Iterable[ErlangBlock]) -> List[str]:
         """Returns the names of some, each once."""
         return list(dict.fromkeys(map(self.name, blocks)))
 
@@ -109,11 +110,11 @@ class Nodes(Snapshot):
                  if reading.missing and reading.source in (nodes or [reading.source])]
         return (wakers("left-out", list(dict.fromkeys(names))),) if names else ()
 
-    def some(self, how: str, blocks: Sequence[Block], *because: str) -> Part:
+    def some(self, how: str, blocks: Sequence[ErlangBlock], *because: str) -> Part:
         """Those of some processes, if there are any, as wakers."""
         return (wakers(how, self.names(blocks), *because),) if blocks else ()
 
-    def any_of_lists(self, how: str, own: List[Block], *shared: List[Block]) -> Part:
+    def any_of_lists(self, how: str, own: List[ErlangBlock], *shared: List[ErlangBlock]) -> Part:
         """The same of a few and of lists that many have."""
         names = self.lists.names(own, shared) if own or any(shared) else []
         if names[-1:] == [MANY]:
@@ -121,12 +122,12 @@ class Nodes(Snapshot):
         return (wakers(how, names),) if names else ()
 
 
-def limited(block: Block, snapshot: Nodes, why: str, more: More) -> Process:
+def limited(block: ErlangBlock, snapshot: Nodes, why: str, more: More) -> Process:
     """One that waits with a limit, of which its operation tells."""
     sign = Sign.TICKS if block.sleeps_in_own_loop() else Sign.SLEEPS
     return goes_on(snapshot.name(block), why, [premise(LIMIT)], sign, **more)
 
 
-def not_shown(block: Block, snapshot: Nodes, why: str, more: More, *known: Wakers) -> Process:
+def not_shown(block: ErlangBlock, snapshot: Nodes, why: str, more: More, *known: Wakers) -> Process:
     """One that waits for whom the state doesn't show, or not all of them."""
     return blocked(snapshot.name(block), any_of(*known, unseen("unshown", why)), [], **{**more, "reason": why})

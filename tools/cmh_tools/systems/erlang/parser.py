@@ -30,7 +30,7 @@ from .remote import wait_for_remote
 from .tasks import wait_of_task
 from .readings import NodeReading, readings_of
 from .sockets import connections_of, port_of
-from .text import Block
+from .text import ErlangBlock
 
 CHILD = re.compile(r"{child,(<[\d.]+>),.*?,(infinity|\d+|brutal_kill),(?:worker|supervisor),")
 IDLE = "waits for requests"
@@ -59,7 +59,7 @@ class ErlangParser(Parser):
     SNAPSHOT_CLASS = Nodes
 
     def __init__(self) -> None:
-        self.known: Dict[bytes, Block] = {}
+        self.known: Dict[bytes, ErlangBlock] = {}
 
     def read(self, state: State) -> Sequence[Reading]:
         return readings_of(state.path, state.text, self.known)
@@ -98,7 +98,7 @@ class ErlangParser(Parser):
         look_at_nodes(snapshot)
         add_enders(snapshot)
 
-    def process_of(self, subject: Block, snapshot: Nodes) -> Process:
+    def process_of(self, subject: ErlangBlock, snapshot: Nodes) -> Process:
         """Returns the process of a block. Who may end it ends any wait of it."""
         made = wait_of_block(subject, snapshot)
         if made.parts:
@@ -179,7 +179,7 @@ def ending_any(reading: NodeReading, snapshot: Nodes) -> Part:
             *([wakers("kills", handlers)] if handlers else []))
 
 
-def ending(block: Block, snapshot: Nodes) -> Part:
+def ending(block: ErlangBlock, snapshot: Nodes) -> Part:
     """Returns who may end a process, whatever it waits for."""
     enders = snapshot.enders[block.node, block.pid]
     own = [other for other in enders.own if other is not block]
@@ -188,7 +188,7 @@ def ending(block: Block, snapshot: Nodes) -> Part:
     return (*kills, *(snapshot.left_out(*cut) if cut else ()), *snapshot.ending_any)
 
 
-def remedy_of(block: Block) -> str:
+def remedy_of(block: ErlangBlock) -> str:
     """Returns the call that ends a process which has a name, and which its supervisor begins again."""
     if block.role in ("[]", "") or block.is_supervisor():
         return ""
@@ -197,14 +197,14 @@ def remedy_of(block: Block) -> str:
     return f"{call} on {block.node}"
 
 
-def may_have_any(block: Block) -> bool:
+def may_have_any(block: ErlangBlock) -> bool:
     """Whether a process may have a reference that its text doesn't show: in a fun, or in the state with which it
     hibernates, if its code answers callers; or where its text isn't understood."""
     return bool(block.fault) or block.extra("closures") == "true" or block.hibernates and (
         "replies" in block.code() or block.extra("code") is None)
 
 
-def is_script_asleep(block: Block) -> bool:
+def is_script_asleep(block: ErlangBlock) -> bool:
     """Whether a script of Elixir's sleeps, by which the node lives on, in no function of the program's."""
     top, *below = [place.split(" (")[0] for place in block.stack] or [""]
     is_script = any(place.startswith("Kernel.CLI.") for place in below) and all(map(OF_SCRIPTS.fullmatch, below))
@@ -213,7 +213,7 @@ def is_script_asleep(block: Block) -> bool:
     return is_script and is_asleep and block.messages == "[]" and not has_port
 
 
-def wait_of_block(block: Block, snapshot: Nodes) -> Process:
+def wait_of_block(block: ErlangBlock, snapshot: Nodes) -> Process:
     name = snapshot.name(block)
     more: More = {"site": block.node.split("@")[-1], "frames": block.frames(), "spent": block.count}
     if block.fault:
@@ -237,7 +237,7 @@ def wait_of_block(block: Block, snapshot: Nodes) -> Process:
     return known or wait_of_function(block, snapshot, more)
 
 
-def wait_for_requests(block: Block, snapshot: Nodes, more: More) -> Process:
+def wait_for_requests(block: ErlangBlock, snapshot: Nodes, more: More) -> Process:
     """Returns a server in its loop. One with a limit there, or a timer under way, ticks."""
     if block.extra("timed") == "true":
         more["operation"] = f"timed {more['operation']}"
@@ -245,7 +245,7 @@ def wait_for_requests(block: Block, snapshot: Nodes, more: More) -> Process:
     return rests(snapshot.name(block), IDLE, any_of(unseen("to-come")), [], **more)
 
 
-def wait_of_function(block: Block, snapshot: Nodes, more: More) -> Process:
+def wait_of_function(block: ErlangBlock, snapshot: Nodes, more: More) -> Process:
     """Returns a process that stands in a function of a library, or in a `receive` of its own."""
     top = block.top()
     if top in SLEEPS:
@@ -266,7 +266,7 @@ def wait_of_function(block: Block, snapshot: Nodes, more: More) -> Process:
     return wait_of_receive(block, snapshot, more)
 
 
-def wait_for_outside(block: Block, snapshot: Nodes, more: More) -> Process:
+def wait_for_outside(block: ErlangBlock, snapshot: Nodes, more: More) -> Process:
     """Returns a process that accepts, reads from a socket, or waits for a command. A limit of that isn't on its stack.
     """
     more["note"] = f"{more['operation']} in {block.frames()[0]}"
@@ -278,14 +278,14 @@ def wait_for_outside(block: Block, snapshot: Nodes, more: More) -> Process:
                    **{**more, "reason": why})
 
 
-def child_begun(block: Block) -> Tuple[str, str]:
+def child_begun(block: ErlangBlock) -> Tuple[str, str]:
     """The pid and the limit of the child that it starts, or nothing of each that isn't clear."""
     pids, limits = ({term for term in block.registers() if re.fullmatch(form, term)}
                     for form in (r"<[\d.]+>", r"infinity|\d+"))
     return pids.pop() if len(pids) == 1 else "", limits.pop() if len(limits) == 1 else ""
 
 
-def wait_for_child(block: Block, snapshot: Nodes, more: More, pid: str, limit: str) -> Process:
+def wait_for_child(block: ErlangBlock, snapshot: Nodes, more: More, pid: str, limit: str) -> Process:
     """Returns a process that waits for a child to begin or to end. The pid of the child tells one wait from the next.
     """
     other = snapshot.by_key.get((block.node, pid))

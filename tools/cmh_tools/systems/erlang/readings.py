@@ -8,7 +8,7 @@ from typing import Dict, Iterator, List, Set, Tuple
 
 from ...files import Refusal, shown
 from ...snapshots import PARTS, Reading
-from .text import WORD, Block, Receives, terms_of
+from .text import WORD, ErlangBlock, Receives, terms_of
 
 # Of older texts, which said what code may do: these lines tell nothing any more.
 OLD_WORDS = {"begins", "grants", "holds", "keepers", "outside", "permits", "places", "quiet", "tells", "ticks"}
@@ -50,24 +50,24 @@ def parts_of(text: str) -> Iterator[Tuple[str, str]]:
         yield word, text[begin:].rstrip("\n")
 
 
-def block_of(text: str, path: str, known: Dict[bytes, Block]) -> Block:
+def block_of(text: str, path: str, known: Dict[bytes, ErlangBlock]) -> ErlangBlock:
     """Returns what is printed of one process. Of one that stands as it stood before, but for its reductions and where
     these are printed, they alone are read. `known` has the blocks by the digest of their other text."""
     front, _, back = text.partition(REDUCTIONS)
     count, _, rest = back.partition("}")
     if not count.isdigit():
-        return Block(text, path)
+        return ErlangBlock(text, path)
     digest = blake2b(f"{front}{rest}".encode(), digest_size=16).digest()
     if digest not in known:
-        known[digest] = Block(text, path)
+        known[digest] = ErlangBlock(text, path)
         return known[digest]
-    block = Block.__new__(Block)
+    block = ErlangBlock.__new__(ErlangBlock)
     vars(block).update(vars(known[digest]))
     block.count = count
     return block
 
 
-def readings_of(path: str, text: str, known: Dict[bytes, Block]) -> List[NodeReading]:
+def readings_of(path: str, text: str, known: Dict[bytes, ErlangBlock]) -> List[NodeReading]:
     """Returns the readings of a text in their order: where a process of a node stands again behind the end of one, or
     in an older text without ends, another one begins. `known` has the blocks that were read before."""
     readings: List[NodeReading] = []

@@ -10,7 +10,7 @@ from ...model import any_of, unseen
 from ...sketch import SYSTEM, Process, blocked, goes_on, premise, rests, unknown
 from .calls import ANSWERS, NO_MAIL, holders
 from .nodes import More, Nodes, limited, not_shown
-from .text import PID, Block, Receives
+from .text import PID, ErlangBlock, Receives
 
 DOWNS = "down"
 NEXT = "waits for its next message"
@@ -20,7 +20,7 @@ FRESH = ("erpc:call", "erpc:mcall_receive_replies", "erpc:receive_response", "er
          "proc_lib:stop")
 
 
-def count_of(block: Block) -> Optional[str]:
+def count_of(block: ErlangBlock) -> Optional[str]:
     """Returns what tells the wait of a process from its next one: its reductions, or the reference that is made for
     each wait, as a message of others wakes it without ending that."""
     if block.top() in FRESH and block.references:
@@ -28,7 +28,7 @@ def count_of(block: Block) -> Optional[str]:
     return f"{block.pid} {block.count}" if block.count is not None else None
 
 
-def wait_of_receive(block: Block, snapshot: Nodes, more: More) -> Process:
+def wait_of_receive(block: ErlangBlock, snapshot: Nodes, more: More) -> Process:
     """Returns a process in a receive, or one of which isn't known that it is in one."""
     is_waiting = block.extra("status") == "waiting"
     receive = snapshot.receives.get((block.node, *block.function)) if is_waiting else None
@@ -41,7 +41,7 @@ def wait_of_receive(block: Block, snapshot: Nodes, more: More) -> Process:
     return known or wait_for_message(block, snapshot, is_endless, more)
 
 
-def wait_for_message(block: Block, snapshot: Nodes, is_endless: bool, more: More) -> Process:
+def wait_for_message(block: ErlangBlock, snapshot: Nodes, is_endless: bool, more: More) -> Process:
     """Returns a process that waits for a message of whomever: those are able whose pids are on its stack, or to whose
     names it has sent before. In the loop of its own process it rests. In a function of a library that isn't known it
     may wait for anything."""
@@ -66,14 +66,14 @@ def wait_for_message(block: Block, snapshot: Nodes, is_endless: bool, more: More
     return blocked(snapshot.name(block), any_of(*part), [], **{**more, "reason": why})
 
 
-def asked_by(block: Block, snapshot: Nodes) -> List[Block]:
+def asked_by(block: ErlangBlock, snapshot: Nodes) -> List[ErlangBlock]:
     """Returns those to whose names it has sent before its receive."""
     names = snapshot.asks.get((block.node, *block.function), [])
     named = [snapshot.find(f"{{{name},'{block.node}'}}") for name in names]
     return [other for other in named if other is not None and other is not block]
 
 
-def wait_for_reference(block: Block, snapshot: Nodes, receive: Receives, more: More) -> Optional[Process]:
+def wait_for_reference(block: ErlangBlock, snapshot: Nodes, receive: Receives, more: More) -> Optional[Process]:
     """Returns a process in a receive of its own that takes messages with one reference alone, or None if nobody is
     known to have that. Whom it monitors may have it as that of the monitor, and so may a timer of its own."""
     match = re.search(rf"^y\({receive.register}\) +(#Ref<\d+\.([\d.]+)>)$", block.counter, re.M)
@@ -101,7 +101,7 @@ def wait_for_reference(block: Block, snapshot: Nodes, receive: Receives, more: M
     return blocked(name, any_of(*part), [SYSTEM, premise(ANSWERS)], **more)
 
 
-def wait_for_stop(block: Block, snapshot: Nodes, more: More) -> Process:
+def wait_for_stop(block: ErlangBlock, snapshot: Nodes, more: More) -> Process:
     """Returns a process in `proc_lib:stop`. It has told another one to stop, which has heard it, and waits for the end
     of that."""
     name, terms = snapshot.name(block), block.registers()
@@ -124,7 +124,7 @@ def wait_for_stop(block: Block, snapshot: Nodes, more: More) -> Process:
     return blocked(name, any_of(*snapshot.some("ends", there)), [SYSTEM, premise(DOWNS)], **more)
 
 
-def wait_for_output(block: Block, snapshot: Nodes, more: More) -> Process:
+def wait_for_output(block: ErlangBlock, snapshot: Nodes, more: More) -> Process:
     """Returns a process that has sent text to its group leader, or asked it for some, and waits without a limit."""
     pids = {term for term in block.registers() if PID.fullmatch(term)}
     leaders = [leader for leader in (snapshot.find((block.node, pid)) for pid in pids) if leader is not None]
@@ -137,7 +137,7 @@ def wait_for_output(block: Block, snapshot: Nodes, more: More) -> Process:
     return blocked(snapshot.name(block), any_of(*part), [], **{**more, "reason": part[-1].because[0]})
 
 
-def stopped_by(block: Block, snapshot: Nodes) -> List[Optional[Block]]:
+def stopped_by(block: ErlangBlock, snapshot: Nodes) -> List[Optional[ErlangBlock]]:
     """Returns the process that one stops: Elixir has its pid on the stack. Else it is one that it monitors, and none
     that is in its loop, as it has heard that it is to stop."""
     watched = snapshot.watched(block)

@@ -11,14 +11,14 @@ from ...sketch import SYSTEM, Process, blocked, goes_on, premise
 from .calls import NO_MAIL
 from .nodes import More, Nodes, limited, not_shown
 from .receives import DOWNS
-from .text import Block
+from .text import ErlangBlock
 
 ONE, SEVERAL = ("erpc:call/5", "erpc:receive_response/2", "erpc:wait_response/2"), "erpc:mcall_receive_replies/5"
 WORKER = "erpc", "execute_call", "4"
 TOLD = "{{'DOWN',{0},", "{{spawn_reply,{0},", "{{{0},"  # how a message begins that may end the wait
 
 
-def wait_for_remote(block: Block, snapshot: Nodes, more: More) -> Optional[Process]:
+def wait_for_remote(block: ErlangBlock, snapshot: Nodes, more: More) -> Optional[Process]:
     """Returns a process that waits for calls of `erpc`, or None for one that is elsewhere."""
     place = block.stack[0].split(" (")[0]
     if place not in (*ONE, SEVERAL):
@@ -45,14 +45,14 @@ def wait_for_remote(block: Block, snapshot: Nodes, more: More) -> Optional[Proce
     return blocked(name, parts, [SYSTEM, premise(DOWNS)], **more)
 
 
-def limit_of(block: Block, place: str) -> str:
+def limit_of(block: ErlangBlock, place: str) -> str:
     """Returns the limit that its topmost frame has, or nothing if that isn't clear."""
     terms = block.registers()[:1] if place == SEVERAL else block.registers()
     limits = {term for term in terms if re.fullmatch(r"infinity|\d+", term)}
     return limits.pop() if len(limits) == 1 else ""
 
 
-def workers_of(block: Block, snapshot: Nodes) -> List[Block]:
+def workers_of(block: ErlangBlock, snapshot: Nodes) -> List[ErlangBlock]:
     """Returns those that do its calls: it monitors each, and they have a reference that it waits with."""
     return [other for other in snapshot.watched(block)
             if other is not None and other.start == WORKER and not set(other.tails).isdisjoint(block.awaited)]

@@ -6,7 +6,7 @@ from typing import Dict, List
 
 from .nodes import Nodes
 from .readings import NodeReading
-from .text import Block
+from .text import ErlangBlock
 
 Connections = Dict[str, Dict[str, List[str]]]
 
@@ -25,7 +25,7 @@ def connections_of(snapshot: Nodes) -> Connections:
 
 def add_ports(reading: NodeReading, snapshot: Nodes, rows: Connections) -> None:
     """Adds the connections of a node. Who is in its loop as the owner of one waits for what comes there too."""
-    readers: Dict[str, List[Block]] = {}
+    readers: Dict[str, List[ErlangBlock]] = {}
     for block in reading.rows:
         readers.setdefault(port_of(block), []).append(block)
     for port, pid, own, other in (row.groups() for row in reading.sockets):
@@ -37,7 +37,7 @@ def add_ports(reading: NodeReading, snapshot: Nodes, rows: Connections) -> None:
             rows.setdefault(f"{other} {own}", {})["serves"] = names["has"]
 
 
-def port_of(block: Block) -> str:
+def port_of(block: ErlangBlock) -> str:
     """Returns the port from which a process reads, or nothing."""
     ports = [term for term in block.counter.split() if term.startswith("#Port<")]
     return ports[0] if block.top() == "prim_inet:recv0" and len(ports) == 1 else ""

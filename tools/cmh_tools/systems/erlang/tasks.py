@@ -10,7 +10,7 @@ from ...model import all_of, any_of
 from ...sketch import SYSTEM, Process, blocked, goes_on, premise
 from .calls import NO_MAIL, holders, others_of
 from .nodes import More, Nodes, limited, not_shown
-from .text import Block
+from .text import ErlangBlock
 
 ENDS = "tasks"
 PARTS = re.compile(r"pid=>(<[\d.]+>)|ref=>(#Ref<[\d.]+>)")
@@ -19,7 +19,7 @@ STREAM = ("Task.Supervised.stream_reduce", "Task.Supervised.stream_monitor_loop"
 ONE, SEVERAL = ("Task.await", "Task.yield"), ("Task.await_many", "Task.yield_many")
 
 
-def wait_of_task(block: Block, snapshot: Nodes, more: More) -> Optional[Process]:
+def wait_of_task(block: ErlangBlock, snapshot: Nodes, more: More) -> Optional[Process]:
     """Returns a process that waits for tasks, or None for one that is elsewhere."""
     top = block.top()
     if top not in (*ONE, *SEVERAL, *STREAM):
@@ -35,7 +35,7 @@ def wait_of_task(block: Block, snapshot: Nodes, more: More) -> Optional[Process]
     return wait_for_stream(block, snapshot, more) if top in STREAM else wait_for_tasks(block, snapshot, top, more)
 
 
-def limit_of(block: Block, top: str) -> str:
+def limit_of(block: ErlangBlock, top: str) -> str:
     """Returns the limit that its topmost frame has, or nothing if that isn't clear."""
     if top in STREAM:
         limits: List[str] = re.findall(r"\btimeout=>(infinity|\d+)", block.counter)
@@ -44,14 +44,14 @@ def limit_of(block: Block, top: str) -> str:
     return limits[0] if len(set(limits)) == 1 else ""
 
 
-def tasks_of(block: Block) -> List[Tuple[str, str]]:
+def tasks_of(block: ErlangBlock) -> List[Tuple[str, str]]:
     """Returns the pid and the reference of each task in its topmost frame."""
     matches = PARTS.findall(block.counter)
     pids, references = [pid for pid, _ in matches if pid], [reference for _, reference in matches if reference]
     return list(dict.fromkeys(zip(pids, references))) if len(pids) == len(references) else []
 
 
-def wait_for_tasks(block: Block, snapshot: Nodes, top: str, more: More) -> Process:
+def wait_for_tasks(block: ErlangBlock, snapshot: Nodes, top: str, more: More) -> Process:
     """Returns one that waits for the answer of a task, or for those of all."""
     name, tasks = snapshot.name(block), tasks_of(block)
     pending = set(PENDING.findall(block.counter)) if top == "Task.await_many" else {reference for _, reference in tasks}
@@ -79,7 +79,7 @@ def wait_for_tasks(block: Block, snapshot: Nodes, top: str, more: More) -> Proce
     return blocked(name, all_of(snapshot.names(there), "ends", beside=beside), because, **more)
 
 
-def wait_for_stream(block: Block, snapshot: Nodes, more: More) -> Process:
+def wait_for_stream(block: ErlangBlock, snapshot: Nodes, more: More) -> Process:
     """Returns the owner of a stream or the process that begins its tasks: each waits for the other one and the tasks.
     """
     name = snapshot.name(block)

@@ -89,7 +89,7 @@ Function = Tuple[str, str, str]  # its module, its name and its arity
 UNKNOWN_START = "unknown", "unknown", "0"
 
 
-class Call(NamedTuple):
+class ErlangCall(NamedTuple):
     """A call in which a process waits: its function, its limit, the request, and whom it calls, as terms."""
 
     function: str
@@ -108,7 +108,7 @@ class Receives(NamedTuple):
     words: List[str]
 
 
-class Block:
+class ErlangBlock:
     """What is printed of one process. A reference is printed with another first number on another node, so `tail`s are
     compared: the rest of it. `fault` says what of it isn't understood, and `label` is its name in the sketch. The text
     itself isn't kept, for a node has many processes."""
@@ -177,7 +177,7 @@ class Block:
     def top_function(self) -> str:
         return self.stack[0].partition(" (")[0].replace(":", ".")
 
-    def contradicts(self, later: Block) -> str:
+    def contradicts(self, later: ErlangBlock) -> str:
         """Returns what shows that two texts of a process can't be of one, or nothing: whoever runs is counted, and
         began once."""
         counts = [int(block.count) for block in (self, later) if block.count is not None]
@@ -311,7 +311,7 @@ def items_in(text: str) -> Tuple[Dict[str, str], str]:
     return items, fault
 
 
-def call_of(limit: re.Match[str], text: str) -> Call:
+def call_of(limit: re.Match[str], text: str) -> ErlangCall:
     """Returns the call of a process by what LIMIT has found. A call of an event manager has no limit."""
     function = (limit["call"] or limit["event"] or "gen_server:receive_response").split("/")[0].replace("call1", "call")
     request = REQUEST.search(text)
@@ -321,8 +321,8 @@ def call_of(limit: re.Match[str], text: str) -> Call:
 
 
 @lru_cache(maxsize=KEPT)
-def shared_call(*words: str) -> Call:
-    return Call(*words)
+def shared_call(*words: str) -> ErlangCall:
+    return ErlangCall(*words)
 
 
 def of_elixir(text: str) -> str:

@@ -8,7 +8,7 @@ from typing import Dict, Iterable, List, Optional, Set, Tuple
 
 from ...sketch import frame
 from ..base import is_loop
-from .text import TAKER, Frame, Frames, Goroutine
+from .text import TAKER, GoFrame, Frames, Goroutine
 
 STANDARD = frozenset(
     "archive arena bufio bytes cmp compress container context crypto database debug embed encoding errors expvar flag "
@@ -96,7 +96,7 @@ def outermost_of(frames: Frames) -> str:
     return own[-2 if is_wrapped else -1].function if own else ""
 
 
-def is_jobs(step: Frame) -> bool:
+def is_jobs(step: GoFrame) -> bool:
     """Whether a frame is none of the standard library."""
     return not is_standard(step.function, step.path)
 
@@ -173,7 +173,7 @@ def package_of(function: str) -> str:
     return head + slash + tail.split(".")[0]
 
 
-def is_own(step: Frame) -> bool:
+def is_own(step: GoFrame) -> bool:
     """Whether a frame is the job's own: of no library that many jobs use."""
     return is_of_job(step.function, step.path)
 
@@ -190,7 +190,7 @@ def jobs_of(frames: Frames) -> Frames:
     return tuple(filter(is_jobs, frames))
 
 
-def own_calls(goroutine: Goroutine, callers: Set[Caller]) -> List[Frame]:
+def own_calls(goroutine: Goroutine, callers: Set[Caller]) -> List[GoFrame]:
     """Returns the frames of the job's own, the innermost first, without those that only call what they were handed."""
     own = [*(own_of(goroutine.frames) or jobs_of(goroutine.frames))]
     while own[1:] and (call_of(own[-1]) in callers or WRAPPER.fullmatch(own[-1].function)):
@@ -208,7 +208,7 @@ def callers_in(stacks: Iterable[Frames]) -> Set[Caller]:
     return {call for call, functions in called.items() if len(functions) > 1}
 
 
-def call_of(caller: Frame) -> Caller:
+def call_of(caller: GoFrame) -> Caller:
     return caller.function, caller.line
 
 
@@ -229,7 +229,7 @@ def label_of(function: str) -> str:
     return next((label for pattern, label in IDLE if pattern.fullmatch(function)), "")
 
 
-def idle_label(frames: List[Frame], state: str, has_own: bool) -> str:
+def idle_label(frames: List[GoFrame], state: str, has_own: bool) -> str:
     """Returns how a goroutine in a state is idle, with these frames before the first of the job's own, or nothing."""
     is_at_work = has_own or AT_A_LOCK.fullmatch(state) is not None
     labels = {step.function: label_of(step.function) for step in frames}
@@ -270,13 +270,13 @@ def takes_state(goroutine: Goroutine) -> bool:
     return TAKER in functions and "net/http.(*conn).serve" in functions
 
 
-class Place:
+class GoPlace:
     """Where goroutines stand: their frames as facts match them, what they call there, and how they are idle, if they
     are. `function` is the topmost of their own, and `called` the function whose call is the operation. `shown` has the
     numbers of the calls whose first argument may be what a goroutine waits at, and `locked` and `run` those of methods,
     each with its type: of the one that waits for a lock, and of those that run."""
 
-    def __init__(self, frames: Frames, state: str, creator: Frame) -> None:
+    def __init__(self, frames: Frames, state: str, creator: GoFrame) -> None:
         numbers = [number for number, step in enumerate(frames) if step.function not in OUTERMOST]
         steps = [frames[number] for number in numbers]
         start = next((index for index, step in enumerate(steps) if is_own(step)), None)
@@ -317,9 +317,9 @@ class Place:
 
 
 @lru_cache(maxsize=KEPT)
-def place_of(frames: Frames, state: str, creator: Frame) -> Place:
+def place_of(frames: Frames, state: str, creator: GoFrame) -> GoPlace:
     """Returns where those stand who have these frames in a state: one place for all."""
-    return Place(frames, state, creator)
+    return GoPlace(frames, state, creator)
 
 
 def methods_in(frames: Frames, numbers: List[int]) -> List[Method]:
@@ -355,6 +355,6 @@ def receivers_at(goroutine: Goroutine, methods: List[Method]) -> List[Receiver]:
     return [(kind, goroutine.calls[number].first) for number, kind in methods if goroutine.calls[number].first]
 
 
-def objects_of(goroutine: Goroutine, place: Place) -> List[str]:
+def objects_of(goroutine: Goroutine, place: GoPlace) -> List[str]:
     """Returns the address of the channel or lock that the frames of a wait show, if they do for certain."""
     return [first for first in [goroutine.calls[number].first for number in place.shown] if first][:1]

@@ -23,13 +23,13 @@ from ...model import COMES, Part, Sign, Wakers, all_of, any_of, unseen, wakers
 from ...sketch import GOING, LIMIT, SYSTEM, Process, Sketch, blocked, garbled, goes_on, premise, rests, unknown
 from ...snapshots import APART, CUT, GONE, ONCE, Reading
 from .. import State
-from ..base import FAR, Parser, Reach, Snapshot, duration, without_sleep
-from .frames import (CONNECTION, KEPT, NEEDS_ALL, WATCHER, WRITER, Caller, Place, Receiver, accepts_for_library,
+from ..base import FAR, Parser, Reachable, Snapshot, duration, without_sleep
+from .frames import (CONNECTION, KEPT, NEEDS_ALL, WATCHER, WRITER, Caller, GoPlace, Receiver, accepts_for_library,
                      callers_in, cut_short, entry_of, functions_of, is_at_connection, is_of_runtime, jobs_of,
                      lacks_wait, misplaced, objects_of, own_calls, place_of, receivers_at, serves_request,
                      takes_state, types_of, watches_client)
 from .starters import MAIN, UNSEEN, Starters, unseen_starter
-from .text import ADDRESSES, AGAIN, LOOKED, TAKER, WHERE, Dump, Frame, Goroutine, notes_in, read_dumps
+from .text import ADDRESSES, AGAIN, LOOKED, TAKER, WHERE, GoDump, GoFrame, Goroutine, notes_in, read_dumps
 
 SITE = "the Go program"
 # States in which a goroutine goes on by itself, or the runtime sees to it.
@@ -65,11 +65,11 @@ class Goroutines(Snapshot):
     method of each type; all of them; a wait that any of them may end; and whether all were stopped when they were read.
     """
 
-    places: Dict[str, Place]
+    places: Dict[str, GoPlace]
     objects: Dict[str, List[str]]
     locked: Dict[str, List[Receiver]]
-    reach: Reach
-    begun: Reach
+    reach: Reachable
+    begun: Reachable
     everybody: Wakers
     anybody: List[Part]
     is_stopped: bool
@@ -84,7 +84,7 @@ class GoParser(Parser):
     SNAPSHOT_CLASS = Goroutines
 
     def __init__(self) -> None:
-        self.dumps: List[Dump] = []
+        self.dumps: List[GoDump] = []
         self.site = SITE
         self.port = ""  # at which the program listens, where that is on the machine on which the state was taken
         self.seconds = 0.0  # from the first state to the last, as far as that is said
@@ -112,7 +112,7 @@ class GoParser(Parser):
             reading.time, reading.machine = (float(began), float(ended)), machine
         return readings
 
-    def reading_of(self, dump: Dump) -> Reading:
+    def reading_of(self, dump: GoDump) -> Reading:
         """Returns the reading of a dump. A text may be cut off after any goroutine, and nothing shows that."""
         for goroutine in cut_short(dump.goroutines):
             goroutine.doubt(f"{goroutine.at}: its outermost frames are missing below this line, which others have")
@@ -175,7 +175,7 @@ class GoParser(Parser):
         snapshot.has_signals = any(SIGNALS in functions_of(frames) for frames in stacks)
         own = [goroutine for goroutine in rows if snapshot.places[goroutine.number].idle not in LIBRARYS]
         snapshot.everybody = wakers("same-process", [self.names[goroutine.number] for goroutine in own])
-        snapshot.reach, snapshot.begun = Reach(), Reach()
+        snapshot.reach, snapshot.begun = Reachable(), Reachable()
         snapshot.anybody = any_of(snapshot.everybody, unseen("unshown"))
         awaited = {*chain(*snapshot.objects.values(), *snapshot.locked.values())}
         for goroutine in own:
@@ -210,7 +210,7 @@ class GoParser(Parser):
         itself = [f"self={self.names[goroutine.number]}"] if goroutine.number in self.parents else []
         return itself + ([f"creator={self.names[goroutine.parent]}"] if goroutine.parent in self.names else [])
 
-    def wait_at(self, goroutine: Goroutine, place: Place, name: str, snapshot: Goroutines) -> Process:
+    def wait_at(self, goroutine: Goroutine, place: GoPlace, name: str, snapshot: Goroutines) -> Process:
         """Returns what a goroutine waits for, as a process with its sign and wait alone."""
         state = goroutine.state
         if place.idle in LIBRARYS and not goroutine.is_leaked:
@@ -234,7 +234,7 @@ class GoParser(Parser):
                            parts=any_of(unseen("outside")))
         return self.waiter(goroutine, place, name, snapshot)
 
-    def sleeper(self, goroutine: Goroutine, place: Place, name: str, snapshot: Goroutines) -> Process:
+    def sleeper(self, goroutine: Goroutine, place: GoPlace, name: str, snapshot: Goroutines) -> Process:
         """One that sleeps. One that sleeps for a short time in the function that it was started with has come back to
         that sleep from the first state to the last."""
         found = next((call.arguments for call in goroutine.calls if call.frame.function == "time.Sleep"), "")
@@ -253,7 +253,7 @@ class GoParser(Parser):
         state."""
         return f"state {self.looks[id(goroutine)] + 1}"
 
-    def waiter(self, goroutine: Goroutine, place: Place, name: str, snapshot: Goroutines) -> Process:
+    def waiter(self, goroutine: Goroutine, place: GoPlace, name: str, snapshot: Goroutines) -> Process:
         """One that waits for another goroutine, and the text doesn't show for which: first for one in whose frames it
         stands, or for those whom the type of a library has begun in whose method it waits, as a group has its tasks."""
         inside = self.inside(goroutine, name, snapshot)
@@ -276,7 +276,7 @@ class GoParser(Parser):
             return ()
         return tuple(left for left in (some.without([name]) for some in found) if left.names())
 
-    def children(self, goroutine: Goroutine, place: Place, snapshot: Goroutines) -> List[str]:
+    def children(self, goroutine: Goroutine, place: GoPlace, snapshot: Goroutines) -> List[str]:
         """Returns those whom one that waits for all of some has started, if the text says who has started whom."""
         if place.operation not in NEEDS_ALL or place.operation == WRITER:  # (of whose readers some hold no lock)
             return []
@@ -324,7 +324,7 @@ def held_by(goroutine: Goroutine, snapshot: Goroutines, awaited: Set[Any]) -> Se
     return held.union(awaited.intersection(receivers_at(goroutine, runs))) if runs else held
 
 
-def may_rest(goroutine: Goroutine, place: Place, snapshot: Goroutines) -> bool:
+def may_rest(goroutine: Goroutine, place: GoPlace, snapshot: Goroutines) -> bool:
     """Whether one that receives stands where one does who has nothing to do: at a signal or the end of the program, at
     the next connection, or in its own loop."""
     if snapshot.has_signals and (goroutine.number == MAIN and place.operation == "select"
@@ -338,7 +338,7 @@ def is_in_own_loop(goroutine: Goroutine, snapshot: Goroutines) -> bool:
     return len(own_calls(goroutine, snapshot.callers)) == 1 and not serves_request(goroutine.frames)
 
 
-def missing_of(dump: Dump, shown: List[Goroutine]) -> str:
+def missing_of(dump: GoDump, shown: List[Goroutine]) -> str:
     """Returns why goroutines, or frames of them that facts may ask for, aren't in a dump, if they may not be."""
     if dump.is_last and len(shown) == 1:
         return f"{dump.path} has one goroutine alone, as without GOTRACEBACK=all"
@@ -381,12 +381,12 @@ def stack_of(goroutine: Goroutine) -> List[Tuple[str, Optional[int], str]]:
 
 
 @lru_cache(maxsize=KEPT)
-def whole_stack(frames: Tuple[Frame, ...], creator: Frame) -> List[Tuple[str, str, Optional[int], str]]:
+def whole_stack(frames: Tuple[GoFrame, ...], creator: GoFrame) -> List[Tuple[str, str, Optional[int], str]]:
     """Returns all frames of a goroutine, and below them where it was created."""
     return [(it.function, it.path, it.line, it.offset) for it in (*frames, creator)]
 
 
-def check_same(first: Dump, later: Dump) -> None:
+def check_same(first: GoDump, later: GoDump) -> None:
     """Raises Refusal if a goroutine has another origin in the later of two dumps, so that they are of two programs: a
     program gives no number twice."""
     before = {it.number: origin_of(it) for it in first.goroutines}
@@ -408,5 +408,5 @@ def origin_of(goroutine: Goroutine) -> str:
 
 
 @lru_cache(maxsize=KEPT)
-def text_of(creator: Frame) -> str:
+def text_of(creator: GoFrame) -> str:
     return f"{creator.function} ({creator.path}:{creator.line})"

@@ -6,8 +6,8 @@ from functools import lru_cache
 from typing import DefaultDict, Dict, List, Set, Tuple
 
 from ...sketch import Process, unknown
-from .frames import ACCEPTOR, CONNECTION, KEPT, OUTERMOST, Place, functions_of, is_jobs, package_of
-from .text import Frame, Goroutine
+from .frames import ACCEPTOR, CONNECTION, KEPT, OUTERMOST, GoPlace, functions_of, is_jobs, package_of
+from .text import GoFrame, Goroutine
 
 MAIN = "1"
 UNSEEN = "unseen-starter"
@@ -21,7 +21,7 @@ class Starters:
     whom it is known that they never go on. `outer` has of each function what called it there, or started a goroutine
     with it."""
 
-    def __init__(self, goroutines: List[Goroutine], places: Dict[str, Place], names: Dict[str, str],
+    def __init__(self, goroutines: List[Goroutine], places: Dict[str, GoPlace], names: Dict[str, str],
                  over: Set[str]) -> None:
         self.standing: DefaultDict[str, List[str]] = defaultdict(list, {UNSEEN: [UNSEEN]})
         self.outer: DefaultDict[str, Dict[str, None]] = defaultdict(dict)
@@ -72,12 +72,12 @@ def is_unseen(goroutine: Goroutine) -> bool:
 
 
 @lru_cache(maxsize=KEPT)
-def starts_unseen(creator: Frame) -> bool:
+def starts_unseen(creator: GoFrame) -> bool:
     """Whether a function starts goroutines, while none of them waits to."""
     return package_of(creator.function) in BY_ITSELF and not is_jobs(creator)
 
 
-def callers_of(goroutines: List[Goroutine], places: Dict[str, Place], names: Dict[str, str],
+def callers_of(goroutines: List[Goroutine], places: Dict[str, GoPlace], names: Dict[str, str],
                over: Set[str]) -> List[str]:
     """Returns who may call any function of the job: those that run code of it, and those at which a request may come
     that it answers. Of the former all are kept, as of many at one place one may go on. Of the latter two of a place are

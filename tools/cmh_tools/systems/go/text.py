@@ -61,7 +61,7 @@ Spot = Tuple[str, int, str, Ends]  # a file, a line, an offset, and the ends on 
 
 
 @dataclass(eq=False)
-class Frame:
+class GoFrame:
     """A frame: 'main.(*Store).Put', the whole path of 'thumbs.go', 26, and '+0x45'. All goroutines that stand there
     have the same one, which nobody changes, so that what it means is found once."""
 
@@ -75,16 +75,16 @@ class Frame:
         return self.path.split("/")[-1]
 
 
-NOWHERE, BEFORE = Frame(""), Frame("", line=0)
-Frames = Tuple[Frame, ...]
+NOWHERE, BEFORE = GoFrame(""), GoFrame("", line=0)
+Frames = Tuple[GoFrame, ...]
 
 
-class Call(NamedTuple):
+class GoCall(NamedTuple):
     """A frame as a goroutine shows it: with the arguments as text, the addresses that stand in these, and the first of
     them if that is an address. `ends` is where the frame ends and begins on the stack, which SIGQUIT prints of those
     that aren't inlined."""
 
-    frame: Frame
+    frame: GoFrame
     arguments: str = ""
     addresses: Tuple[str, ...] = ()
     first: str = ""
@@ -105,9 +105,9 @@ class Goroutine:
     state: str
     at: str
     minutes: int = 0
-    calls: List[Call] = field(default_factory=list)
+    calls: List[GoCall] = field(default_factory=list)
     created_by: str = ""
-    creator: Frame = NOWHERE
+    creator: GoFrame = NOWHERE
     parent: str = ""
     is_whole: bool = True
     is_elsewhere: bool = False
@@ -137,7 +137,7 @@ class Goroutine:
 
 
 @dataclass
-class Dump:
+class GoDump:
     """The goroutines of a state. `is_last` says that SIGQUIT has ended the program, `lost` what shows that lines of it
     are missing."""
 
@@ -165,9 +165,9 @@ def is_function(text: str) -> bool:
 
 
 @lru_cache(maxsize=KEPT)
-def frame_of(function: str, path: str, line: int, offset: str) -> Frame:
+def frame_of(function: str, path: str, line: int, offset: str) -> GoFrame:
     """Returns the frame that all have who stand in a function at a place."""
-    return Frame(function, path, line, offset)
+    return GoFrame(function, path, line, offset)
 
 
 def call_in(line: str) -> Optional[Tuple[str, str]]:
@@ -177,13 +177,13 @@ def call_in(line: str) -> Optional[Tuple[str, str]]:
     return (function, arguments) if end and not more and is_function(function) else None
 
 
-def call_of(frame: Frame, arguments: str, ends: Ends = None) -> Call:
+def call_of(frame: GoFrame, arguments: str, ends: Ends = None) -> GoCall:
     addresses, first = tuple(ADDRESS.findall(arguments)), arguments.partition(",")[0]
-    return Call(frame, arguments, addresses, first if first in addresses[:1] else "", ends)
+    return GoCall(frame, arguments, addresses, first if first in addresses[:1] else "", ends)
 
 
 @lru_cache(maxsize=KEPT)
-def whole_call(line: str, below: str) -> Optional[Call]:
+def whole_call(line: str, below: str) -> Optional[GoCall]:
     """Returns the call that a line has with its place in the line below, or None. Many goroutines show the same one."""
     call = call_in(line)
     place = place_in(below) if call else None
@@ -198,7 +198,7 @@ def origin_in(line: str) -> Optional[Tuple[str, str]]:
 
 
 @lru_cache(maxsize=KEPT)
-def whole_origin(line: str, below: str) -> Optional[Tuple[Frame, str]]:
+def whole_origin(line: str, below: str) -> Optional[Tuple[GoFrame, str]]:
     """Returns the frame in which a goroutine was created, with its place in the line below, and the number of the one
     in it, or None."""
     origin, place = origin_in(line), place_in(below)
@@ -226,7 +226,7 @@ def notes_in(text: str) -> str:
     return "\n".join(NOTE + part.split("\n", 1)[0] for part in parts[1:])
 
 
-def read_dumps(path: str, text: str) -> List[Dump]:
+def read_dumps(path: str, text: str) -> List[GoDump]:
     """Returns the dumps of a text, in their order. Raises Refusal if it has none, or one that isn't whole or has a
     goroutine twice."""
     name = shown(path)
@@ -238,20 +238,20 @@ def read_dumps(path: str, text: str) -> List[Dump]:
     if first is None:
         raise Refusal(f"{name}:1: this is no dump of goroutines: a line 'goroutine 1 [running]:' is expected")
     if quit_at is not None:
-        dump = Reader(name, lines, quit_at, len(lines), True).read()
+        dump = GoReader(name, lines, quit_at, len(lines), True).read()
         if quit_at:
             dump.warnings.append(f"{name}: {quit_at} lines before 'SIGQUIT' are left out")
         return [dump]
     headings = [number - 1 for number in lines_with(TAKEN, text)]
     starts = sorted({0, *(number for number in headings if number > first and HEADER.fullmatch(lines[number]))})
-    return [Reader(name, lines, *part, False).read() for part in zip(starts, [*starts[1:], len(lines)])]
+    return [GoReader(name, lines, *part, False).read() for part in zip(starts, [*starts[1:], len(lines)])]
 
 
-class Reader:
+class GoReader:
     """Reads the lines of one dump, from `start` up to `end`."""
 
     def __init__(self, path: str, lines: List[str], start: int, end: int, is_last: bool) -> None:
-        self.path, self.start, self.dump = path, start, Dump(path, is_last=is_last)
+        self.path, self.start, self.dump = path, start, GoDump(path, is_last=is_last)
         self.lines = [*lines[start:end], ""] if end < len(lines) else lines[start:]
         self.goroutine: Optional[Goroutine] = None
         self.step = BEFORE  # whose place is to come, or has come last
@@ -259,7 +259,7 @@ class Reader:
         self.misread: Optional[Goroutine] = None  # the last of which a line isn't understood
         self.seen: Dict[str, str] = {}
 
-    def read(self) -> Dump:
+    def read(self) -> GoDump:
         start = 0
         for end_of_block in (*compress(count(), map(not_, self.lines)), len(self.lines) - 1):
             self.take_block(start, end_of_block)
@@ -320,9 +320,9 @@ class Reader:
             self.set_place(one, place, line, number)
         elif one is not None and self.is_open() and (origin := origin_in(line)):
             one.created_by, one.parent = origin
-            self.step = one.creator = Frame(one.created_by)
+            self.step = one.creator = GoFrame(one.created_by)
         elif one is not None and self.is_open() and (call := call_in(line)):
-            self.step = Frame(call[0])
+            self.step = GoFrame(call[0])
             one.calls.append(call_of(self.step, call[1]))
         else:
             self.take_other(line, number)

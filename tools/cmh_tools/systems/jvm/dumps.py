@@ -9,7 +9,7 @@ from typing import Any, Dict, Iterator, List, Match, Optional, Tuple
 from ...files import Refusal, shown
 from ..base import once_each
 from .misfits import add_faults
-from .text import BETWEEN, FRAME, PARKED, START, Dump, PrintReader, Thread, add_line, frame_of
+from .text import BETWEEN, FRAME, PARKED, START, JvmDump, PrintReader, JvmThread, add_line, frame_of
 
 FILE_THREAD = re.compile(
     r'#(?P<number>\d+) "(?P<name>.*)"(?P<virtual> virtual)?(?: (?P<state>[A-Z_]+))?(?: \d{4}-\S+)?'
@@ -24,7 +24,7 @@ FAR = re.compile(r"\n# cmh limits (\{.*\})$", re.M)  # limits of waits that end 
 UNMARKED = re.compile(r" {6}(?=[^\s-]\S*\()(?!at )")  # before a frame of JDK 21, which has no 'at'
 
 
-def read_dumps(path: str, text: str) -> List[Dump]:
+def read_dumps(path: str, text: str) -> List[JvmDump]:
     """Returns the dumps of a text, in their order. Raises Refusal if it has none, or one that isn't whole."""
     name = shown(path)
     if text.lstrip().startswith("{"):
@@ -48,7 +48,7 @@ def read_dumps(path: str, text: str) -> List[Dump]:
                   "`jcmd PID Thread.dump_to_file`, is expected")
 
 
-def add_virtual(dump: Dump, more: Dump) -> None:
+def add_virtual(dump: JvmDump, more: JvmDump) -> None:
     """Adds the threads of a file that jstack doesn't print. An object has the name that jstack gives it, where a thread
     of both shows that."""
     here = {thread.key: thread for thread in dump.threads}
@@ -62,7 +62,7 @@ def add_virtual(dump: Dump, more: Dump) -> None:
     dump.has_virtual, dump.lost = True, dump.lost or more.lost
 
 
-def add_limits(dump: Dump, line: Optional[Match[str]]) -> None:
+def add_limits(dump: JvmDump, line: Optional[Match[str]]) -> None:
     """Adds to threads that wait with a limit far away in how many seconds it ends."""
     limits = numbers_of(line[1]) if line else {}
     for thread in dump.threads:
@@ -78,7 +78,7 @@ def numbers_of(text: str) -> Dict[str, float]:
     return dict(rows) if all(type(value) in (int, float) for value in rows.values()) else {}
 
 
-def same_objects(thread: Thread, own: Thread) -> Iterator[Tuple[str, str]]:
+def same_objects(thread: JvmThread, own: JvmThread) -> Iterator[Tuple[str, str]]:
     """Yields what a thread waits at and has locked by a file, each with what jstack calls that."""
     for kind in {kind for frame in thread.frames for kind, _ in frame.marks}:
         there, here = ([thing for frame in one.frames for what, thing in frame.marks if what == kind]
@@ -90,18 +90,18 @@ def same_objects(thread: Thread, own: Thread) -> Iterator[Tuple[str, str]]:
 # `jcmd PID Thread.dump_to_file`
 
 
-def read_file_text(path: str, lines: List[str]) -> Dump:
+def read_file_text(path: str, lines: List[str]) -> JvmDump:
     """Returns the dump of a text of `Thread.dump_to_file -format=text`."""
     if lines[-1].strip() or len(lines) < 2 or lines[-2].strip():
         raise Refusal(f"{path}:{len(lines)}: the dump is cut off: it ends within a thread")
     process = lines[0].strip()
-    dump = Dump(path, is_file=True, pid=process if process.isdigit() else "")
-    thread: Optional[Thread] = None
+    dump = JvmDump(path, is_file=True, pid=process if process.isdigit() else "")
+    thread: Optional[JvmThread] = None
     for number, line in enumerate(lines, 1):
         line = UNMARKED.sub("    at ", line, 1) if UNMARKED.match(line) else line
         if head := FILE_THREAD.fullmatch(line):
             key = f"#{head['number']}"
-            thread = Thread(head["name"], key, f"{path}:{number}", head["number"], f"{process} {key}")
+            thread = JvmThread(head["name"], key, f"{path}:{number}", head["number"], f"{process} {key}")
             thread.is_virtual, thread.state = bool(head["virtual"]), head["state"] or ""
             dump.threads.append(thread)
         elif line.strip() and (thread is None or not add_line(thread, line)):
@@ -117,7 +117,7 @@ def read_file_text(path: str, lines: List[str]) -> Dump:
     return dump
 
 
-def read_file_json(path: str, text: str) -> Dump:
+def read_file_json(path: str, text: str) -> JvmDump:
     """Returns the dump of a text of `Thread.dump_to_file -format=json`."""
     try:
         tree = json.loads(text, object_pairs_hook=once_each)
@@ -131,7 +131,7 @@ def read_file_json(path: str, text: str) -> Dump:
                       f"{shown(str(error))}") from error
     lost = next(filter(None, (short_of(path, container) for container in containers)), "")
     taken = str(tree["threadDump"].get("time") or "")
-    return Dump(path, threads, is_file=True, pid=process if process.isdigit() else "", taken=taken, lost=lost)
+    return JvmDump(path, threads, is_file=True, pid=process if process.isdigit() else "", taken=taken, lost=lost)
 
 
 def short_of(path: str, container: Dict[str, Any]) -> str:
@@ -142,10 +142,10 @@ def short_of(path: str, container: Dict[str, Any]) -> str:
     return f"{path}: {shown(str(container.get('container')))} has {number} threads, and {here} are shown"
 
 
-def thread_of_row(path: str, row: Dict[str, Any], process: str) -> Thread:
+def thread_of_row(path: str, row: Dict[str, Any], process: str) -> JvmThread:
     """Returns the thread of a row of JSON, with its marks as the text has them."""
     number = str(row["tid"])
-    thread = Thread(str(row["name"]), f"#{number}", f"{path}, tid {number}", number, f"{process} #{number}")
+    thread = JvmThread(str(row["name"]), f"#{number}", f"{path}, tid {number}", number, f"{process} #{number}")
     thread.is_virtual, thread.state = row.get("virtual") is True, str(row.get("state") or "")
     for line in row["stack"]:
         matched = FRAME.fullmatch(f" at {line}")
@@ -158,7 +158,7 @@ def thread_of_row(path: str, row: Dict[str, Any], process: str) -> Thread:
     return thread
 
 
-def state_of(thread: Thread) -> str:
+def state_of(thread: JvmThread) -> str:
     """Returns the state of a thread by where it stands, or nothing."""
     methods = [step.method for step in thread.frames[:INNER]]
     if any(map(LIMITS.fullmatch, methods)):
@@ -166,7 +166,7 @@ def state_of(thread: Thread) -> str:
     return "WAITING" if methods and PARKS.fullmatch(methods[0]) else ""
 
 
-def add_marks(thread: Thread, row: Dict[str, Any]) -> None:
+def add_marks(thread: JvmThread, row: Dict[str, Any]) -> None:
     """Adds what a row of JSON says of monitors and blockers to the frames of its thread."""
     blocker = row.get("parkBlocker") or {}
     tops = [(PARKED, blocker.get("object")), ("waiting to lock", row.get("blockedOn")),

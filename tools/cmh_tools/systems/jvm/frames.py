@@ -9,7 +9,7 @@ from typing import Callable, Dict, List, Optional
 
 from ...sketch import WORK, frame
 from ..base import without_sleep
-from .text import Stack, Thread, stack_of
+from .text import Stack, JvmThread, stack_of
 
 JDK = re.compile(r"(?:java|javax|jdk|sun|com\.sun)\.")
 # Frames that nobody has written.
@@ -171,7 +171,7 @@ def has_jobs(stack: Stack) -> bool:
     return any(is_jobs(method) for method, _, _ in stack)
 
 
-def is_of_jvm(thread: Thread) -> bool:
+def is_of_jvm(thread: JvmThread) -> bool:
     """Whether a thread is of the JVM itself, and runs no code of the job, nor will once a child ends. A timer or a
     worker of a pool may be the job's by most names."""
     stack = stack_of(thread)
@@ -181,12 +181,12 @@ def is_of_jvm(thread: Thread) -> bool:
     return inside or OF_THE_JVM.fullmatch(thread.name) is not None
 
 
-def is_inside(thread: Thread) -> bool:
+def is_inside(thread: JvmThread) -> bool:
     """Whether a thread of the JVM itself runs no code of the job at any time: it collects, compiles, prints."""
     return not thread.number or INSIDE.fullmatch(thread.name) is not None
 
 
-def is_at_rest(thread: Thread) -> bool:
+def is_at_rest(thread: JvmThread) -> bool:
     """Whether a thread is idle until another thread of the job gives it something to do. One with a limit isn't, but
     for a worker of a pool that then ends without running code of the job."""
     place, stack = place_of(thread), stack_of(thread)
@@ -198,7 +198,7 @@ def is_at_rest(thread: Thread) -> bool:
     return ends and not has_jobs(stack) and not place.has(HAS_TIMER) and not is_in(HAS_TASK, stack)
 
 
-def has_limit(thread: Thread) -> bool:
+def has_limit(thread: JvmThread) -> bool:
     """Whether the wait of a thread has a limit, and none far away."""
     return not thread.far and (thread.state == "TIMED_WAITING" or not thread.state and place_of(thread).has(LIMITED))
 
@@ -211,17 +211,17 @@ def is_own_loop(stack: Stack) -> bool:
     return all(map(NAMELESS.search, own[1:]))
 
 
-def awaits_task(thread: Thread) -> bool:
+def awaits_task(thread: JvmThread) -> bool:
     """Whether a thread waits for a task or a future, which nobody does for ever by intent, unless it is main."""
     return thread.name != "main" and TASK.fullmatch(place_of(thread).call) is not None
 
 
-def is_receive(place: Place) -> bool:
+def is_receive(place: JvmPlace) -> bool:
     """Whether one waits for its next message."""
     return INBOX.fullmatch(place.call) is not None
 
 
-def is_for_the_end(place: Place) -> bool:
+def is_for_the_end(place: JvmPlace) -> bool:
     """Whether one waits where main does until a signal or a hook ends the program."""
     return FOR_THE_END.fullmatch(place.call) is not None
 
@@ -232,7 +232,7 @@ def short(method: str) -> str:
 
 
 @dataclass
-class Place:
+class JvmPlace:
     """Where a thread stands: its frames as facts match them, the call that the topmost makes, and, if it is idle, a few
     words that say how. `above` are the methods of that call, topmost first."""
 
@@ -249,13 +249,13 @@ class Place:
         return self.known[pattern]
 
 
-def place_of(thread: Thread) -> Place:
+def place_of(thread: JvmThread) -> JvmPlace:
     """Returns where a thread stands."""
     return place_at(stack_of(thread))
 
 
 @lru_cache(maxsize=4096)
-def place_at(stack: Stack) -> Place:
+def place_at(stack: Stack) -> JvmPlace:
     """Returns where a thread with some frames stands. The threads of a pool share one, which isn't changed."""
     methods = [method for method, _, _ in stack]
     own = first_of(methods, is_own)
@@ -269,7 +269,7 @@ def place_at(stack: Stack) -> Place:
     frames = [frame(*row) for row in wanted]
     called = [method for method in methods[:start] if not MADE.match(method)]
     reached = methods if own is None else methods[:own + 1]
-    return Place(frames, short(called[-1]) if called else "", above, idle_label(reached))
+    return JvmPlace(frames, short(called[-1]) if called else "", above, idle_label(reached))
 
 
 @lru_cache(maxsize=4096)
@@ -282,7 +282,7 @@ def first_of(methods: List[str], holds: Callable[[str], bool]) -> Optional[int]:
     return next((number for number, method in enumerate(methods) if holds(method)), None)
 
 
-def caller_of(thread: Thread) -> str:
+def caller_of(thread: JvmThread) -> str:
     """The method that waits: the first that isn't between a wait and whoever called it."""
     return next((row.method for row in thread.frames if not is_like(MACHINERY, row.method)), "")
 

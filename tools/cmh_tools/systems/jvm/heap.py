@@ -14,7 +14,7 @@ from ..base import misfits
 from .frames import FINDS_THREADS, is_in, is_of_jvm
 from .locks import Locks
 from .rows import LABEL, Label, frames_of, key_of, label_of, plain, trees_in
-from .text import Dump, Thread, stack_of
+from .text import JvmDump, JvmThread, stack_of
 
 MARK = "# cmh heap "
 WAITS = re.compile(r"java\.lang\.Object\.wait0?")
@@ -37,7 +37,7 @@ VERSIONS: Dict[Any, Dict[str, Any]] = {1: OLD_ROW, 2: ROW}
 
 
 @dataclass
-class Wait:
+class HeapWait:
     """What a heap shows of the wait of a thread: of which of KINDS it is, whom it waits for, and who else has at hand
     what it waits for. `is_full` says that the pool of a queued task takes no more threads, and `is_direct` that who
     computes the first future of a chain also does what follows. `reach` has those who have a reference to what it waits
@@ -63,25 +63,25 @@ class Reached(NamedTuple):
 
 
 @dataclass
-class Heap:
+class JvmHeap:
     """The waits in a heap dump, and its time."""
 
     place: str
     time: float = 0.0
-    waits: Dict[Label, Wait] = field(default_factory=dict)
+    waits: Dict[Label, HeapWait] = field(default_factory=dict)
 
-    def row_of(self, thread: Thread) -> Optional[Wait]:
+    def row_of(self, thread: JvmThread) -> Optional[HeapWait]:
         """Returns what it shows of a thread, wherever that stood."""
         label = label_of(thread)
         return self.waits.get(label) if label else None
 
 
-def read_heap(path: str, text: str) -> Optional[Heap]:
+def read_heap(path: str, text: str) -> Optional[JvmHeap]:
     """Returns the heap of a text, or None if it has none. Raises Refusal if its rows aren't whole."""
     rows = trees_in(path, text, MARK, "heap")
     if not rows:
         return None
-    heap, head, end = Heap(rows[0][0]), rows[0][1], rows[-1][1]
+    heap, head, end = JvmHeap(rows[0][0]), rows[0][1], rows[-1][1]
     version = head.get("version")
     is_known = type(version) is int and version in VERSIONS and set(head) == {"version", "time"}
     if not is_known or end != {"end": len(rows) - 2}:
@@ -98,15 +98,15 @@ def read_heap(path: str, text: str) -> Optional[Heap]:
     return heap
 
 
-def wait_of_row(row: Dict[str, Any]) -> Wait:
+def wait_of_row(row: Dict[str, Any]) -> HeapWait:
     whom, besides = (list(map(key_of, row.get(key, []))) for key in ("for", "besides"))
     reach = row.get("reach", row["for"] if row["waits"] == REACH else None)
-    return Wait(row["waits"], list(map(plain, row["frames"])), [] if row["waits"] == REACH else whom, besides,
-                row.get("is_full", False), row.get("is_direct", False),
-                None if reach is None else list(dict.fromkeys(map(key_of, reach))), row.get("is_all", False))
+    return HeapWait(row["waits"], list(map(plain, row["frames"])), [] if row["waits"] == REACH else whom, besides,
+                    row.get("is_full", False), row.get("is_direct", False),
+                    None if reach is None else list(dict.fromkeys(map(key_of, reach))), row.get("is_all", False))
 
 
-def is_named(thread: Thread) -> bool:
+def is_named(thread: JvmThread) -> bool:
     """Whether a thread is, or may be, in Object.wait() at what others come to by its name: a text or a class."""
     if not is_in(WAITS, stack_of(thread)[:1]):
         return False
@@ -114,12 +114,12 @@ def is_named(thread: Thread) -> bool:
     return not classes or any(map(NAMED.fullmatch, classes))
 
 
-def waits_for_class(thread: Thread, locks: Locks) -> bool:
+def waits_for_class(thread: JvmThread, locks: Locks) -> bool:
     """Whether a thread waits until another one has initialised a class."""
     return locks.class_of(thread) != "" or thread.state == "RUNNABLE" and "in Object.wait" in thread.status
 
 
-def is_between(heap: Heap, dumps: List[Dump]) -> bool:
+def is_between(heap: JvmHeap, dumps: List[JvmDump]) -> bool:
     """Whether a heap was dumped after the first of some states and before the next."""
     times = [dump.time for dump in dumps if dump.time]
     return len(times) == len(dumps) > 1 and times[0][1] <= heap.time <= times[1][0]
@@ -128,27 +128,27 @@ def is_between(heap: Heap, dumps: List[Dump]) -> bool:
 class HeapView:
     """What a heap says of the threads of one state. `there` has these by their labels."""
 
-    def __init__(self, heap: Optional[Heap], threads: List[Thread], names: Dict[str, str], locks: Locks) -> None:
+    def __init__(self, heap: Optional[JvmHeap], threads: List[JvmThread], names: Dict[str, str], locks: Locks) -> None:
         self.heap, self.names, self.locks = heap, names, locks
         self.threads = {thread.key: thread for thread in threads}
         labels = [(label_of(thread), thread) for thread in threads] if heap else []
-        self.there: Dict[Label, Thread] = {label: thread for label, thread in labels if label}
+        self.there: Dict[Label, JvmThread] = {label: thread for label, thread in labels if label}
         self.is_searched = any(is_in(FINDS_THREADS, stack_of(thread)) for thread in threads)
         self.calling = [label_of(thread) for thread in threads if heap and waits_for_class(thread, locks)]
 
-    def wait_of(self, thread: Thread) -> Optional[Wait]:
+    def wait_of(self, thread: JvmThread) -> Optional[HeapWait]:
         """Returns what the heap shows of a thread, if that stood at the same place."""
         wait = self.heap.row_of(thread) if self.heap else None
         return wait if wait and wait.frames == frames_of(thread)[:len(wait.frames)] else None
 
-    def is_elsewhere(self, thread: Thread) -> bool:
+    def is_elsewhere(self, thread: JvmThread) -> bool:
         """Whether the heap shows a thread at another place, so that it has moved, or one of the texts isn't whole."""
         return self.heap is not None and self.heap.row_of(thread) is not None and self.wait_of(thread) is None
 
     def names_of(self, labels: List[Label]) -> List[str]:
         return [self.names[self.there[label].key] for label in labels if label in self.there]
 
-    def reach_of(self, thread: Thread) -> Optional[Reached]:
+    def reach_of(self, thread: JvmThread) -> Optional[Reached]:
         """Returns who has a reference to what a thread waits at, or to the thread, or None if anybody may: also where
         what others come to by a name is waited at, as an interned text, or where somebody looks for threads without a
         reference. One that calls what waits for a class may have one: no heap dump has the arguments of a call that
@@ -171,7 +171,7 @@ class HeapView:
         labels = {label for wait in rows for label in wait.reach or ()}.union(filter(None, self.calling))
         return {self.there[label].key for label in labels if label in self.there and is_of_jvm(self.there[label])}
 
-    def stands(self, thread: Thread) -> bool:
+    def stands(self, thread: JvmThread) -> bool:
         """Whether a thread was at one wait all the time between the two states. One that is blocked at a monitor uses
         some processor time: it was, if the owner was, or is blocked itself by a thread that it blocks."""
         seen = set()

@@ -7,7 +7,7 @@ from functools import lru_cache
 from typing import DefaultDict, Dict, List, NamedTuple, Optional, Set
 
 from .frames import is_in
-from .text import CLASS_INIT, PARKED, Stack, Thread, stack_of
+from .text import CLASS_INIT, PARKED, Stack, JvmThread, stack_of
 
 NO_OBJECT = "no object reference available"
 RELOCK, INITIALISER = "waiting to re-lock in wait()", ".<clinit>"
@@ -26,7 +26,7 @@ class Monitors(NamedTuple):
     given: List[str]
 
 
-def monitors_of(thread: Thread) -> Monitors:
+def monitors_of(thread: JvmThread) -> Monitors:
     marks = [mark for frame in thread.frames for mark in frame.marks]
     waited = [thing for kind, thing in marks if kind in (RELOCK, "waiting on") and thing != NO_OBJECT]
     given = waited or joined_by(thread)
@@ -36,7 +36,7 @@ def monitors_of(thread: Thread) -> Monitors:
     return Monitors([], [], locked) if len(locked) == 1 else Monitors([], locked, [])
 
 
-def joined_by(thread: Thread) -> List[str]:
+def joined_by(thread: JvmThread) -> List[str]:
     """Returns the monitor of the thread that one joins, if the state shows it: Thread.join locks it, and no other, and
     gives it back by waiting. Compiled code doesn't show what it waits on."""
     inner = next((frame for frame in thread.frames if frame.method not in WAITS), None)
@@ -45,17 +45,17 @@ def joined_by(thread: Thread) -> List[str]:
     return locked if len(locked) == 1 else []
 
 
-def marks_of(thread: Thread, wanted: str) -> List[str]:
+def marks_of(thread: JvmThread, wanted: str) -> List[str]:
     """The objects of one kind of marks under the first frame, where what a thread waits for stands."""
     return [thing for kind, thing in thread.frames[0].marks if kind == wanted] if thread.frames else []
 
 
-def wanted_of(thread: Thread, held: Monitors) -> List[str]:
+def wanted_of(thread: JvmThread, held: Monitors) -> List[str]:
     """Returns the monitor that a thread waits to enter, if the state shows it."""
     return (marks_of(thread, "waiting to lock") or held.given)[:1] if thread.state == "BLOCKED" else []
 
 
-def objects_of(thread: Thread, held: Monitors) -> List[str]:
+def objects_of(thread: JvmThread, held: Monitors) -> List[str]:
     """Returns what a thread waits at, if the state shows it."""
     things = marks_of(thread, PARKED) or held.given or marks_of(thread, CLASS_INIT)
     return wanted_of(thread, held) or things[:1]
@@ -75,7 +75,7 @@ class Locks:
     writers in order to write, or to read. `shown` is `found_owners` of a Dump.
     """
 
-    def __init__(self, threads: List[Thread], shown: Dict[str, str]) -> None:
+    def __init__(self, threads: List[JvmThread], shown: Dict[str, str]) -> None:
         self.holders: DefaultDict[str, List[str]] = defaultdict(list)
         self.perhaps: DefaultDict[str, List[str]] = defaultdict(list)
         self.owners: DefaultDict[str, List[str]] = defaultdict(list)
@@ -91,7 +91,7 @@ class Locks:
             self.add(thread)
         self.add_shown(threads, shown)
 
-    def add_shown(self, threads: List[Thread], shown: Dict[str, str]) -> None:
+    def add_shown(self, threads: List[JvmThread], shown: Dict[str, str]) -> None:
         """Adds the owners in the deadlocks that the JVM itself has found."""
         called: DefaultDict[str, List[str]] = defaultdict(list)
         for thread in threads:
@@ -101,7 +101,7 @@ class Locks:
                 for held in (self.holders, self.owners):
                     held[lock] = held.get(lock) or called[owner]
 
-    def add(self, thread: Thread) -> None:
+    def add(self, thread: JvmThread) -> None:
         """Adds what the text of a thread says. One whose text isn't understood may hold what it doesn't say."""
         held = monitors_of(thread)
         for monitor in held.perhaps:
@@ -128,7 +128,7 @@ class Locks:
         """Returns who surely holds a monitor that a thread wants, or the first two if the state contradicts itself."""
         return [holder for holder in self.holders.get(monitor, [])[:3] if holder != key][:2]
 
-    def owner(self, thread: Thread) -> Optional[str]:
+    def owner(self, thread: JvmThread) -> Optional[str]:
         """Returns the key of the one who owns what a thread is parked at, where the state shows it."""
         key = f"#{thread.waits_for_owner}"
         if key in self.named:
@@ -137,7 +137,7 @@ class Locks:
         return keys[0] if len(keys) == 1 else None
 
     @staticmethod
-    def class_of(thread: Thread) -> str:
+    def class_of(thread: JvmThread) -> str:
         """Returns the class whose initialiser a thread waits for, or nothing."""
         return next(iter(marks_of(thread, CLASS_INIT)), "")
 

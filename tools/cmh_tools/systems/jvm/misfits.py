@@ -9,7 +9,7 @@ from typing import DefaultDict, Dict, List, Set
 
 from ...sketch import quote
 from .frames import CONDITION, JDK, LIBRARY, MACHINERY, OF_QUEUES, caller_of, is_like
-from .text import OWNERS, PARKED, Dump, Stack, Thread, stack_of
+from .text import OWNERS, PARKED, JvmDump, Stack, JvmThread, stack_of
 
 # The first frame of one that waits, by what its state says besides.
 TOPS = {"parking": re.compile(r"(?:jdk\.internal|sun)\.misc\.Unsafe\.park"),
@@ -50,7 +50,7 @@ STATES = ("", "NEW", "RUNNABLE", "BLOCKED", "WAITING", "TIMED_WAITING", "TERMINA
 NEAR = 6  # frames in which a queue of the JDK stands above whoever waits in it
 
 
-def add_faults(dump: Dump) -> None:
+def add_faults(dump: JvmDump) -> None:
     """Says of the threads of what jstack prints which of them may lack lines."""
     for thread in dump.threads:
         thread.fault = thread.fault or misfit(thread, dump)
@@ -59,7 +59,7 @@ def add_faults(dump: Dump) -> None:
         thread.fault = thread.fault or f"{thread.place}: it waits at {condition} by other frames than others do"
 
 
-def misfit(thread: Thread, dump: Dump) -> str:
+def misfit(thread: JvmThread, dump: JvmDump) -> str:
     """Returns what of the text of a thread doesn't fit the rest, so that lines may be missing, or nothing."""
     top = thread.frames[0] if thread.frames else None
     if thread.number and not thread.state and not thread.is_virtual:
@@ -115,7 +115,7 @@ def misfit_of_park(stack: Stack, parked_class: str) -> str:
     return ""
 
 
-def crossed(dump: Dump) -> Dict[str, str]:
+def crossed(dump: JvmDump) -> Dict[str, str]:
     """Returns the keys of those that wait at one condition, each with that, where the one waits within a class of the
     JDK, and the other within another or none: such a condition is of one class alone."""
     callers: DefaultDict[str, Set[str]] = defaultdict(set)

@@ -18,13 +18,13 @@ from ...snapshots import APART, ONCE, WHOLE, WOKEN, Reading
 from .. import State
 from ..base import Break, Parser, break_wait
 from .dumps import read_dumps
-from .frames import (AGAIN, BARRIER, CLEANER, HAS_TIMER, LIMITS_FUTURES, MEETS, NEEDS_ALL, REENTRANT, Place,
+from .frames import (AGAIN, BARRIER, CLEANER, HAS_TIMER, LIMITS_FUTURES, MEETS, NEEDS_ALL, REENTRANT, JvmPlace,
                      has_limit, is_at_rest, is_in, is_of_jvm, place_of)
-from .heap import TIMER, Heap, HeapView, is_between, read_heap
+from .heap import TIMER, JvmHeap, HeapView, is_between, read_heap
 from .locks import Locks
 from .states import check_dumps, doubt_threads, is_coarse, missing_of, names_of
-from .text import Dump, Thread, stack_of
-from .waits import MAIN, NATIVE, TIMED, Everybody, Threads, has_stood, is_locking, meetings_of, wait_of
+from .text import JvmDump, JvmThread, stack_of
+from .waits import MAIN, NATIVE, TIMED, Everybody, JvmThreads, has_stood, is_locking, meetings_of, wait_of
 from .whole import add_inner, count_owned, kernel_thread, owner_of
 
 ELSEWHERE = "the heap shows it at another place, so its wait may have ended between the looks"
@@ -32,7 +32,7 @@ ELSEWHERE = "the heap shows it at another place, so its wait may have ended betw
 ODD_MARK = re.compile(r"^# cmh(?! (?:began|ended|heap|virtual|limits|code) ).{0,9}", re.M)
 
 
-def lost_of(dump: Dump, has_heap: bool, odd: str) -> str:
+def lost_of(dump: JvmDump, has_heap: bool, odd: str) -> str:
     """Returns what the lines of take-jvm around a dump lack, or nothing. `odd` is one that isn't understood."""
     if odd:
         return f"{dump.path}: a line begins with {quote(odd)}, which isn't understood"
@@ -46,13 +46,13 @@ class JvmParser(Parser):
     """The threads of one JVM, but for its own."""
 
     NAME, IDLE, MOMENT = "jvm", "threads", WOKEN
-    SNAPSHOT_CLASS = Threads
+    SNAPSHOT_CLASS = JvmThreads
     BREAKS = {NATIVE: Break(has_stood)}
 
     def __init__(self) -> None:
-        self.dumps: List[Dump] = []
+        self.dumps: List[JvmDump] = []
         self.names: Dict[str, str] = {}
-        self.heap: Optional[Heap] = None
+        self.heap: Optional[JvmHeap] = None
         self.everybody = Everybody([], [], [])
         self.scheduled: Set[str] = set()
 
@@ -85,14 +85,14 @@ class JvmParser(Parser):
         main = next((self.names[thread.key] for thread in threads if thread.name == MAIN), "")
         self.everybody = Everybody(list(able), self.periodic(threads), list(newcomers) if self.heap else [], main)
 
-    def periodic(self, threads: List[Thread]) -> List[str]:
+    def periodic(self, threads: List[JvmThread]) -> List[str]:
         """Returns the names of the timers that have nothing to do but what they do again and again."""
         rows = [(thread, self.heap.row_of(thread)) for thread in threads] if self.heap else []
         others = {thread.key for thread, wait in rows if wait is None or wait.kind != TIMER or not place_of(thread).has(
             HAS_TIMER)}
         return list(dict.fromkeys(self.names[thread.key] for thread, _ in rows if thread.key not in others))
 
-    def prepare(self, snapshot: Threads) -> None:
+    def prepare(self, snapshot: JvmThreads) -> None:
         snapshot.dump, = snapshot.rows()
         threads = snapshot.threads = snapshot.dump.threads
         snapshot.by_key = {thread.key: thread for thread in threads}
@@ -114,11 +114,11 @@ class JvmParser(Parser):
         snapshot.shows_owners = (snapshot.counts and not snapshot.lacks() and any(thread.owned for thread in threads)
                                  and not any(map(is_locking, threads)))
 
-    def processes(self, snapshot: Threads) -> Iterable[Thread]:
+    def processes(self, snapshot: JvmThreads) -> Iterable[JvmThread]:
         held = snapshot.locks.wanted_holders() | snapshot.heap.inner_keys()
         return [thread for thread in snapshot.threads if thread.key in held or not is_of_jvm(thread)]
 
-    def process_of(self, subject: Thread, snapshot: Threads) -> Process:
+    def process_of(self, subject: JvmThread, snapshot: JvmThreads) -> Process:
         thread, name, site = subject, self.names[subject.key], site_of(snapshot.dump)
         if thread.fault:
             return garbled(name, thread.fault, site=site)
@@ -145,7 +145,7 @@ class JvmParser(Parser):
         set_count(process, thread, place, snapshot)
         return process
 
-    def finish(self, sketch: Sketch, snapshots: List[Threads]) -> None:
+    def finish(self, sketch: Sketch, snapshots: List[JvmThreads]) -> None:
         count_owned(sketch.processes, [snapshot.moments for snapshot in snapshots])
         add_inner(sketch, snapshots)
         warnings = [line for dump in self.dumps for line in dump.warnings]
@@ -157,7 +157,7 @@ class JvmParser(Parser):
                 process.parts = [(wakers("same-process", [process.name]), *part) for part in process.parts]
 
 
-def taken_in(thread: Thread, snapshot: Threads) -> str:
+def taken_in(thread: JvmThread, snapshot: JvmThreads) -> str:
     """Returns who has the monitor that a thread waits to enter, and in which frame it was taken, if the state shows
     that."""
     wanted = snapshot.locks.wanted.get(thread.key, "")
@@ -168,7 +168,7 @@ def taken_in(thread: Thread, snapshot: Threads) -> str:
     return f", which {snapshot.names[keys[0]]} took in {places[-1]}" if places else ""
 
 
-def awake_of(dump: Dump) -> List[Thread]:
+def awake_of(dump: JvmDump) -> List[JvmThread]:
     """Returns the job's threads, but for those that do nothing until another one gives it to them. Workers of pools
     that end after a time are such ones, but for the last one: the JVM ends with the last thread that is no daemon, and
     the job's hooks run then."""
@@ -178,7 +178,7 @@ def awake_of(dump: Dump) -> List[Thread]:
             if not is_at_rest(thread) or not (stays or thread.is_daemon) and has_limit(thread)]
 
 
-def set_count(process: Process, thread: Thread, place: Place, snapshot: Threads) -> None:
+def set_count(process: Process, thread: JvmThread, place: JvmPlace, snapshot: JvmThreads) -> None:
     """Sets the processor time as its count. Who is blocked at a monitor, or only waits again, wakes up by itself and
     uses some, so that it counts nothing there."""
     is_once = snapshot.moments.get(process.name) == ONCE
@@ -188,5 +188,5 @@ def set_count(process: Process, thread: Thread, place: Place, snapshot: Threads)
     process.because = process.because + ([premise(TIMED)] if process.sign in WAITING else [])
 
 
-def site_of(dump: Dump) -> str:
+def site_of(dump: JvmDump) -> str:
     return f"JVM {dump.pid}" if dump.pid else "the JVM"

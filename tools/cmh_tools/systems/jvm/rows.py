@@ -8,7 +8,7 @@ from typing import Any, Dict, List, Optional, Tuple
 
 from ...files import Refusal, shown
 from ..base import once_each
-from .text import Thread
+from .text import JvmThread
 
 BUILT = re.compile(r"\$\$Lambda.*(?=\.)|[+/]0x[0-9a-f]+(?=\.)")  # what jstack and a heap dump write differently
 IDENTITY = re.compile(r"0x[0-9a-f]{1,16}")
@@ -37,7 +37,7 @@ def key_of(label: List[Any]) -> Label:
     return label[0], int(label[1], 16)
 
 
-def label_of(thread: Thread) -> Optional[Label]:
+def label_of(thread: JvmThread) -> Optional[Label]:
     """Returns by what a row knows a thread, or None if the text doesn't say it."""
     is_known = thread.number and IDENTITY.fullmatch(thread.identity)
     return (int(thread.number or 0), int(thread.identity, 16)) if is_known else None
@@ -48,7 +48,7 @@ def plain(frame: str) -> str:
     return BUILT.sub("", frame)
 
 
-def frames_of(thread: Thread) -> List[str]:
+def frames_of(thread: JvmThread) -> List[str]:
     """Returns the frames of a thread as rows have them: those without a line have a negative number there."""
     return [plain(f"{frame.method}:{-3 if frame.native else -1 if frame.line is None else frame.line}")
             for frame in thread.frames]

@@ -10,7 +10,7 @@ from ...files import Refusal
 from ...snapshots import PARTS, Reading
 from .frames import is_of_jvm
 from .locks import monitors_of, objects_of
-from .text import Dump, Thread, stack_of
+from .text import JvmDump, JvmThread, stack_of
 
 CONTRADICTS = "the states contradict each other in the first line of a thread"
 HIDDEN = re.compile(r"(.+?)[/+](0x[0-9a-f]+)\.")
@@ -18,7 +18,7 @@ TICKS = (10, 15.625)  # milliseconds in which some operating systems count proce
 VIRTUAL = "jstack shows no virtual threads: take `jcmd PID Thread.dump_to_file -format=json FILE` twice instead"
 
 
-def check_dumps(dumps: List[Dump]) -> None:
+def check_dumps(dumps: List[JvmDump]) -> None:
     """Raises Refusal unless all are of one JVM, in the order of time, and sees through the collector."""
     for before, later in zip(dumps, dumps[1:]):
         check_same(dumps[0], later)
@@ -27,14 +27,14 @@ def check_dumps(dumps: List[Dump]) -> None:
         follow(dumps[0], later)
 
 
-def check_same(first: Dump, later: Dump) -> None:
+def check_same(first: JvmDump, later: JvmDump) -> None:
     """Raises Refusal if two states have no thread in common, so that they are of two JVMs."""
     before = {thread.identity for thread in first.threads if thread.identity}
     if before and not any(thread.identity in before for thread in later.threads):
         raise Refusal(f"{later.path}: it has no thread of {first.path}: two states of one JVM are expected")
 
 
-def check_different(first: Dump, later: Dump) -> None:
+def check_different(first: JvmDump, later: JvmDump) -> None:
     """Raises Refusal if one state is there twice: two that are alike would show waits that it alone doesn't."""
     before, after = ({thread.key: thread.elapsed for thread in dump.threads if thread.elapsed}
                      for dump in (first, later))
@@ -45,7 +45,7 @@ def check_different(first: Dump, later: Dump) -> None:
                       "say 'still' in the facts if you know that nothing moves")
 
 
-def check_order(first: Dump, later: Dump) -> None:
+def check_order(first: JvmDump, later: JvmDump) -> None:
     """Raises Refusal if a state was taken before the first: then who has come since would have ended. A compiler of the
     JVM that ends, and begins again, has the same number and another address."""
     before = {(thread.key, thread.identity): float(thread.elapsed) for thread in first.threads if thread.elapsed}
@@ -71,13 +71,13 @@ def doubt_threads(readings: List[Reading]) -> None:
             reading.extent, reading.missing = PARTS, reading.missing or f"{odd[0].place}: {CONTRADICTS}"
 
 
-def hidden_in(thread: Thread) -> List[Tuple[str, str]]:
+def hidden_in(thread: JvmThread) -> List[Tuple[str, str]]:
     """Returns the names of the hidden classes in whose methods a thread is, each with its address: a class of a lambda
     has one name."""
     return [(match[1], match[2]) for frame in thread.frames for match in [HIDDEN.match(frame.method)] if match]
 
 
-def may_follow(before: Optional[Thread], thread: Thread, newest: int) -> bool:
+def may_follow(before: Optional[JvmThread], thread: JvmThread, newest: int) -> bool:
     """Whether a thread may be that of an earlier state, or a new one."""
     if before is None:
         return thread.number is None or int(thread.number) > newest
@@ -85,7 +85,7 @@ def may_follow(before: Optional[Thread], thread: Thread, newest: int) -> bool:
     return not is_less and (before.identity, before.native) == (thread.identity, thread.native)
 
 
-def follow(first: Dump, later: Dump) -> None:
+def follow(first: JvmDump, later: JvmDump) -> None:
     """Sees through the collector, which moves objects: who has the same frames in two states is at the same place,
     also if the address there is another one. Whether it has been there all the time, its processor time says."""
     before = {thread.key: thread for thread in first.threads}
@@ -102,7 +102,7 @@ def follow(first: Dump, later: Dump) -> None:
             thread.has_ticked = old.has_ticked = True
 
 
-def names_of(dumps: List[Dump]) -> Dict[str, str]:
+def names_of(dumps: List[JvmDump]) -> Dict[str, str]:
     """Returns the name of each thread by its key: its own, the first if it has several, with a number if it isn't the
     only one of that name."""
     given = {thread.key: thread.name for dump in reversed(dumps) for thread in dump.threads}
@@ -122,13 +122,13 @@ def names_of(dumps: List[Dump]) -> Dict[str, str]:
     return own
 
 
-def is_coarse(dump: Dump) -> bool:
+def is_coarse(dump: JvmDump) -> bool:
     """Whether the processor times are those of ticks alone, in which a thread may be woken many times."""
     times = [float(thread.cpu) for thread in dump.threads if thread.cpu and float(thread.cpu)]
     return any(all(abs(time / tick - round(time / tick)) * tick < 0.01 for time in times) for tick in TICKS)
 
 
-def missing_of(dump: Dump) -> str:
+def missing_of(dump: JvmDump) -> str:
     """Returns why threads aren't in a dump, if they may not be."""
     odd = next((thread.fault for thread in dump.threads if thread.fault), dump.lost)
     if odd:

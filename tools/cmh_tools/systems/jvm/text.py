@@ -57,7 +57,7 @@ OF_WAITS = ("waiting on", "waiting to lock", "waiting to re-lock in wait()", PAR
 
 
 @dataclass
-class Frame:
+class JvmFrame:
     """A frame of a stack: 'Orders.book', 'Orders.java', 37. `marks` are the pairs of a kind and an object under it."""
 
     method: str
@@ -66,8 +66,8 @@ class Frame:
     native: bool = False
     marks: List[Tuple[str, str]] = field(default_factory=list)
 
-    def with_marks(self, marks: List[Tuple[str, str]]) -> Frame:
-        return Frame(self.method, self.file, self.line, self.native, marks)
+    def with_marks(self, marks: List[Tuple[str, str]]) -> JvmFrame:
+        return JvmFrame(self.method, self.file, self.line, self.native, marks)
 
 
 # The frames of a thread, topmost first: method, file and line of each.
@@ -75,7 +75,7 @@ Stack = Tuple[Tuple[str, str, Optional[int]], ...]
 
 
 @dataclass
-class Thread:
+class JvmThread:
     """A thread of one state. `key` tells it from others of its JVM, `identity`, if it isn't empty, from those of other
     JVMs too, and `native` is its number in the kernel; `place` is where it was read, and `has_top` says that by its
     first line it has frames. `parked_class` is the class of what it is parked at, `monitors` has the class of each
@@ -100,7 +100,7 @@ class Thread:
     elapsed: str = ""
     is_virtual: bool = False
     is_daemon: bool = False
-    frames: List[Frame] = field(default_factory=list)
+    frames: List[JvmFrame] = field(default_factory=list)
     stack: Stack = ()
     owned: Dict[str, str] = field(default_factory=dict)
     lists_owned: bool = False
@@ -116,14 +116,14 @@ class Thread:
     is_of_file: bool = False
 
 
-def stack_of(thread: Thread) -> Stack:
+def stack_of(thread: JvmThread) -> Stack:
     if len(thread.stack) != len(thread.frames):
         thread.stack = tuple((frame.method, frame.file, frame.line) for frame in thread.frames)
     return thread.stack
 
 
 @dataclass
-class Dump:
+class JvmDump:
     """The threads of a state. `pid` is that of the JVM, `machine` and `time` where it was read, and from when to when,
     and `launcher` the first thread of a program `java`, which only waits for main, if the text has them. `found_owners`
     has the name of the owner of each lock in the deadlocks that the JVM itself has found, `has_owners` says whether
@@ -133,7 +133,7 @@ class Dump:
     """
 
     path: str
-    threads: List[Thread] = field(default_factory=list)
+    threads: List[JvmThread] = field(default_factory=list)
     warnings: List[str] = field(default_factory=list)
     pid: str = ""
     machine: str = ""
@@ -159,18 +159,18 @@ class Dump:
             self.warnings.append(f"{self.path}: {self.odd - SHOWN} more lines aren't understood")
 
 
-def frame_of(matched: "re.Match[str]") -> Frame:
+def frame_of(matched: "re.Match[str]") -> JvmFrame:
     """Returns the frame of a line that FRAME matches."""
     place = matched["place"]
     location = LOCATION.fullmatch(place)
-    frame = Frame(matched["method"].strip(), native="Native Method" in place)
+    frame = JvmFrame(matched["method"].strip(), native="Native Method" in place)
     if location and location["line"] and location["file"]:
         frame.file, frame.line = location["file"], int(location["line"])
     return frame
 
 
 @functools.lru_cache(maxsize=4096)
-def frame_of_line(line: str) -> Optional[Frame]:
+def frame_of_line(line: str) -> Optional[JvmFrame]:
     """Returns the frame of a line, or None. Many threads have the same ones, so it is kept, and isn't changed."""
     matched = FRAME.fullmatch(line)
     return frame_of(matched) if matched else None
@@ -181,7 +181,7 @@ def is_plain(line: str) -> bool:
     return PLAIN.fullmatch(line) is not None
 
 
-def add_line(thread: Thread, line: str) -> bool:
+def add_line(thread: JvmThread, line: str) -> bool:
     """Adds a line of the block of a thread to it. Returns whether it is understood. Its state and its frames stand
     before the first empty line: after that, they are those of a thread whose first line is missing."""
     text = line.lstrip()
@@ -205,7 +205,7 @@ def add_line(thread: Thread, line: str) -> bool:
     return True
 
 
-def add_mark(thread: Thread, marks: Dict[str, Any]) -> bool:
+def add_mark(thread: JvmThread, marks: Dict[str, Any]) -> bool:
     """Adds a mark to the last frame. Returns whether it may stand there: what a thread waits for is under its first."""
     kind = marks.get("kind") or CLASS_INIT
     if not thread.frames or thread.is_closed or kind in OF_WAITS and thread.frames[1:]:
@@ -221,11 +221,11 @@ def add_mark(thread: Thread, marks: Dict[str, Any]) -> bool:
 
 
 @functools.lru_cache(maxsize=4096)
-def pattern_of(text: str) -> Optional[Thread]:
+def pattern_of(text: str) -> Optional[JvmThread]:
     """Returns a thread by what stands under its first line, with numbers in place of objects. Threads of a pool differ
     in these alone. Returns None if a line isn't understood, or tells of another thread."""
     numbers = itertools.count()
-    pattern = Thread("", "", "")
+    pattern = JvmThread("", "", "")
     for line in text.replace(SOME, "<{:#x}>").split("\n"):
         line = re.sub("<{:#x}>", lambda _: f"<{next(numbers):#x}>", line)
         if MOUNTED.fullmatch(line) or not add_line(pattern, line):
@@ -233,7 +233,7 @@ def pattern_of(text: str) -> Optional[Thread]:
     return pattern
 
 
-def fill(thread: Thread, pattern: Thread, objects: List[str]) -> None:
+def fill(thread: JvmThread, pattern: JvmThread, objects: List[str]) -> None:
     """Gives a thread what its pattern has, with its own objects."""
     names = {f"{number:#x}": thing for number, thing in enumerate(objects)}
     thread.state, thread.detail, thread.is_closed = pattern.state, pattern.detail, pattern.is_closed
@@ -249,15 +249,15 @@ class PrintReader:
     """Reads one dump of `jstack`: the text from a line 'Full thread dump' to the next one."""
 
     def __init__(self, path: str, text: str, start: int, end: int) -> None:
-        self.path, self.text, self.dump = path, text[start:end], Dump(path)
+        self.path, self.text, self.dump = path, text[start:end], JvmDump(path)
         self.first = text.count("\n", 0, start) + 1
         self.last = text.count("\n", 0, end) + (end == len(text))
-        self.thread: Optional[Thread] = None
+        self.thread: Optional[JvmThread] = None
         before = text[max(start - 400, 0):start].split("\n")[-4:-1]
         self.dump.pid = next((matched[1] for matched in map(PID.fullmatch, before) if matched), "")
         self.began = next(filter(None, map(BEGAN.fullmatch, before)), None)
 
-    def read(self) -> Dump:
+    def read(self) -> JvmDump:
         end = self.text.find("\n" + END)
         if end < 0:
             raise Refusal(f"{self.path}:{self.last}: the dump is cut off: it ends before the line 'JNI global "
@@ -324,7 +324,7 @@ class PrintReader:
                 self.dump.lost = self.dump.lost or f"{place} belongs to no thread"
         elif mounted := MOUNTED.fullmatch(line):
             self.thread.lists_owned = True  # (below the frames of the one that it carries)
-            self.thread = Thread("", f"#{mounted[1]}", place, mounted[1], is_virtual=True)
+            self.thread = JvmThread("", f"#{mounted[1]}", place, mounted[1], is_virtual=True)
             self.dump.threads.append(self.thread)
         elif not add_line(self.thread, line):
             self.dump.warn(place, line)
@@ -333,7 +333,7 @@ class PrintReader:
         elif OWNERS in line:
             self.dump.has_owners = True
 
-    def begin(self, line: str, place: str) -> Thread:
+    def begin(self, line: str, place: str) -> JvmThread:
         """Begins the block of a thread."""
         head = HEADER.fullmatch(line)
         if head is None:
@@ -344,8 +344,8 @@ class PrintReader:
         status = (head["status"] or "").strip()
         native = head["nid"] or ""
         native = str(int(native, 16)) if native.startswith("0x") else native
-        thread = Thread(head["name"], key, place, number, head["tid"], native, status=status,
-                        has_top=bool(head["top"]), cpu=head["cpu"], elapsed=head["elapsed"] or "",
-                        is_daemon=bool(head["daemon"]))
+        thread = JvmThread(head["name"], key, place, number, head["tid"], native, status=status,
+                           has_top=bool(head["top"]), cpu=head["cpu"], elapsed=head["elapsed"] or "",
+                           is_daemon=bool(head["daemon"]))
         self.dump.threads.append(thread)
         return thread

@@ -15,13 +15,13 @@ from ...snapshots import ONCE
 from ..base import Snapshot, duration
 from .frames import (AGAIN, BARRIER, CLEANER, COMPUTES, CONDITION, FROM_OUTSIDE, FUTURE, HAS_TASK, HAS_TIMER,
                      INTERRUPTIBLY, LONG, MEETS, NEVER_MEANT, OF_LOCKS, OF_QUEUES, OUTSIDE, POOLS_OWN, READS,
-                     READS_OUTSIDE, READS_PIPE, REENTRANT, RUNS_TASK, SLEEP, SOCKETS, YIELDS, Place, awaits_task,
+                     READS_OUTSIDE, READS_PIPE, REENTRANT, RUNS_TASK, SLEEP, SOCKETS, YIELDS, JvmPlace, awaits_task,
                      caller_of, has_jobs, has_limit, is_for_the_end, is_in, is_own_loop, is_receive, place_of,
                      short)
-from .heap import FUTURES, HOOK, JOIN, LOST, POOL, QUEUED, READERS, STREAM, SUPPLIED, HeapView, Reached, Wait
+from .heap import FUTURES, HOOK, JOIN, LOST, POOL, QUEUED, READERS, STREAM, SUPPLIED, HeapView, Reached, HeapWait
 from .locks import Locks
 from .rows import label_of
-from .text import PARKED, Dump, Thread, stack_of
+from .text import PARKED, JvmDump, JvmThread, stack_of
 
 NATIVE, INITIALISER, QUEUE, TIMED = "native", "initialiser", "queued", "processor-time"
 POOLS, COMPLETES, REACHES = "pools", "completes", "reaches"
@@ -48,7 +48,7 @@ class Everybody:
         self.newcomers: Part = (wakers(TO_COME, newcomers),) if newcomers else ()
 
 
-class Threads(Snapshot):
+class JvmThreads(Snapshot):
     """The dump of one time. `limited` are the keys of those whose wait has a limit, and `breakers` the names of those
     at a barrier; `meetings` has by key at which barrier one waits, if the state shows that of all who wait at one.
     `counts` says that processor times tell one wait from the next. `moved` has at what some wait who haven't stood, or
@@ -57,9 +57,9 @@ class Threads(Snapshot):
     wait with a limit in one state at least: its threads take turns in that. `of_file` has the names of those that were
     read by themselves, beside what jstack prints."""
 
-    dump: Dump
-    threads: List[Thread]
-    by_key: Dict[str, Thread]
+    dump: JvmDump
+    threads: List[JvmThread]
+    by_key: Dict[str, JvmThread]
     names: Dict[str, str]
     everybody: Everybody
     locks: Locks
@@ -81,7 +81,7 @@ class Threads(Snapshot):
         """Those who may be missing, beside those that are named: whoever is found by a search has them anyway."""
         return (wakers("left-out", [REST]),) if self.lacks() else ()
 
-    def able(self, thread: Thread) -> Part:
+    def able(self, thread: JvmThread) -> Part:
         """Returns who may end the wait of a thread at an object of the runtime."""
         reached = self.heap.reach_of(thread)
         if reached is None:
@@ -99,7 +99,7 @@ class Threads(Snapshot):
             self.known_able[lock] = self.everybody.able.without(names)
         return self.known_able[lock]
 
-    def cancelling(self, thread: Thread) -> Part:
+    def cancelling(self, thread: JvmThread) -> Part:
         """Returns who may interrupt a thread, or cancel what it waits for."""
         reached = self.heap.reach_of(thread)
         if reached is None:
@@ -114,7 +114,7 @@ class Threads(Snapshot):
         return (wakers(how, others, premise(REACHES)), *([wakers("repeats", periodic)] if periodic else []),
                 *([wakers("finalizes", reached.inner)] if reached.inner else []), *self.everybody.newcomers)
 
-    def owners(self, thread: Thread) -> Part:
+    def owners(self, thread: JvmThread) -> Part:
         """Returns who has a lock of the JDK's: one at a condition that was signalled still stands there until it gets
         the lock. The JDK's own queues give their locks back at once, unless code of the job runs within."""
         if CONDITION not in thread.parked_class:
@@ -127,7 +127,7 @@ class Threads(Snapshot):
             self.known_owners[inside] = (wakers("releases", names),) if names else ()
         return self.known_owners[inside]
 
-    def runners(self, place: Place) -> Part:
+    def runners(self, place: JvmPlace) -> Part:
         """Returns those who run a task of the kind that one waits for: what one of them runs, or has still to run."""
         task = next((task for call, task in RUNS_TASK if call.fullmatch(place.call)), None)
         if task is None:
@@ -138,7 +138,7 @@ class Threads(Snapshot):
             self.known_runners[task] = (wakers("guess", names),) if names else ()
         return self.known_runners[task]
 
-    def breaking(self, place: Place) -> Part:
+    def breaking(self, place: JvmPlace) -> Part:
         """Returns who may end a wait at a barrier or for a future by a limit: that of a thread that waits there too, or
         one of which a thread of the JDK takes care."""
         names = self.breakers if MEETS.fullmatch(place.call) else self.timers
@@ -147,7 +147,7 @@ class Threads(Snapshot):
         return (wakers("cancels", names),) if names and has_limits else ()
 
 
-def wait_of(thread: Thread, name: str, snapshot: Threads) -> Process:
+def wait_of(thread: JvmThread, name: str, snapshot: JvmThreads) -> Process:
     """Returns what a thread does, as a process with its sign and its wait alone."""
     place = place_of(thread)
     is_limited = has_limit(thread) or thread.key in snapshot.scheduled and place.has(HAS_TIMER)
@@ -172,13 +172,13 @@ def named(name: str, how: str, whom: List[str], because: List[str], *beside: Par
     return blocked(name, any_of(wakers(how, whom), *(more for part in beside for more in part)), because)
 
 
-def owned(name: str, owner: str, because: List[str], snapshot: Threads, *beside: Part) -> Process:
+def owned(name: str, owner: str, because: List[str], snapshot: JvmThreads, *beside: Part) -> Process:
     """One that waits for what another owns, which alone gives it back: one moment shows that."""
     snapshot.moments[name] = ONCE
     return named(name, "owns", [owner], because, *beside)
 
 
-def wait_for_monitor(thread: Thread, name: str, snapshot: Threads) -> Process:
+def wait_for_monitor(thread: JvmThread, name: str, snapshot: JvmThreads) -> Process:
     """One that waits to enter a monitor. One that may have given it back in Object.wait() may have it."""
     wanted = snapshot.locks.wanted.get(thread.key)
     if wanted is None:
@@ -199,7 +199,7 @@ def undecided(name: str, part: Part, why: str) -> Process:
     return blocked(name, any_of(*part, unseen(UNSHOWN, why)), [], reason=why)
 
 
-def wait_with_limit(thread: Thread, place: Place, name: str, snapshot: Threads) -> Process:
+def wait_with_limit(thread: JvmThread, place: JvmPlace, name: str, snapshot: JvmThreads) -> Process:
     """A wait with a limit, or with one that only waits again. A limit that has ended between two states is no long one.
     """
     if place.has(AGAIN):
@@ -216,7 +216,7 @@ def wait_with_limit(thread: Thread, place: Place, name: str, snapshot: Threads) 
                    operation=f"timed {place.call}" if place.call else "")
 
 
-def wait_for_ages(thread: Thread, place: Place, name: str, snapshot: Threads) -> Process:
+def wait_for_ages(thread: JvmThread, place: JvmPlace, name: str, snapshot: JvmThreads) -> Process:
     """A wait whose limit is none, as it ends in more than an hour: of one that only sleeps that is all."""
     ends = unseen("limit", f"its limit ends in {duration(thread.far)}")
     if place.has(SLEEP):
@@ -227,7 +227,7 @@ def wait_for_ages(thread: Thread, place: Place, name: str, snapshot: Threads) ->
     return process
 
 
-def wait_for_pool(thread: Thread, name: str, snapshot: Threads) -> Process:
+def wait_for_pool(thread: JvmThread, name: str, snapshot: JvmThreads) -> Process:
     """One that waits for the end of a pool: of all its threads, if the heap shows these."""
     why = "it has a limit that the state doesn't show, and that may be one of centuries"
     wait = snapshot.heap.wait_of(thread)
@@ -237,7 +237,7 @@ def wait_for_pool(thread: Thread, name: str, snapshot: Threads) -> Process:
     return blocked(name, all_of(workers, "ends", beside=(*snapshot.left_out(), unseen(UNSHOWN, why))), [], reason=why)
 
 
-def wait_without_limit(thread: Thread, place: Place, name: str, snapshot: Threads) -> Process:
+def wait_without_limit(thread: JvmThread, place: JvmPlace, name: str, snapshot: JvmThreads) -> Process:
     owner, parked = snapshot.locks.owner(thread), parked_at(thread)
     beside = (*(snapshot.cancelling(thread) if place.has(INTERRUPTIBLY) else ()), *snapshot.left_out())
     if owner is not None and (thread.parked_class or parked).startswith(OF_THE_JDK):
@@ -258,17 +258,17 @@ def wait_without_limit(thread: Thread, place: Place, name: str, snapshot: Thread
     return wait_for_some(thread, place, name, snapshot)
 
 
-def awaits_close(thread: Thread) -> bool:
+def awaits_close(thread: JvmThread) -> bool:
     """Whether a thread waits until a channel of Netty is closed, as main does that has begun a server."""
     return any(map(CLOSES.fullmatch, thread.monitors))
 
 
-def parked_at(thread: Thread) -> str:
+def parked_at(thread: JvmThread) -> str:
     """Returns the object at which a thread is parked, or nothing."""
     return next((thing for frame in thread.frames[:1] for kind, thing in frame.marks if kind == PARKED), "")
 
 
-def wait_for_some(thread: Thread, place: Place, name: str, snapshot: Threads) -> Process:
+def wait_for_some(thread: JvmThread, place: JvmPlace, name: str, snapshot: JvmThreads) -> Process:
     """One that waits at an object of the runtime. One that takes its next message in the loop of its own thread rests,
     and where no heap says that nobody else may end its wait, a signal or a hook of the program's may. If nobody has a
     reference to what it waits at, it may be meant to wait for ever, but at no queue that is full, nor where several
@@ -293,7 +293,7 @@ def wait_for_some(thread: Thread, place: Place, name: str, snapshot: Threads) ->
     return blocked(name, any_of(*part), because)
 
 
-def wait_to_read(lock: str, name: str, beside: Part, snapshot: Threads) -> Process:
+def wait_to_read(lock: str, name: str, beside: Part, snapshot: JvmThreads) -> Process:
     """One that waits to read with a lock that nobody owns stands in its queue behind one that waits to write. One that
     came later doesn't end its wait. Where that one has a limit, it may be another who never gives the lock back: one
     who has ended."""
@@ -307,7 +307,8 @@ def wait_to_read(lock: str, name: str, beside: Part, snapshot: Threads) -> Proce
     return named(name, "owns", writers, [premise(QUEUE)], beside)
 
 
-def wait_by_heap(thread: Thread, wait: Wait, place: Place, name: str, snapshot: Threads) -> Optional[Process]:
+def wait_by_heap(thread: JvmThread, wait: HeapWait, place: JvmPlace, name: str,
+                 snapshot: JvmThreads) -> Optional[Process]:
     """Returns what a thread waits for without a limit, or None if the heap doesn't say more than who reaches that."""
     heap = snapshot.heap
     if wait.kind == HOOK or wait.kind == JOIN and wait.whom == [label_of(thread)]:
@@ -330,7 +331,7 @@ def wait_by_heap(thread: Thread, wait: Wait, place: Place, name: str, snapshot: 
     return named(name, "ends", whom, because, beside)
 
 
-def besides(wait: Wait, place: Place, snapshot: Threads) -> Part:
+def besides(wait: HeapWait, place: JvmPlace, snapshot: JvmThreads) -> Part:
     """Returns who may end a wait besides those that have to, by what the heap shows of it: whoever has a task or future
     in its frames, a timer of the JDK's, a thread that a pool may begin, and who has moved since."""
     others = snapshot.heap.names_of(wait.besides)
@@ -343,7 +344,7 @@ def besides(wait: Wait, place: Place, snapshot: Threads) -> Part:
               if may_move else []))
 
 
-def wait_for_readers(thread: Thread, wait: Wait, place: Place, name: str, snapshot: Threads) -> Process:
+def wait_for_readers(thread: JvmThread, wait: HeapWait, place: JvmPlace, name: str, snapshot: JvmThreads) -> Process:
     """One that waits to write waits for those who read, and still stand where they did when the heap was dumped:
     another one may have given the lock back since."""
     standing = snapshot.heap.standing(wait.whom)
@@ -355,7 +356,7 @@ def wait_for_readers(thread: Thread, wait: Wait, place: Place, name: str, snapsh
     return blocked(name, all_of(snapshot.heap.names_of(standing), "owns", beside=beside), [SYSTEM])
 
 
-def run_or_wait(thread: Thread, place: Place, name: str, snapshot: Threads) -> Process:
+def run_or_wait(thread: JvmThread, place: JvmPlace, name: str, snapshot: JvmThreads) -> Process:
     if snapshot.locks.class_of(thread) or "in Object.wait" in thread.status:
         return wait_for_class(thread, name, snapshot)
     if not thread.frames:
@@ -373,14 +374,14 @@ def run_or_wait(thread: Thread, place: Place, name: str, snapshot: Threads) -> P
     return goes_on(name, "computes", [premise(NATIVE) if top.native else SYSTEM])
 
 
-def wait_in_native(thread: Thread, place: Place, name: str, method: str) -> Process:
+def wait_in_native(thread: JvmThread, place: JvmPlace, name: str, method: str) -> Process:
     """One in a native method: the outside ends it where that reads, connects or waits for a child."""
     why = (f"it is in {short(method)}, and the state doesn't show whether that waits, and what for: the other end may "
            "be in the dump")
     return wait_for_outside(thread, name, why) if place.has(OUTSIDE) else unknown(name, why)
 
 
-def wait_for_outside(thread: Thread, name: str, why: str) -> Process:
+def wait_for_outside(thread: JvmThread, name: str, why: str) -> Process:
     """One that waits for what is outside of the JVM. One that reads in the loop of its own thread rests."""
     stack = stack_of(thread)
     if is_in(READS_OUTSIDE, stack) and is_own_loop(stack):
@@ -388,7 +389,7 @@ def wait_for_outside(thread: Thread, name: str, why: str) -> Process:
     return blocked(name, any_of(unseen("outside", why)), [], reason=why)
 
 
-def wait_for_class(thread: Thread, name: str, snapshot: Threads) -> Process:
+def wait_for_class(thread: JvmThread, name: str, snapshot: JvmThreads) -> Process:
     """One that waits until another has initialised a class."""
     initialisers = snapshot.locks.initialisers.get(snapshot.locks.class_of(thread), [])
     keys = [key for key in dict.fromkeys(initialisers) if key != thread.key]
@@ -402,7 +403,7 @@ def wait_for_class(thread: Thread, name: str, snapshot: Threads) -> Process:
     return owned(name, snapshot.names[keys[0]], [premise(INITIALISER)], snapshot, snapshot.left_out())
 
 
-def meetings_of(threads: Iterable[Thread], locks: Locks) -> Dict[str, str]:
+def meetings_of(threads: Iterable[JvmThread], locks: Locks) -> Dict[str, str]:
     """Returns at which barrier each thread waits, by key, if the state shows that of all. A Phaser has no such object:
     each thread is parked at one of its own."""
     here = {thread.key: locks.objects.get(thread.key, []) for thread in threads
@@ -410,28 +411,28 @@ def meetings_of(threads: Iterable[Thread], locks: Locks) -> Dict[str, str]:
     return {key: things[0] for key, things in here.items()} if all(here.values()) else {}
 
 
-def has_lock(thread: Thread) -> bool:
+def has_lock(thread: JvmThread) -> bool:
     """Whether a thread owns a lock besides that of its pool, and that of the socket at which it is in a call."""
     locks = [name for name in thread.owned.values() if name != POOLS_OWN]
     return len(locks) > is_in(SOCKETS, stack_of(thread))
 
 
-def inside_of(thread: Thread) -> str:
+def inside_of(thread: JvmThread) -> str:
     """Returns the class of the JDK within which a thread waits, with a dot, or nothing."""
     caller = caller_of(thread)
     return caller.rpartition(".")[0] + "." if caller.startswith(OF_QUEUES) else ""
 
 
-def is_locking(thread: Thread) -> bool:
+def is_locking(thread: JvmThread) -> bool:
     """Whether a thread takes a lock of the JDK or gives one back just now, so that it isn't parked."""
     return thread.state not in ("WAITING", "TIMED_WAITING") and is_in(OF_LOCKS, stack_of(thread))
 
 
-def has_stood(thread: Thread, snapshot: Threads) -> str:
+def has_stood(thread: JvmThread, snapshot: JvmThreads) -> str:
     return "it used no processor time between the states" if thread.has_stood else ""
 
 
-def other_initialiser(thread: Thread, snapshot: Threads) -> str:
+def other_initialiser(thread: JvmThread, snapshot: JvmThreads) -> str:
     """Returns what shows that a class of this name of another loader may be meant, or nothing. Whoever initialises that
     may still be in the initialiser of a class from which it derives, or wait for another class: in the end somebody
     runs an initialiser and waits for no class."""

@@ -9,14 +9,14 @@ from ...assumptions import sentence_of
 from ...sketch import INNER, Process, Sketch
 from ...snapshots import ONCE, Moments, moment_of
 from .frames import is_inside, is_of_jvm
-from .text import Dump, Thread
+from .text import JvmDump, JvmThread
 
 
-class Whole(Protocol):
+class JvmWhole(Protocol):
     """What is used here of the dump of one time."""
 
-    dump: Dump
-    threads: List[Thread]
+    dump: JvmDump
+    threads: List[JvmThread]
 
 
 def count_owned(processes: List[Process], moments: List[Moments]) -> None:
@@ -43,7 +43,7 @@ def owner_of(process: Process) -> str:
     return next((name for group in groups for name in group.names()), "")
 
 
-def add_inner(sketch: Sketch, snapshots: Sequence[Whole]) -> None:
+def add_inner(sketch: Sketch, snapshots: Sequence[JvmWhole]) -> None:
     """Adds which threads of the kernel are the JVM's own: those that run no code of the job at any time, and others."""
     seen = {process.thread for process in sketch.processes}
     for snapshot in snapshots:
@@ -57,6 +57,6 @@ def add_inner(sketch: Sketch, snapshots: Sequence[Whole]) -> None:
         sketch.premises[INNER] = sentence_of(INNER)
 
 
-def kernel_thread(thread: Thread, dump: Dump) -> str:
+def kernel_thread(thread: JvmThread, dump: JvmDump) -> str:
     """The thread of the kernel that runs a thread, or nothing if the state doesn't say it."""
     return f"{dump.pid}/{thread.native}" if dump.pid and thread.native and not thread.is_virtual else ""

@@ -7,8 +7,8 @@ from cmh_proc.calls import EPOLLS, int32
 
 from ...model import Part, Sign, Strength, any_of, unseen, wakers
 from ...sketch import LIMIT
-from .text import Machine, Owner, Thread
-from .waits import AT_FILES, FILES, UNTIMED, Ease, Wait, against, not_shown, not_understood, only_sleeps, \
+from .text import LinuxMachine, Owner, LinuxThread
+from .waits import AT_FILES, FILES, UNTIMED, Ease, LinuxWait, against, not_shown, not_understood, only_sleeps, \
     users_of, with_end
 
 GROUP, SHELL, KEYLESS = "group", "shell", "keyless"  # assumptions
@@ -21,7 +21,7 @@ INTERNET = (2, 10)  # the families of addresses of IPv4 and of IPv6
 FOR_SIGNAL = "waits for a signal"  # why one rests
 
 
-def wait_for_children(machine: Machine, thread: Thread) -> Wait:
+def wait_for_children(machine: LinuxMachine, thread: LinuxThread) -> LinuxWait:
     """Returns a wait for children."""
     own = machine.children(thread.owner.pid)
     what, children = awaited(thread, own)
@@ -30,7 +30,7 @@ def wait_for_children(machine: Machine, thread: Thread) -> Wait:
         return not_understood(why, what)
     if not children:
         return not_shown("the child that it waits for isn't in the state", what)
-    wait = Wait(any_of(*ends_of(machine, thread, children)), what, children, is_exact=True)
+    wait = LinuxWait(any_of(*ends_of(machine, thread, children)), what, children, is_exact=True)
     # Who ignores the end of children gets no word of any before all have ended.
     if thread.owner.ignores(SIGCHLD) and not any(owner.tracer == thread.owner.pid for owner in children):
         wait.parts = [ends_of(machine, thread, [owner]) for owner in children]
@@ -41,7 +41,7 @@ def wait_for_children(machine: Machine, thread: Thread) -> Wait:
     return wait
 
 
-def set_any_child(machine: Machine, thread: Thread, wait: Wait, own: List[Owner]) -> None:
+def set_any_child(machine: LinuxMachine, thread: LinuxThread, wait: LinuxWait, own: List[Owner]) -> None:
     """Sets for which of its children one waits who asks for any: a shell does so also where it waits for one of them
     alone, or for all, and then asks again."""
     if not is_shell(thread.owner) or not wait.others[1:]:
@@ -57,7 +57,7 @@ def set_any_child(machine: Machine, thread: Thread, wait: Wait, own: List[Owner]
                       *all_as_guess(machine, thread, wait.others)]
 
 
-def guess_of(machine: Machine, thread: Thread, children: List[Owner]) -> Part:
+def guess_of(machine: LinuxMachine, thread: LinuxThread, children: List[Owner]) -> Part:
     """Returns the children of a shell of which one has to end, or all: rather those that do more than to sleep. The
     end of a sleep is a limit."""
     sleeping = [owner for owner in children if only_sleeps(owner)]
@@ -69,13 +69,13 @@ def guess_of(machine: Machine, thread: Thread, children: List[Owner]) -> Part:
     return (*part, wakers("limit", machine.names_of(sleeping, thread)))
 
 
-def all_as_guess(machine: Machine, thread: Thread, children: List[Owner]) -> List[Part]:
+def all_as_guess(machine: LinuxMachine, thread: LinuxThread, children: List[Owner]) -> List[Part]:
     """Returns a part for the end of each child of a shell, which it may need: so the end of one alone frees nobody. Who
     says that it does may be anybody."""
     return [(*ends_of(machine, thread, [owner]), unseen("unshown")) for owner in children if not only_sleeps(owner)]
 
 
-def ends_of(machine: Machine, thread: Thread, children: List[Owner]) -> Part:
+def ends_of(machine: LinuxMachine, thread: LinuxThread, children: List[Owner]) -> Part:
     """Returns the wakers by whom any of some children ends: those of one thread are named."""
     unread = [machine.stand_ins.get(owner.pid, owner.name) for owner in children if owner.why]
     single = [owner for owner in children if len(owner.living) == 1]
@@ -86,24 +86,24 @@ def ends_of(machine: Machine, thread: Thread, children: List[Owner]) -> Part:
     return tuple(groups)
 
 
-def starters(machine: Machine, thread: Thread, own: List[Owner]) -> Part:
+def starters(machine: LinuxMachine, thread: LinuxThread, own: List[Owner]) -> Part:
     """Returns who may give a process more children: its other threads, and those below, whose children it may inherit.
     One that only sleeps has none."""
     below = [owner for owner in machine.below(own) if not only_sleeps(owner)]
     return against(machine, thread, [thread.owner, *below], "starts")
 
 
-def wait_for_end(machine: Machine, thread: Thread, pid: int) -> Wait:
+def wait_for_end(machine: LinuxMachine, thread: LinuxThread, pid: int) -> LinuxWait:
     """Returns the wait for the end of a process."""
     owner = machine.by_pid.get(pid)
     if owner is None:
         return not_shown("the process that it waits for isn't in the state", "process")
     if owner.has_ended():
         return not_understood("the process that it waits for has ended", "process")
-    return Wait(any_of(*ends_of(machine, thread, [owner])), f"the end of {owner.name}", [owner], is_exact=True)
+    return LinuxWait(any_of(*ends_of(machine, thread, [owner])), f"the end of {owner.name}", [owner], is_exact=True)
 
 
-def wait_for_signals(machine: Machine, thread: Thread, mask: int, sharers: Sequence[Owner] = ()) -> Wait:
+def wait_for_signals(machine: LinuxMachine, thread: LinuxThread, mask: int, sharers: Sequence[Owner] = ()) -> LinuxWait:
     """Returns a wait for one of some signals, of which only the end of a child comes by itself. An epoll has those of
     the process that added them, which is one that shares it, or from whom the waiter descends."""
     owners = list(dict.fromkeys([thread.owner, *sharers]))
@@ -119,23 +119,24 @@ def wait_for_signals(machine: Machine, thread: Thread, mask: int, sharers: Seque
     more = starters(machine, thread, children) if part else ()
     parts = any_of(*part, *more, *(() if is_alone else (unseen("outside"),)))
     if part:
-        return Wait(parts, "the end of a child", children, is_exact=True)
-    return Wait(parts, "a signal", sign=Sign.RESTS, why=FOR_SIGNAL, is_exact=True, ease=Ease.CALM)
+        return LinuxWait(parts, "the end of a child", children, is_exact=True)
+    return LinuxWait(parts, "a signal", sign=Sign.RESTS, why=FOR_SIGNAL, is_exact=True, ease=Ease.CALM)
 
 
-def wait_for_any_signal(machine: Machine, thread: Thread) -> Wait:
+def wait_for_any_signal(machine: LinuxMachine, thread: LinuxThread) -> LinuxWait:
     """Returns the wait of `pause` and the like. A shell waits so for its children."""
     children = machine.children(thread.owner.pid) if thread.owner.catches(SIGCHLD) else []
     part = ends_of(machine, thread, children) if children else ()
     if part and is_shell(thread.owner):
         several = children if children[1:] else []
         part = guess_of(machine, thread, children) if several else part
-        return Wait([*any_of(*part), *all_as_guess(machine, thread, several)], "a child", children, is_exact=True)
-    return Wait(any_of(*part, unseen("outside")), "a signal", children, sign=Sign.RESTS, why=FOR_SIGNAL, is_exact=True,
-                ease=Ease.CALM)
+        return LinuxWait([*any_of(*part), *all_as_guess(machine, thread, several)], "a child", children, is_exact=True)
+    return LinuxWait(any_of(*part, unseen("outside")), "a signal", children, sign=Sign.RESTS, why=FOR_SIGNAL,
+                     is_exact=True,
+                     ease=Ease.CALM)
 
 
-def doubt_of_children(thread: Thread, children: List[Owner]) -> str:
+def doubt_of_children(thread: LinuxThread, children: List[Owner]) -> str:
     """Returns why it isn't known what ends a wait for children, or nothing."""
     ended = next((owner for owner in children if owner.has_ended()), None)
     options = thread.arguments[2 if thread.call == "wait4" else 3]
@@ -173,7 +174,7 @@ def pipes_between(shell: Owner, child: Owner) -> bool:
     return any((what, "w" if way == "r" else "r") in ends[1] for what, way in ends[0])
 
 
-def awaited(thread: Thread, own: List[Owner]) -> Tuple[str, List[Owner]]:
+def awaited(thread: LinuxThread, own: List[Owner]) -> Tuple[str, List[Owner]]:
     """Returns which of its children a thread waits for, by their numbers in its own namespace."""
     level = len(thread.owner.numbers) - 1
     kind, number = int32(thread.arguments[0]), int32(thread.arguments[1])
@@ -189,21 +190,22 @@ def awaited(thread: Thread, own: List[Owner]) -> Tuple[str, List[Owner]]:
     return "a child", [owner for owner in own if owner.pid == thread.owner.file(number).pid]
 
 
-def wait_for_fork(machine: Machine, thread: Thread) -> Wait:
+def wait_for_fork(machine: LinuxMachine, thread: LinuxThread) -> LinuxWait:
     """Returns the wait for a child that still has the memory of its parent."""
     children = machine.children(thread.owner.pid)
     if not children:
         return not_shown("its child isn't known", "a child")
-    return Wait(any_of(*ends_of(machine, thread, children)), "a child", children, is_exact=True)
+    return LinuxWait(any_of(*ends_of(machine, thread, children)), "a child", children, is_exact=True)
 
 
 # Connections, and what others may use without having it open
 
 
-def wait_to_connect(machine: Machine, thread: Thread) -> Wait:
+def wait_to_connect(machine: LinuxMachine, thread: LinuxThread) -> LinuxWait:
     path = thread.row.get("path", "")
     if thread.row.get("family") in INTERNET:
-        return Wait(what="connection", sign=Sign.SLEEPS, why="it tries that for some minutes at most", premises=[LIMIT])
+        return LinuxWait(what="connection", sign=Sign.SLEEPS, why="it tries that for some minutes at most",
+                         premises=[LIMIT])
     if not path:
         return not_understood("to whom it connects isn't known", "connection")
     asks = str(thread.row.get("asks", path))  # (older states have the path alone)
@@ -214,10 +216,10 @@ def wait_to_connect(machine: Machine, thread: Thread) -> Wait:
     what = f"Unix socket {path}"
     if not part:
         return not_shown(f"no process that was read has the other end of {what}", what)
-    return Wait(any_of(*part), what, others, [FILES, UNTIMED])
+    return LinuxWait(any_of(*part), what, others, [FILES, UNTIMED])
 
 
-def wait_at_ipc(machine: Machine, thread: Thread) -> Wait:
+def wait_at_ipc(machine: LinuxMachine, thread: LinuxThread) -> LinuxWait:
     """Returns the wait at a set of semaphores or a queue of messages, for who has used it, as far as the kernel says
     that, and who may. One without a key is used below the one that made it alone."""
     kind = "set of semaphores" if thread.call.startswith("sem") else "queue of messages"
@@ -229,25 +231,25 @@ def wait_at_ipc(machine: Machine, thread: Thread) -> Wait:
     owners = [*tops, *machine.below(tops)] or [owner for owner in users if owner is not thread.owner]
     part: Part = (wakers("reaches", machine.names_of(owners, thread)),) if owners else ()
     if tops:
-        return Wait(any_of(*part), what, premises=[KEYLESS])
-    return Wait(any_of(*part, unseen("unshown")), what, why="the kernel doesn't say who ends it")
+        return LinuxWait(any_of(*part), what, premises=[KEYLESS])
+    return LinuxWait(any_of(*part, unseen("unshown")), what, why="the kernel doesn't say who ends it")
 
 
-def may_have_made(top: Owner, thread: Thread) -> bool:
+def may_have_made(top: Owner, thread: LinuxThread) -> bool:
     """Whether one from whom others descend was there when what a thread uses was made, or changed since. Times of the
     clock are whole seconds."""
     changed = thread.row.get("changed")
     return changed is None or int(top.row.get("start", 0)) <= changed + CLOCK_IS_OFF
 
 
-def tops_of(machine: Machine, thread: Thread) -> List[Owner]:
+def tops_of(machine: LinuxMachine, thread: LinuxThread) -> List[Owner]:
     """Returns the highest processes that may have made what a thread and others use, or none if that isn't known."""
     users = [thread.owner, *filter(None, map(machine.by_pid.get, thread.row.get("users", ())))]
     tops = list(dict.fromkeys(top_of(machine, owner) for owner in users))
     return [owner for owner in tops if owner is not None] if None not in tops else []
 
 
-def top_of(machine: Machine, owner: Owner) -> Optional[Owner]:
+def top_of(machine: LinuxMachine, owner: Owner) -> Optional[Owner]:
     """Returns the highest process above one whose session or program is that of the one below it, if it can be read."""
     above = machine.by_pid.get(owner.parent)
     while above is not None and any(owner.row.get(name, "") == above.row.get(name) for name in ("session", "exe")):
@@ -255,7 +257,7 @@ def top_of(machine: Machine, owner: Owner) -> Optional[Owner]:
     return None if owner.why or "session" not in owner.row else owner
 
 
-def timed_parents(machine: Machine, owner: Owner) -> List[Thread]:
+def timed_parents(machine: LinuxMachine, owner: Owner) -> List[LinuxThread]:
     """Returns the threads of the parent of a process that wait with a limit at a pipe of which it has an end, or in a
     call that isn't understood. After that they may end it, as the module subprocess of Python does."""
     parent = machine.by_pid.get(owner.parent)

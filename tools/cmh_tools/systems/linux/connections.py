@@ -10,7 +10,7 @@ from cmh_proc.open_files import OpenFile
 
 from .files import AT_LISTENER
 from .frames import OWN_THREADS
-from .text import Machine, Owner, Row, Thread
+from .text import LinuxMachine, Owner, Row, LinuxThread
 
 Connections = Dict[str, Dict[str, List[str]]]
 # Programs whose states say who is at the other end.
@@ -19,7 +19,7 @@ HELPERS = ("epmd", "erl_child_setup", "inet_gethost")  # programs that a node of
 MAPPED = "[::ffff:"  # an address of IPv4 in one of IPv6
 
 
-def connections_of(machine: Machine, space: str, asked: Set[int]) -> Connections:
+def connections_of(machine: LinuxMachine, space: str, asked: Set[int]) -> Connections:
     """Returns by the key of each connection who has its client's end, and who waits there; the threads of servers on
     this machine, which is called `space`, and of what these have begun, but for those that were asked for; these; and
     by the ports at which Go's programs listen their threads, with the other ends of all their connections."""
@@ -39,7 +39,8 @@ def connections_of(machine: Machine, space: str, asked: Set[int]) -> Connections
     return {**rows, "servers": {"beside": beside, **({"asked": kept} if kept else {})}} if rows or beside else {}
 
 
-def add_ends(owner: Owner, machine: Machine, space: str, rows: Connections) -> Tuple[List[str], Dict[str, List[str]]]:
+def add_ends(owner: Owner, machine: LinuxMachine, space: str,
+             rows: Connections) -> Tuple[List[str], Dict[str, List[str]]]:
     """Adds the connections of a process to servers. Of a program of Go's it returns the ports at which it listens, and
     its threads with the other ends of its connections: the threads that have one, or else its key."""
     is_go = owner.system == "go"
@@ -68,14 +69,14 @@ def add_ends(owner: Owner, machine: Machine, space: str, rows: Connections) -> T
     return ports, inside
 
 
-def awaited(owner: Owner, machine: Machine) -> List[Tuple[str, str]]:
+def awaited(owner: Owner, machine: LinuxMachine) -> List[Tuple[str, str]]:
     """Returns for each thread of a process the file at which it waits, if that is one. They are looked at once."""
     if owner not in machine.awaited:
         machine.awaited[owner] = [(thread.name, target_of(thread, machine)) for thread in owner.living]
     return machine.awaited[owner]
 
 
-def sockets_of(owner: Owner, machine: Machine) -> Iterator[Tuple[str, Row]]:
+def sockets_of(owner: Owner, machine: LinuxMachine) -> Iterator[Tuple[str, Row]]:
     """Yields each socket of a process with its row, which is empty where the kernel has told nothing of it."""
     for target, number in {file.target: file.socket for file in owner.files.values() if file.socket}.items():
         yield target, machine.sockets.get(number, {})
@@ -99,7 +100,7 @@ def plain(end: str) -> str:
     return end[len(MAPPED):].replace("]", "", 1) if end.startswith(MAPPED) else end
 
 
-def target_of(thread: Thread, machine: Machine) -> str:
+def target_of(thread: LinuxThread, machine: LinuxMachine) -> str:
     """Returns the one descriptor's file at which a thread waits, beside those by which its own process wakes it, or
     nothing."""
     fds: List[int] = []
@@ -111,7 +112,7 @@ def target_of(thread: Thread, machine: Machine) -> str:
     return others[0] if len(others) == 1 else ""
 
 
-def wakes_itself(file: OpenFile, thread: Thread, machine: Machine) -> bool:
+def wakes_itself(file: OpenFile, thread: LinuxThread, machine: LinuxMachine) -> bool:
     """Whether the other end of a socket is of the process itself alone, which is connected with no other."""
     row = machine.sockets.get(file.socket, {})
     peers = [f"socket:[{peer}]" for peer in row.get("peers", ())]

@@ -13,8 +13,9 @@ from .children import FOR_SIGNAL, wait_for_end, wait_for_signals
 from .frames import is_of_system
 from ..base import FAR, duration
 from .limits import far_limit
-from .text import MASTER, NOWHERE, TERMINAL, Machine, Owner, Row, Thread
-from .waits import (COMES, FILES, UNTIMED, Ease, Wait, against, names_of_epoll, not_shown, not_understood, users_of,
+from .text import MASTER, NOWHERE, TERMINAL, LinuxMachine, Owner, Row, LinuxThread
+from .waits import (COMES, FILES, UNTIMED, Ease, LinuxWait, against, names_of_epoll, not_shown, not_understood,
+                    users_of,
                     with_end, with_sleeper)
 
 INOTIFY = "anon_inode:inotify"
@@ -24,7 +25,7 @@ LOOPS = re.compile(r".*/lib(event|ev|uv|glib-2)\b[^/]*")  # libraries with a loo
 POLLS = re.compile("uv__io_poll|uv_run|ev_run|event_base_loop")  # the same where it is a part of the program
 
 
-def wait_at(machine: Machine, thread: Thread, fd: int, events: int) -> Wait:
+def wait_at(machine: LinuxMachine, thread: LinuxThread, fd: int, events: int) -> LinuxWait:
     """Returns the wait for an event at a descriptor of a thread."""
     file = thread.owner.file(fd)
     if file is NOWHERE:
@@ -34,7 +35,7 @@ def wait_at(machine: Machine, thread: Thread, fd: int, events: int) -> Wait:
     return wait
 
 
-def wait_at_file(machine: Machine, thread: Thread, file: OpenFile, events: int) -> Wait:
+def wait_at_file(machine: LinuxMachine, thread: LinuxThread, file: OpenFile, events: int) -> LinuxWait:
     """Returns the wait for an event at an open file of a thread."""
     target = file.target
     if file.is_pipe:
@@ -42,7 +43,8 @@ def wait_at_file(machine: Machine, thread: Thread, file: OpenFile, events: int) 
     if file.fifo:
         wait = wait_at_pipe(machine, thread, file.key("fifo"), f"FIFO {target}", file.mode, events)
         if wait.ease is Ease.OWN and events & READS:  # (it keeps both ends open, and waits for who opens it next)
-            return Wait(any_of(unseen("by-name")), wait.what, wait.others, sign=Sign.RESTS, why=COMES, ease=Ease.CALM)
+            return LinuxWait(any_of(unseen("by-name")), wait.what, wait.others, sign=Sign.RESTS, why=COMES,
+                             ease=Ease.CALM)
         wait.parts = [(*part, unseen("by-name")) for part in wait.parts]
         return wait
     if file.queue:
@@ -54,12 +56,12 @@ def wait_at_file(machine: Machine, thread: Thread, file: OpenFile, events: int) 
     if target.startswith(TERMINALS):
         return wait_at_terminal(machine, thread, target, events)
     if target == INOTIFY:
-        return Wait(any_of(unseen("outside")), INOTIFY, sign=Sign.RESTS, why="waits for changes of files",
-                    ease=Ease.CALM)
+        return LinuxWait(any_of(unseen("outside")), INOTIFY, sign=Sign.RESTS, why="waits for changes of files",
+                         ease=Ease.CALM)
     return not_understood(f"what ends a wait at {target} isn't known", target)
 
 
-def wait_at_pipe(machine: Machine, thread: Thread, key: str, what: str, mode: str, events: int) -> Wait:
+def wait_at_pipe(machine: LinuxMachine, thread: LinuxThread, key: str, what: str, mode: str, events: int) -> LinuxWait:
     """Returns the wait at an end of a pipe, open in a mode: to one that is only read or only written nothing comes but
     from the other end, whatever is asked for."""
     ways = [other for way, other in ((READS, "w"), (WRITES, "r")) if events & way] or ["w", "r"]
@@ -77,27 +79,27 @@ def waits_for(owner: Owner, key: str) -> bool:
     return any(key in owner.file(fd).keys() for thread in owner.living for fd, *_ in thread.events)
 
 
-def wait_at_terminal(machine: Machine, thread: Thread, target: str, events: int) -> Wait:
+def wait_at_terminal(machine: LinuxMachine, thread: LinuxThread, target: str, events: int) -> LinuxWait:
     """Returns the wait at a terminal, or at the end of one that a program has, as `expect` or a server for logins.
     Which of these ends is of which terminal isn't in the state."""
     others = machine.with_file(TERMINAL if target == MASTER else MASTER)
     part = with_end(machine, thread, [owner for owner in others if owner is not thread.owner], "reaches")
     if target != MASTER and events & READS and not part:
-        return Wait(any_of(unseen("outside")), target, sign=Sign.RESTS, why=COMES, ease=Ease.CALM)
-    return Wait(any_of(*part, unseen("outside")), target, others)
+        return LinuxWait(any_of(unseen("outside")), target, sign=Sign.RESTS, why=COMES, ease=Ease.CALM)
+    return LinuxWait(any_of(*part, unseen("outside")), target, others)
 
 
-def wait_for(machine: Machine, thread: Thread, others: List[Owner], what: str, premises: List[str],
-             how: str = "other-end") -> Wait:
+def wait_for(machine: LinuxMachine, thread: LinuxThread, others: List[Owner], what: str, premises: List[str],
+             how: str = "other-end") -> LinuxWait:
     """Returns the wait for those who have the other end. If none has it, who does isn't shown: it may be on its way."""
     part = with_end(machine, thread, users_of(others), how)
     if not part:
         return not_shown(f"no process that was read has the other end of {what}", what)
     ease = Ease.OWN if others == [thread.owner] else Ease.NONE
-    return Wait(any_of(*part), what, others, with_sleeper(premises, others), ease=ease)
+    return LinuxWait(any_of(*part), what, others, with_sleeper(premises, others), ease=ease)
 
 
-def wait_at_queue(machine: Machine, thread: Thread, file: OpenFile, events: int) -> Wait:
+def wait_at_queue(machine: LinuxMachine, thread: LinuxThread, file: OpenFile, events: int) -> LinuxWait:
     """Returns the wait at a queue of messages, for who takes from it or puts into it. One that has a name may be opened
     by anybody."""
     others = machine.with_file(file.key("queue"), "w" if events & READS else "r")
@@ -107,14 +109,14 @@ def wait_at_queue(machine: Machine, thread: Thread, file: OpenFile, events: int)
     return wait
 
 
-def wait_at_socket(machine: Machine, thread: Thread, file: OpenFile) -> Wait:
+def wait_at_socket(machine: LinuxMachine, thread: LinuxThread, file: OpenFile) -> LinuxWait:
     row = machine.sockets.get(file.socket)
     if row is None:
         return not_shown(f"the other end of {file.target} isn't known", file.target)
     kind = {"tcp": "TCP socket", "u_dgr": "Unix datagram socket"}.get(row["kind"], "Unix socket")
     if row["state"] == AT_LISTENER:
         what = f"listening {kind} {row['at']}"
-        return Wait(any_of(unseen("to-come")), what, sign=Sign.RESTS, why=COMES, ease=Ease.CALM)
+        return LinuxWait(any_of(unseen("to-come")), what, sign=Sign.RESTS, why=COMES, ease=Ease.CALM)
     between = f"from {row['at']} to {row['to']}" if row["to"] else row["at"]
     what = f"{kind} {file.socket if between in ('', '*') else between}"
     if row.get("away"):
@@ -137,7 +139,8 @@ def wait_at_socket(machine: Machine, thread: Thread, file: OpenFile) -> Wait:
     return wait
 
 
-def wait_for_acceptor(machine: Machine, thread: Thread, row: Row, what: str, premises: List[str]) -> Wait:
+def wait_for_acceptor(machine: LinuxMachine, thread: LinuxThread, row: Row, what: str,
+                      premises: List[str]) -> LinuxWait:
     """Returns the wait at a connection that isn't accepted yet: for who accepts at its listener, which may be the
     waiter. Others that have the listener may start one more who does."""
     holders = {peer: machine.with_file(f"socket:[{peer}]") for peer in row["peers"]}
@@ -150,10 +153,10 @@ def wait_for_acceptor(machine: Machine, thread: Thread, row: Row, what: str, pre
     everybody = list(dict.fromkeys(owner for owners in holders.values() for owner in owners))
     others = users_of([owner for owner in everybody if owner not in able])
     more = (wakers("starts", machine.names_of(others, thread)),) if others else ()
-    return Wait(any_of(*part, *more), f"unaccepted {what}", able, with_sleeper(premises, everybody))
+    return LinuxWait(any_of(*part, *more), f"unaccepted {what}", able, with_sleeper(premises, everybody))
 
 
-def accepts_at(machine: Machine, owner: Owner, listener: int, row: Row) -> bool:
+def accepts_at(machine: LinuxMachine, owner: Owner, listener: int, row: Row) -> bool:
     """Whether a process accepts connections at a listener like the one that a socket is an end of: it has another one
     that came to the same address, or waits for one."""
     address = row["to"] or machine.sockets.get(listener, {}).get("at", "")
@@ -163,7 +166,7 @@ def accepts_at(machine: Machine, owner: Owner, listener: int, row: Row) -> bool:
     return any(owner.file(fd).socket == listener for thread in owner.living for fd, *_ in thread.events)
 
 
-def self_connections(owner: Owner, machine: Machine) -> str:
+def self_connections(owner: Owner, machine: LinuxMachine) -> str:
     """Returns in words with which of its own listeners a process is connected, or nothing: it may wait for itself, also
     where its runtime doesn't show who does."""
     own = [file.socket for file in owner.files.values() if file.socket]
@@ -178,7 +181,7 @@ def self_connections(owner: Owner, machine: Machine) -> str:
     return said if asking else ""
 
 
-def doubt_of_datagram(thread: Thread, row: Row) -> str:
+def doubt_of_datagram(thread: LinuxThread, row: Row) -> str:
     """Returns why it isn't known who sends to a socket for datagrams, or takes from it, or nothing."""
     if row["at"] != "*":
         return f"anybody may send to Unix datagram socket {row['at']}"
@@ -187,7 +190,7 @@ def doubt_of_datagram(thread: Thread, row: Row) -> str:
     return "to whom it sends isn't known" if thread.is_addressed else ""
 
 
-def may_time_out(machine: Machine, thread: Thread, row: Row) -> bool:
+def may_time_out(machine: LinuxMachine, thread: LinuxThread, row: Row) -> bool:
     """Whether a limit of a socket may end a wait at it. To one that polls only that of TCP matters, which needs a timer
     of the kernel at one of the ends."""
     if thread.call not in (*SETS, *EPOLLS):
@@ -196,7 +199,7 @@ def may_time_out(machine: Machine, thread: Thread, row: Row) -> bool:
     return row["kind"] == "tcp" and any(end.get("timer") is not False for end in ends)
 
 
-def wait_at_anonymous(machine: Machine, thread: Thread, file: OpenFile) -> Wait:
+def wait_at_anonymous(machine: LinuxMachine, thread: LinuxThread, file: OpenFile) -> LinuxWait:
     if file.event is not None:
         others = machine.with_file(file.key("event"))
         wait = wait_for(machine, thread, others, f"eventfd {file.event}", [FILES])
@@ -209,8 +212,9 @@ def wait_at_anonymous(machine: Machine, thread: Thread, file: OpenFile) -> Wait:
     if file.timer is not None:
         seconds = file.timer[0] + file.timer[1] / 1e9
         if seconds > FAR:
-            return Wait(any_of(*far_limit(machine, thread, seconds)), "timer", is_exact=True)
-        return Wait(what="timer", sign=Sign.SLEEPS, why=f"its timer comes in {duration(seconds)}", premises=[LIMIT])
+            return LinuxWait(any_of(*far_limit(machine, thread, seconds)), "timer", is_exact=True)
+        return LinuxWait(what="timer", sign=Sign.SLEEPS, why=f"its timer comes in {duration(seconds)}",
+                         premises=[LIMIT])
     if file.signals is not None:
         owners = dict.fromkeys(owner for name in names_of_epoll(thread) for owner in machine.with_file(name))
         return wait_for_signals(machine, thread, file.signals, list(owners))
@@ -220,7 +224,7 @@ def wait_at_anonymous(machine: Machine, thread: Thread, file: OpenFile) -> Wait:
     return not_understood(f"what ends a wait at {what} isn't known", what)
 
 
-def wait_at_set(machine: Machine, thread: Thread) -> Wait:
+def wait_at_set(machine: LinuxMachine, thread: LinuxThread) -> LinuxWait:
     """Returns the wait at several descriptors: what ends any of them."""
     if "set" not in thread.row:
         return not_understood("the set of its descriptors couldn't be read", "a set that can't be read")
@@ -246,12 +250,12 @@ def wait_at_set(machine: Machine, thread: Thread) -> Wait:
     return wait
 
 
-def may_come(wait: Wait) -> bool:
+def may_come(wait: LinuxWait) -> bool:
     """Whether one waits for what comes next, among other things."""
     return any(group.how == "to-come" for part in wait.parts for group in part)
 
 
-def is_in_loop(thread: Thread) -> bool:
+def is_in_loop(thread: LinuxThread) -> bool:
     """Whether a thread waits in the loop of a library of events, and not in something that this has called."""
     inner = next((step for step in thread.frames if not is_of_system(step)), None)
     return inner is not None and (LOOPS.fullmatch(inner.module) or POLLS.fullmatch(inner.function)) is not None
@@ -271,24 +275,24 @@ def is_other_file(owner: Owner, fd: int, number: int) -> bool:
     return number < 0 or inode.isdigit() and number != 0 and int(inode) != number
 
 
-def joined(waits: Sequence[Wait]) -> Wait:
+def joined(waits: Sequence[LinuxWait]) -> LinuxWait:
     """Returns the wait that any of some waits ends. One at rest stands at nothing but what tells of that."""
     names = [wait.what for wait in waits[:4]]
     what = ", ".join(names) + (f" and {len(waits) - 4} more" if waits[4:] else "") or "nothing"
     others = list(dict.fromkeys(owner for wait in waits for owner in wait.others))
     timed = next((wait for wait in waits if wait.sign is Sign.SLEEPS), None)
     if timed is not None:
-        return Wait(what=what, others=others, premises=timed.premises, sign=Sign.SLEEPS, why=timed.why)
+        return LinuxWait(what=what, others=others, premises=timed.premises, sign=Sign.SLEEPS, why=timed.why)
     if not waits:
-        return Wait(any_of(unseen("outside")), what, sign=Sign.RESTS, why=FOR_SIGNAL, is_exact=True)
+        return LinuxWait(any_of(unseen("outside")), what, sign=Sign.RESTS, why=FOR_SIGNAL, is_exact=True)
     premises = list(dict.fromkeys(name for wait in waits for name in wait.premises))
     is_calm = min(wait.ease for wait in waits) > Ease.NONE and max(wait.ease for wait in waits) is Ease.CALM
     why = COMES if is_calm else next((wait.why for wait in waits if wait.why), "")
-    return Wait(any_of(*part_of(waits)), what, others, premises, Sign.RESTS if is_calm else Sign.BLOCKED, why,
-                is_exact=all(wait.is_exact for wait in waits), ease=min(wait.ease for wait in waits))
+    return LinuxWait(any_of(*part_of(waits)), what, others, premises, Sign.RESTS if is_calm else Sign.BLOCKED, why,
+                     is_exact=all(wait.is_exact for wait in waits), ease=min(wait.ease for wait in waits))
 
 
-def part_of(waits: Sequence[Wait]) -> Part:
+def part_of(waits: Sequence[LinuxWait]) -> Part:
     """Returns the wakers of all of some waits, each list once. What isn't understood may be ended by anybody."""
     groups: List[Wakers] = []
     for wait in waits:

@@ -11,7 +11,7 @@ from typing import Iterable, Iterator, List, Tuple
 
 from ...sketch import frame
 from ..base import without_sleep
-from .text import Frame, Thread
+from .text import LinuxFrame, LinuxThread
 
 OF_THE_SYSTEM = re.compile(r".*/(libc|libpthread|libstdc\+\+|libm|libgcc_s|librt|libdl|ld-linux-x86-64)[.-][^/]*")
 KEPT = 65536  # names that are kept as people read them
@@ -42,7 +42,7 @@ NAMELESS = re.compile(r".*\blambda(#\d+)?")
 OWN_THREADS = ("erlang", "go", "jvm", "mpi")  # whose runtimes have threads that are none of the job's
 
 
-def own_frames(thread: Thread) -> List[str]:
+def own_frames(thread: LinuxThread) -> List[str]:
     """Returns the frames of the job's own: as a debugger shows them, or else as they were unwound from memory. Those of
     an interpreter are none of the job's."""
     return own_in(tuple(thread.stack)) or ([] if thread.owner.system else own_texts(thread.frames, thread.is_whole))
@@ -64,14 +64,14 @@ def own_frame(step: Tuple[str, str]) -> str:
     return str(frame(function, file.rpartition("/")[2], int(line))) if file else function
 
 
-def own_steps(thread: Thread) -> List[Frame]:
+def own_steps(thread: LinuxThread) -> List[LinuxFrame]:
     """Returns the frames of a stack that was unwound which are the program's own. Where these are of the library of C++
     alone, the outermost stands for the function that was made part of it."""
     return own_steps_in(thread.frames, thread.is_whole)
 
 
 @lru_cache(maxsize=KEPT)
-def own_steps_in(frames: Tuple[Frame, ...], is_whole: bool) -> List[Frame]:
+def own_steps_in(frames: Tuple[LinuxFrame, ...], is_whole: bool) -> List[LinuxFrame]:
     """Returns those of a stack. Many threads stand at one place, so nobody changes this list, nor the next."""
     own = [(number, step) for number, step in enumerate(frames) if not is_of_system(step)]
     if own[1:] and own[-1][0] == len(frames) - 1 and is_whole and step_begins(own[-1][1]):
@@ -84,16 +84,16 @@ def own_steps_in(frames: Tuple[Frame, ...], is_whole: bool) -> List[Frame]:
 
 
 @lru_cache(maxsize=KEPT)
-def own_texts(frames: Tuple[Frame, ...], is_whole: bool) -> List[str]:
+def own_texts(frames: Tuple[LinuxFrame, ...], is_whole: bool) -> List[str]:
     return list(map(text_of, own_steps_in(frames, is_whole)))
 
 
-def has_names(thread: Thread) -> bool:
+def has_names(thread: LinuxThread) -> bool:
     """Whether a function of the job's own on the stack of a thread has a name."""
     return not all(map(PLACE.fullmatch, own_frames(thread)))
 
 
-def is_of_system(step: Frame) -> bool:
+def is_of_system(step: LinuxFrame) -> bool:
     return is_system(step.module)
 
 
@@ -103,16 +103,16 @@ def is_system(path: str) -> bool:
     return OF_THE_SYSTEM.fullmatch(path) is not None
 
 
-def step_begins(step: Frame) -> bool:
+def step_begins(step: LinuxFrame) -> bool:
     """Whether a program may begin at a frame: it has the name of that, or none."""
     return step.function in ("", "_start")
 
 
-def is_run_by_library(frames: Tuple[Frame, ...], number: int) -> bool:
+def is_run_by_library(frames: Tuple[LinuxFrame, ...], number: int) -> bool:
     return OF_CPLUSPLUS in "".join(step.module for step in frames[number + 1:number + 2])
 
 
-def text_of(step: Frame) -> str:
+def text_of(step: LinuxFrame) -> str:
     """Returns a frame as people read it: the function, or the program with the place in it."""
     if not step.function:
         return f"{step.module.rpartition('/')[2]}+{step.place:#x}"
@@ -139,19 +139,19 @@ def plain_name(name: str) -> str:
     return "::".join([*names, *(["lambda"] if head["local"] else [])]) or name
 
 
-def call_of(thread: Thread) -> str:
+def call_of(thread: LinuxThread) -> str:
     """Returns the call of a library that a thread at a futex is in, if that is known, or else that of the kernel."""
     return plain_name(thread.within) if thread.call == "futex" and thread.within else thread.call
 
 
-def word_of(thread: Thread) -> str:
+def word_of(thread: LinuxThread) -> str:
     """Returns the word of a futex: the object of the program that it is a part of, and its address."""
     name, offset = thread.row.get("object", ("", 0))
     more = f"+{offset}" if offset else ""
     return f"{plain_name(name)}{more} ({thread.arguments[0]:#x})" if name else f"{thread.arguments[0]:#x}"
 
 
-def nameless_programs(threads: Iterable[Thread]) -> Iterator[str]:
+def nameless_programs(threads: Iterable[LinuxThread]) -> Iterator[str]:
     """Yields of each program of which a stack has functions without names how these are found."""
     steps = (step for thread in threads if not thread.owner.system for step in own_steps(thread) if not step.function)
     for step in {step.module: step for step in steps if step.build_id}.values():
@@ -159,12 +159,12 @@ def nameless_programs(threads: Iterable[Thread]) -> Iterator[str]:
                f"information `addr2line -fe FILE {step.place:#x}` says what {text_of(step)} is")
 
 
-def is_known(thread: Thread) -> bool:
+def is_known(thread: LinuxThread) -> bool:
     """Whether it is known up to what a thread was started with who has called whom."""
     return bool(thread.stack) or thread.is_whole
 
 
-def program_frames(thread: Thread) -> List[str]:
+def program_frames(thread: LinuxThread) -> List[str]:
     """Returns the frames of the job's own but for those of libraries that other programs have too."""
     if thread.stack or thread.owner.system:
         return own_frames(thread)
@@ -173,25 +173,25 @@ def program_frames(thread: Thread) -> List[str]:
     return frames[:-1] if is_begun else frames
 
 
-def is_in_own_loop(thread: Thread) -> bool:
+def is_in_own_loop(thread: LinuxThread) -> bool:
     """Whether the wait of a thread is called by the function that it was started with, or by a library that has started
     it."""
     return is_in_start(thread, program_frames(thread))
 
 
-def sleeps_in_own_loop(thread: Thread) -> bool:
+def sleeps_in_own_loop(thread: LinuxThread) -> bool:
     """The same of one that sleeps, maybe by a function that does nothing else."""
     if thread.is_first:
         return len(without_sleep(own_frames(thread))) <= 1
     return is_in_start(thread, without_sleep(program_frames(thread)))
 
 
-def is_in_start(thread: Thread, frames: List[str]) -> bool:
+def is_in_start(thread: LinuxThread, frames: List[str]) -> bool:
     is_there = not thread.is_first and is_known(thread) and bool(own_frames(thread))
     return is_there and len(frames) <= 1 and not (frames and has_job(thread))
 
 
-def has_job(thread: Thread) -> bool:
+def has_job(thread: LinuxThread) -> bool:
     """Whether a library has called a function of the program for a job, as a pool does: by its name, or since more than
     one function of the library stands below it, where one is enough to begin a thread."""
     steps = own_steps(thread)
@@ -200,7 +200,7 @@ def has_job(thread: Thread) -> bool:
     return below > 1 or any(is_common and POOLS.match(step.function) for is_common, step in zip(are_common, steps))
 
 
-def takes_next(thread: Thread) -> bool:
+def takes_next(thread: LinuxThread) -> bool:
     """Whether a thread takes the next thing to do, in the function that it was started with."""
     frames = program_frames(thread)
     is_at_take = len(frames) == 2 and TAKES.fullmatch(frames[0].partition(" (")[0]) is not None
@@ -208,13 +208,13 @@ def takes_next(thread: Thread) -> bool:
     return not has_asked(thread) and (is_in_loop or is_known(thread) and is_at_take and not is_called_back(thread))
 
 
-def is_called_back(thread: Thread) -> bool:
+def is_called_back(thread: LinuxThread) -> bool:
     """Whether a library has called the innermost function of the program, as an event loop does for what has come."""
     are_common = [COMMON.fullmatch(step.module) is not None for step in own_steps(thread)]
     return any(are_common[are_common.index(False):]) if False in are_common else False
 
 
-def is_for_alike(thread: Thread) -> bool:
+def is_for_alike(thread: LinuxThread) -> bool:
     """Whether all who wait at a futex were started with one function: where others wait too, it isn't a queue of work,
     but something that they share, and what they do with it may be made part of these functions."""
     owner, word = thread.owner, thread.arguments[0]
@@ -224,12 +224,12 @@ def is_for_alike(thread: Thread) -> bool:
     return len(owner.starts[word]) <= 1
 
 
-def has_asked(thread: Thread) -> bool:
+def has_asked(thread: LinuxThread) -> bool:
     """Whether a thread is in a function of the library of C++ in which one waits for others, as for an answer."""
     return any(ANSWERS.match(step.function) for step in thread.frames)
 
 
-def library_names(thread: Thread) -> Iterator[str]:
+def library_names(thread: LinuxThread) -> Iterator[str]:
     """Yields the functions of the C library that a thread is in, if it still is at the wait at which its stack was
     unwound, the innermost first."""
     for step in () if thread.is_again else thread.frames:

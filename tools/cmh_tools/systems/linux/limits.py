@@ -9,12 +9,12 @@ from cmh_proc.calls import SLEEPS
 
 from ...model import Part, wakers
 from ..base import FAR, duration
-from .text import Machine, Thread
+from .text import LinuxMachine, LinuxThread
 
 LEAST = 10.0  # so far off may the clocks of processors be by which it is known when a thread ran last
 
 
-def limit_of(thread: Thread) -> Tuple[Optional[float], Optional[float]]:
+def limit_of(thread: LinuxThread) -> Tuple[Optional[float], Optional[float]]:
     """Returns how long the limit of a wait is, and in how many seconds it ends, as far as that is known."""
     length, ends = thread.row.get("limit", (None, None))
     if length is not None:
@@ -22,24 +22,24 @@ def limit_of(thread: Thread) -> Tuple[Optional[float], Optional[float]]:
     return None, ends
 
 
-def waited_of(thread: Thread) -> Optional[float]:
+def waited_of(thread: LinuxThread) -> Optional[float]:
     waited: Optional[float] = thread.row.get("waited")
     return waited
 
 
-def is_far(thread: Thread) -> bool:
+def is_far(thread: LinuxThread) -> bool:
     """Whether the limit of a wait ends in more than an hour."""
     return thread.has_limit and (limit_of(thread)[1] or 0.0) > FAR
 
 
-def far_limit(machine: Machine, thread: Thread, seconds: float) -> Part:
+def far_limit(machine: LinuxMachine, thread: LinuxThread, seconds: float) -> Part:
     """Returns what stands for a limit far away. A fact may say that nobody is to wait for it."""
     name = f"limit of {thread.name}"
     machine.unseen[name] = f"ends in {duration(seconds)}"
     return (wakers("limit", machine.shared(["limit", name], [name])),)
 
 
-def words_of(thread: Thread) -> str:
+def words_of(thread: LinuxThread) -> str:
     """Returns how one waits that has a limit, in words: 'it sleeps for 27 h, of which 3 min are over'."""
     length, ends = limit_of(thread)
     if length is None and ends is None:
@@ -52,7 +52,7 @@ def words_of(thread: Thread) -> str:
     return f"it {verb} for {duration(length)}{more}"
 
 
-def age_of(thread: Thread) -> str:
+def age_of(thread: LinuxThread) -> str:
     """Returns for how long one has waited without a limit, in words, or nothing."""
     waited = waited_of(thread)
     return f"for {duration(round(waited))}" if waited is not None and waited >= LEAST else ""

@@ -9,19 +9,19 @@ from ..base import one_line
 from .frames import call_of, has_names, own_frames, word_of
 from .limits import age_of
 from .locks import LOCK_OF
-from .text import Thread, some_names
-from .waits import Wait
+from .text import LinuxThread, some_names
+from .waits import LinuxWait
 
 WIDTH = 100  # as much of a command line stands in a note
 
 
-def frames_of(thread: Thread) -> List[str]:
+def frames_of(thread: LinuxThread) -> List[str]:
     """Returns the frames of the process of a thread. Before those without names stands what is known by a name."""
     own, names = own_frames(thread), [thread.kin] if thread.kin else []
     return [*own, *names] if has_names(thread) else [*names, thread.owner.command, *own]
 
 
-def whole_note(thread: Thread, wait: Wait) -> str:
+def whole_note(thread: LinuxThread, wait: LinuxWait) -> str:
     """Returns what a thread does, where in the source, and of the first thread of a process by which command line."""
     places = own_frames(thread)[:1] if has_names(thread) or len(thread.owner.living) > 1 else []
     command = one_line(str(thread.owner.row.get("command", "")), WIDTH)
@@ -31,7 +31,7 @@ def whole_note(thread: Thread, wait: Wait) -> str:
     return ", ".join(filter(None, [" in ".join([note_of(thread, wait), *places]), age])) + told
 
 
-def note_of(thread: Thread, wait: Wait) -> str:
+def note_of(thread: LinuxThread, wait: LinuxWait) -> str:
     """Returns what a thread does, for people."""
     place = f"{wait.operation or call_of(thread)} {word_of(thread) if is_word(thread, wait) else wait.what}".strip()
     others = [owner for owner in wait.others if owner is not thread.owner]
@@ -50,6 +50,6 @@ def note_of(thread: Thread, wait: Wait) -> str:
     return f"{more}; it has the other end itself" if is_own else more
 
 
-def is_word(thread: Thread, wait: Wait) -> bool:
+def is_word(thread: LinuxThread, wait: LinuxWait) -> bool:
     """Whether one waits at the word of a futex."""
     return thread.call == "futex" and wait.what == f"{thread.arguments[0]:#x}"

@@ -30,10 +30,10 @@ from .locks import locks_besides, wait_for_lock
 from .notes import frames_of, whole_note
 from .stacks import BARRIER, add_stacks, hint, lend_calls, meeting_of, wait_at_futex
 from .text import ENDED as GONE
-from .text import Machine, Owner, Row, Thread, call_owners, call_threads, keep_calls, \
+from .text import LinuxMachine, Owner, Row, LinuxThread, call_owners, call_threads, keep_calls, \
     readings_of, rows_of, some_names, unread_in
 from .unread import Branches, unread_name, unread_one
-from .waits import Ease, Wait, against, is_in_call, not_shown, not_understood, with_end
+from .waits import Ease, LinuxWait, against, is_in_call, not_shown, not_understood, with_end
 
 NO_FACT = ", and no fact on its place decides that"
 WITH_HELPERS = ("erlang",)  # of these, those whose folder has other programs that the runtime begins
@@ -48,17 +48,17 @@ OWNED = ("owns", "ends")  # hows of those at a lock or a join, where no handler 
 UNSEEN = ("unread", "handles", "kills", "limit", "unshown")  # hows of those that are no process of the state
 ELSEWHERE_KEPT = "files kept elsewhere"
 SHOWN = 3  # as many that can't be read stand in lists by themselves, and more of them as one
-Subject = Union[Thread, List[Owner]]
+Subject = Union[LinuxThread, List[Owner]]
 
 
 class Computer(Snapshot):
     """The machine at one time, and who may have what of those who can't be read."""
 
-    machine: Machine
+    machine: LinuxMachine
     branches: Branches
 
 
-def signal_of(thread: Thread, snapshot: Computer) -> str:
+def signal_of(thread: LinuxThread, snapshot: Computer) -> str:
     """Returns what shows that a signal may end the waits of a process, or nothing."""
     if thread.row.get("pending"):
         return f"a signal is about to reach it{NO_FACT}"
@@ -71,7 +71,7 @@ def site_of(owner: Owner) -> str:
     return f"{owner.command}-{owner.pid}"
 
 
-def begun_by(machine: Machine, asked: Set[int]) -> Dict[str, str]:
+def begun_by(machine: LinuxMachine, asked: Set[int]) -> Dict[str, str]:
     """Returns by the site of each process below one that was asked for, asked for itself or not, the site of its
     parent."""
     sites: Dict[str, str] = {}
@@ -124,7 +124,7 @@ class LinuxParser(Parser):
         self.stacks = [row for row in rows if "stacks" in row]
         readings = readings_of(rows, state.path)
         unread, has_stacks = unread_in(readings), bool(rows[0].get("with_stacks") or self.stacks)
-        return [Reading(state.path, "machine", [Machine(reading, unread, has_stacks)],
+        return [Reading(state.path, "machine", [LinuxMachine(reading, unread, has_stacks)],
                         machine=str(rows[0].get("space", "")), time=time_of(reading[0]))
                 for reading in readings]
 
@@ -135,7 +135,7 @@ class LinuxParser(Parser):
         if paths[1:]:
             raise Refusal(f"{shown(paths[1])}: one state of Linux is expected, which has both readings, and "
                           f"{shown(paths[0])} is one")
-        machines: List[Machine] = [reading.rows[0] for reading in readings]
+        machines: List[LinuxMachine] = [reading.rows[0] for reading in readings]
         call_owners(machines)
         call_threads(machines)
         lend_calls(machines[0])
@@ -209,7 +209,7 @@ class LinuxParser(Parser):
             return garbled(name, f"its row has no {thread.lacks()}", **more)
         return self.process_at(thread, snapshot, wait_of(snapshot.machine, thread), more)
 
-    def process_at(self, thread: Thread, snapshot: Computer, wait: Wait, more: Dict[str, Any]) -> Process:
+    def process_at(self, thread: LinuxThread, snapshot: Computer, wait: LinuxWait, more: Dict[str, Any]) -> Process:
         """Returns the process of a thread that is at a wait. How long its limit is doesn't tell it from the next: many
         wait for what is left of some seconds. Nor does where one that only sleeps keeps that time."""
         if thread.call in SLEEPS:
@@ -239,7 +239,7 @@ class LinuxParser(Parser):
             more.update(is_collective=True, meeting=meeting_of(thread))
         return self.waiter(thread, snapshot, wait, more)
 
-    def waiter(self, thread: Thread, snapshot: Computer, wait: Wait, more: Dict[str, Any]) -> Process:
+    def waiter(self, thread: LinuxThread, snapshot: Computer, wait: LinuxWait, more: Dict[str, Any]) -> Process:
         """Returns the process of a thread that waits without a limit."""
         strangers = [] if wait.is_exact else self.strangers(thread, snapshot)
         besides = (*self.besides(thread, snapshot, wait), *((wakers("unread", strangers),) if strangers else ()))
@@ -256,13 +256,13 @@ class LinuxParser(Parser):
             return rests(thread.name, wait.why, parts, because, **more)
         return blocked(thread.name, parts, because, reason=wait.why, **more)
 
-    def strangers(self, thread: Thread, snapshot: Computer) -> List[str]:
+    def strangers(self, thread: LinuxThread, snapshot: Computer) -> List[str]:
         """Returns the names of those that can't be read, and may have a file at which a thread waits."""
         names = [name for owners, name in zip(self.unread, self.unread_names)
                  if snapshot.branches.may_have(owners, thread)]
         return snapshot.machine.shared(["unread", *names], names)
 
-    def besides(self, thread: Thread, snapshot: Computer, wait: Wait) -> Part:
+    def besides(self, thread: LinuxThread, snapshot: Computer, wait: LinuxWait) -> Part:
         """Returns who may end a wait in another way: a handler of a signal, who has a timer or waits with a limit and
         ends those below it then, and whoever may have a file that no descriptor shows."""
         machine, owner = snapshot.machine, thread.owner
@@ -275,7 +275,7 @@ class LinuxParser(Parser):
             part += (wakers("unshown", machine.shared(["carriers", *names], names)),)
         return part if is_owned(wait) else (*part, *self.handlers(thread, machine, wait))
 
-    def names_of_carriers(self, machine: Machine) -> List[str]:
+    def names_of_carriers(self, machine: LinuxMachine) -> List[str]:
         """Returns the names of those that may have a file which no descriptor shows. Those of other programs than the
         one that was asked for are one."""
         others = self.strangers_of(machine)
@@ -285,12 +285,12 @@ class LinuxParser(Parser):
         near = machine.list_of([owner for owner in machine.carriers if owner not in others])
         return [*near, *([ELSEWHERE_KEPT] if others else [])]
 
-    def strangers_of(self, machine: Machine) -> List[Owner]:
+    def strangers_of(self, machine: LinuxMachine) -> List[Owner]:
         tops = [owner for owner in machine.owners if owner.pid in self.pids]
         near = {owner.pid for owner in (*tops, *machine.below(tops))}
         return [owner for owner in machine.carriers if self.pids and owner.pid not in near]
 
-    def handlers(self, thread: Thread, machine: Machine, wait: Wait) -> Part:
+    def handlers(self, thread: LinuxThread, machine: LinuxMachine, wait: LinuxWait) -> Part:
         """Returns who may end a wait by a signal for which the process of a thread has a handler."""
         owner, signals = thread.owner, self.signals_of(thread.owner)
         part: Part = (wakers("handles", machine.shared(signals, signals)),) if signals else ()
@@ -306,17 +306,17 @@ class LinuxParser(Parser):
         return list(signals)
 
 
-def is_owned(wait: Wait) -> bool:
+def is_owned(wait: LinuxWait) -> bool:
     """Whether a wait is at a lock of a program or a join, which no handler of a signal ends."""
     return wait.is_exact and bool(wait.operation) and len(wait.parts) == 1 and all(
         group.how in OWNED for group in wait.parts[0])
 
 
-def is_of_runtime(thread: Thread) -> bool:
+def is_of_runtime(thread: LinuxThread) -> bool:
     return thread.owner.system in OWN_THREADS
 
 
-def is_helper(machine: Machine, owner: Owner) -> bool:
+def is_helper(machine: LinuxMachine, owner: Owner) -> bool:
     """Whether a process is a program of a runtime that one above it runs in, as erl_child_setup."""
     return any(above.system in WITH_HELPERS and folder_of(above) == folder_of(owner)
                for above in machine.above(owner))
@@ -332,7 +332,7 @@ def time_of(row: Row) -> Optional[Tuple[float, float]]:
     return (began, began + took) if isinstance(began, float) and isinstance(took, (int, float)) else None
 
 
-def polls(thread: Thread, is_awake: bool) -> str:
+def polls(thread: LinuxThread, is_awake: bool) -> str:
     """Returns why a thread that doesn't wait for ever may be of no use to others, or nothing: runtimes have threads of
     their own that look after something now and then, and a rank of MPI waits awake."""
     system = thread.owner.system
@@ -346,12 +346,12 @@ def polls(thread: Thread, is_awake: bool) -> str:
 # What a thread is at
 
 
-def wait_of(machine: Machine, thread: Thread) -> Wait:
+def wait_of(machine: LinuxMachine, thread: LinuxThread) -> LinuxWait:
     """Returns the wait of a thread."""
     wait = odd_wait(thread, machine)
     if wait is not None:
         return wait
-    wait = Wait() if thread.call in SLEEPS else wait_at_call(machine, thread)
+    wait = LinuxWait() if thread.call in SLEEPS else wait_at_call(machine, thread)
     if is_far(thread):
         wait.parts = [(*part, *far_limit(machine, thread, limit_of(thread)[1] or 0.0)) for part in wait.parts or [()]]
         wait.why = wait.why or words_of(thread)
@@ -361,7 +361,7 @@ def wait_of(machine: Machine, thread: Thread) -> Wait:
     return wait
 
 
-def may_tick(thread: Thread) -> bool:
+def may_tick(thread: LinuxThread) -> bool:
     """Whether a thread waits with a limit in its own loop: in the function that it was started with, or where no stack
     is known, where it only sleeps, or is alone in its process."""
     own = own_frames(thread)
@@ -371,17 +371,17 @@ def may_tick(thread: Thread) -> bool:
     return is_alone or thread.call in SLEEPS
 
 
-def odd_wait(thread: Thread, machine: Machine) -> Optional[Wait]:
+def odd_wait(thread: LinuxThread, machine: LinuxMachine) -> Optional[LinuxWait]:
     """Returns the wait of one that is stopped, traced or deep in the kernel, or None if it is none of these."""
     tracer = machine.by_pid.get(thread.owner.tracer)
     if thread.state == "t" and tracer is not None and not tracer.why:
-        return Wait(any_of(*with_end(machine, thread, [tracer], "owns")), tracer.name, operation="traced by",
-                    is_exact=True)
+        return LinuxWait(any_of(*with_end(machine, thread, [tracer], "owns")), tracer.name, operation="traced by",
+                         is_exact=True)
     if thread.state == "t":
         return not_understood("it is traced, and its tracer isn't known", operation="traced")
     if thread.state == "T":
-        return Wait(any_of(unseen("outside")), why="it is stopped, and any process may let it go on",
-                    operation="stopped", is_exact=True)
+        return LinuxWait(any_of(unseen("outside")), why="it is stopped, and any process may let it go on",
+                         operation="stopped", is_exact=True)
     if ELSEWHERE.search(str(thread.row.get("wchan", ""))):
         return not_understood(f"it is held up elsewhere than in its call{place_of(thread)}")
     if thread.arguments and not is_in_call(thread):
@@ -393,13 +393,13 @@ def odd_wait(thread: Thread, machine: Machine) -> Optional[Wait]:
     return None
 
 
-def place_of(thread: Thread) -> str:
+def place_of(thread: LinuxThread) -> str:
     """Returns where in the kernel a thread waits, as words."""
     where = str(thread.row.get("wchan", ""))
     return f", in {shown(where)}" if where not in ("", "0") else ""
 
 
-def wait_at_call(machine: Machine, thread: Thread) -> Wait:
+def wait_at_call(machine: LinuxMachine, thread: LinuxThread) -> LinuxWait:
     """Returns the wait of the call that a thread is in."""
     call = thread.call
     if call in (*READ, *WRITE, *ACCEPTS):
@@ -420,7 +420,7 @@ def wait_at_call(machine: Machine, thread: Thread) -> Wait:
     return not_understood(f"what ends it isn't known{place_of(thread)}")
 
 
-def wait_to_open(machine: Machine, thread: Thread) -> Wait:
+def wait_to_open(machine: LinuxMachine, thread: LinuxThread) -> LinuxWait:
     """Returns the wait for whoever opens the other end of a FIFO. Where a writer waits so, and one of another process
     too, each is likely to wait for the other: nobody idles to write. Readers alone may."""
     wait = not_shown("who may open the other end isn't known", shown(str(thread.row.get("path", ""))), "by-name")
@@ -431,11 +431,11 @@ def wait_to_open(machine: Machine, thread: Thread) -> Wait:
     return wait
 
 
-def is_opening(thread: Thread) -> bool:
+def is_opening(thread: LinuxThread) -> bool:
     return thread.call in OPENS and thread.row.get("wchan") == AT_FIFO
 
 
-def opens_to_write(thread: Thread) -> bool:
+def opens_to_write(thread: LinuxThread) -> bool:
     return thread.call in OPENS[:2] and bool(thread.arguments[OPENS.index(thread.call) + 1] & os.O_ACCMODE)
 
 

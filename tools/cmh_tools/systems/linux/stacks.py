@@ -14,8 +14,8 @@ from cmh_proc.calls import FUTEX_LOCKS, FUTEX_WAITS, OPERATION, OWNER, PRIVATE, 
 from ...model import Sign, any_of, unseen, wakers
 from .children import SIGCHLD
 from .frames import KEPT, is_known, library_names, takes_next
-from .text import CONDITION, ENDED, Machine, Owner, Row, Thread
-from .waits import FILES, Wait, against
+from .text import CONDITION, ENDED, LinuxMachine, Owner, Row, LinuxThread
+from .waits import FILES, LinuxWait, against
 
 STACK = "stack"
 TID = re.compile(r"^(?:TID (\d+):|Thread \d+ \(.*?LWP (\d+)\).*)$")
@@ -33,7 +33,7 @@ HELD = 2  # what glibc's mutex has in its word while it is held and somebody wai
 JOINS = ("_ZNSt6thread4joinEv", "std::thread::join")
 
 
-def add_stacks(machine: Machine, rows: Iterable[Row]) -> None:
+def add_stacks(machine: LinuxMachine, rows: Iterable[Row]) -> None:
     """Gives the threads of a reading their stacks, where these still stood at the same call afterwards."""
     for row in rows:
         stacks = stacks_of(str(row.get("text", "")))
@@ -43,7 +43,7 @@ def add_stacks(machine: Machine, rows: Iterable[Row]) -> None:
                 thread.stack = stacks.get(thread.tid, [])
 
 
-def lend_calls(machine: Machine) -> None:
+def lend_calls(machine: LinuxMachine) -> None:
     """Has a thread for whose stack there was no time be in the call of glibc that all others are in who wait at its
     word: a word is that of one lock."""
     for threads in (threads for owner in machine.owners for threads in owner.at_futex.values()):
@@ -54,7 +54,7 @@ def lend_calls(machine: Machine) -> None:
             thread.within = next(iter(calls))
 
 
-def is_same(thread: Thread, words: List[str]) -> bool:
+def is_same(thread: LinuxThread, words: List[str]) -> bool:
     """Whether a later look shows the arguments of the call that a thread is in."""
     return len(words) > 3 and words[1:4] == thread.row.get("args", [])[:3]
 
@@ -84,7 +84,7 @@ def step_in(line: str) -> Optional[Tuple[str, str]]:
     return call["function"], f"{call['file']}:{call['line']}" if call["file"] else ""
 
 
-def operation_of(thread: Thread) -> str:
+def operation_of(thread: LinuxThread) -> str:
     """Returns the call of glibc that a thread is in at a futex, or nothing."""
     if not thread.stack:
         return operation_within(thread)
@@ -97,7 +97,7 @@ def operation_of(thread: Thread) -> str:
     return ""
 
 
-def operation_within(thread: Thread) -> str:
+def operation_within(thread: LinuxThread) -> str:
     """Returns the call of glibc that a thread is in by where its stack was unwound to, or nothing. In the wait for a
     condition it may be at that's lock."""
     for name in (thread.within, *(WORDS.sub("", name) for name in library_names(thread))):
@@ -110,7 +110,7 @@ def operation_within(thread: Thread) -> str:
     return ""
 
 
-def wait_at_futex(machine: Machine, thread: Thread) -> Wait:
+def wait_at_futex(machine: LinuxMachine, thread: LinuxThread) -> LinuxWait:
     """Returns whom a thread at a futex waits for, and else who may wake it at most."""
     wait = owner_of_futex(machine, thread)
     if wait.sign is Sign.UNKNOWN and thread.is_late and not thread.stack and not wait.operation:
@@ -123,7 +123,7 @@ def wait_at_futex(machine: Machine, thread: Thread) -> Wait:
     return wait
 
 
-def set_wakers(machine: Machine, thread: Thread, wait: Wait) -> None:
+def set_wakers(machine: LinuxMachine, thread: LinuxThread, wait: LinuxWait) -> None:
     """Sets who may wake a thread at a futex: the threads that have its memory, and whoever traces these."""
     name, kin = thread.row.get("memory"), thread.owner.row.get("kin", ())
     owners = [thread.owner, *(machine.by_pid[pid] for pid in kin if pid in machine.by_pid)]
@@ -144,48 +144,51 @@ def set_wakers(machine: Machine, thread: Thread, wait: Wait) -> None:
     wait.is_exact, wait.premises = not name, [FILES] if name else []
 
 
-def handling(machine: Machine, owners: Iterable[Owner]) -> List[Owner]:
+def handling(machine: LinuxMachine, owners: Iterable[Owner]) -> List[Owner]:
     """Returns the children of those processes that have a handler for the end of these."""
     return [child for owner in owners if owner.catches(SIGCHLD) for child in machine.children(owner.pid)]
 
 
-def owner_of_futex(machine: Machine, thread: Thread) -> Wait:
+def owner_of_futex(machine: LinuxMachine, thread: LinuxThread) -> LinuxWait:
     """Returns whom a thread at a futex waits for, if its stack says of what the futex is, or if the kernel keeps that.
     """
     word = f"{thread.arguments[0]:#x}"
     kind, operation = int32(thread.arguments[1]) & OPERATION, operation_of(thread)
     if kind in FUTEX_LOCKS:
-        return owned(Wait(what=word, operation=operation), with_number(machine, thread, thread.word(0) & OWNER), "owns")
+        return owned(LinuxWait(what=word, operation=operation), with_number(machine, thread, thread.word(0) & OWNER),
+                     "owns")
     if not operation or kind not in FUTEX_WAITS:
         more = hint(thread) or ("" if machine.has_stacks or is_known(thread) else "; `--stacks` may show more")
-        return Wait(what=word, sign=Sign.UNKNOWN, why=f"the kernel doesn't know who ends it{more}")
+        return LinuxWait(what=word, sign=Sign.UNKNOWN, why=f"the kernel doesn't know who ends it{more}")
     if operation == BARRIER:
-        return Wait(what=word, sign=Sign.UNKNOWN, why="the state doesn't show who has still to come to its barrier",
-                    operation=operation)
+        return LinuxWait(what=word, sign=Sign.UNKNOWN,
+                         why="the state doesn't show who has still to come to its barrier",
+                         operation=operation)
     if operation == "pthread_join":
         joined = thread.owner.numbered.get(thread.word(0), [])
-        return owned(Wait(what=f"thread {thread.word(0)}", operation=operation, premises=[STACK]), joined, "ends")
+        return owned(LinuxWait(what=f"thread {thread.word(0)}", operation=operation, premises=[STACK]), joined, "ends")
     owner = thread.word(16 if thread.arguments[0] % 8 == 0 else 12)
     if operation in MUTEX:
         owner = thread.word(8)
         owner = owner if thread.word(0) == HELD or thread.word(0) & OWNER == owner else 0
-    return owned(Wait(what=word, operation=operation, premises=[STACK]), with_number(machine, thread, owner), "owns")
+    return owned(LinuxWait(what=word, operation=operation, premises=[STACK]), with_number(machine, thread, owner),
+                 "owns")
 
 
-def meeting_of(thread: Thread) -> str:
+def meeting_of(thread: LinuxThread) -> str:
     """Returns at which barrier a thread is: by the address of its word, if that is of one process alone."""
     is_private = thread.arguments[1] & PRIVATE
     return f"{thread.owner.pid} {thread.arguments[0]:#x}" if is_private else "shared"
 
 
-def with_number(machine: Machine, thread: Thread, tid: int) -> List[Thread]:
+def with_number(machine: LinuxMachine, thread: LinuxThread, tid: int) -> List[LinuxThread]:
     """Returns the threads that a number in a lock may stand for: of the same process, or of any if it is shared, each
     as it sees itself in its container."""
     is_private = thread.arguments[1] & PRIVATE or not tid
     return thread.owner.numbered.get(tid, []) if is_private else machine.threads(tid)
 
 
-def owned(wait: Wait, owners: List[Thread], how: str) -> Wait:
+def owned(wait: LinuxWait, owners: List[LinuxThread], how: str) -> LinuxWait:
     """Returns a wait for the one thread that has a lock, or that is joined."""
     if len(owners) != 1:
         wait.sign, wait.why = Sign.UNKNOWN, "who ends its wait isn't kept in memory"
@@ -196,7 +199,7 @@ def owned(wait: Wait, owners: List[Thread], how: str) -> Wait:
     return wait
 
 
-def hint(thread: Thread) -> str:
+def hint(thread: LinuxThread) -> str:
     """Returns which parser knows more of a process, as words for a reason."""
     system = thread.owner.system
     ways = ", by cmh_state or cmh_python_reader.py" if system == "python" else ""

@@ -80,9 +80,9 @@ class Owner:
     the frames of its threads, by their numbers."""
 
     row: Row
-    threads: List["Thread"] = field(default_factory=list)
+    threads: List["LinuxThread"] = field(default_factory=list)
     starts: Dict[int, Set[str]] = field(default_factory=dict)
-    stacks: Dict[Tuple[int, ...], Tuple["Frame", ...]] = field(default_factory=dict)
+    stacks: Dict[Tuple[int, ...], Tuple["LinuxFrame", ...]] = field(default_factory=dict)
 
     def __post_init__(self) -> None:
         self.pid, self.parent = (int(self.row.get(key, 0)) for key in ("pid", "ppid"))
@@ -94,7 +94,7 @@ class Owner:
         self.name = f"{self.command} {self.pid}"
         self.why = str(self.row.get("unreadable", ""))
         self.files = files_of(self.row.get("fds", {}))
-        self.threads = [Thread(self, row) for row in self.row.get("threads", [])] if not self.why else []
+        self.threads = [LinuxThread(self, row) for row in self.row.get("threads", [])] if not self.why else []
         self.living = [thread for thread in self.threads if thread.state not in ENDED]
 
     @cached_property
@@ -121,31 +121,31 @@ class Owner:
         return any(file.is_ring for file in self.files.values())
 
     @cached_property
-    def numbered(self) -> Dict[int, List["Thread"]]:
+    def numbered(self) -> Dict[int, List["LinuxThread"]]:
         """Its threads by the numbers that they see themselves as."""
         return threads_by(self.threads, lambda thread: thread.inner)
 
     @cached_property
-    def at_futex(self) -> Dict[int, List["Thread"]]:
+    def at_futex(self) -> Dict[int, List["LinuxThread"]]:
         """Its threads at a futex, by the address of its word."""
         return threads_by((thread for thread in self.threads if thread.call == "futex" and thread.arguments),
                           lambda thread: thread.arguments[0])
 
-    def frames_of(self, row: Row) -> Tuple["Frame", ...]:
+    def frames_of(self, row: Row) -> Tuple["LinuxFrame", ...]:
         """Returns the frames of a thread, by their numbers in the table of its process: those of one stack are made
         once. (Older states have the names of its own functions, where all of the stack was known.)"""
         if "stack" not in row:
-            return tuple(map(Frame, row.get("frames", ())))
+            return tuple(map(LinuxFrame, row.get("frames", ())))
         numbers = tuple(row["stack"])
         if numbers not in self.stacks:
             self.stacks[numbers] = self.frames_at(numbers)
         return self.stacks[numbers]
 
-    def frames_at(self, numbers: Tuple[int, ...]) -> Tuple["Frame", ...]:
+    def frames_at(self, numbers: Tuple[int, ...]) -> Tuple["LinuxFrame", ...]:
         table, modules = self.row.get("frames", []), [*self.row.get("modules", []), ["", ""]]
         if not all(0 <= number < len(table) and 0 <= table[number][1] < len(modules) for number in numbers):
             return ()
-        return tuple(Frame(name, modules[module][0], place, modules[module][1])
+        return tuple(LinuxFrame(name, modules[module][0], place, modules[module][1])
                      for name, module, place in map(table.__getitem__, numbers))
 
     def file(self, fd: int) -> OpenFile:
@@ -177,7 +177,7 @@ class Owner:
         return not self.why and not self.living
 
 
-class Frame(NamedTuple):
+class LinuxFrame(NamedTuple):
     """A function on a stack: its name or nothing, its program or library, and where that has the code, by its file."""
 
     function: str
@@ -187,7 +187,7 @@ class Frame(NamedTuple):
 
 
 @dataclass(eq=False)
-class Thread:
+class LinuxThread:
     """A thread, as one reading shows it. `stack` has its frames as a debugger shows them, where that was asked for, and
     `frames` as they were unwound from memory; `is_whole` says that nobody has called the outermost, and `is_again` that
     the thread may stand at another wait of the same call by now. `is_late` says that there was no time for its stack.
@@ -247,7 +247,7 @@ class Thread:
         return int.from_bytes(data, "little") if len(data) == 4 else 0
 
 
-class Machine:
+class LinuxMachine:
     """One reading of a machine: its processes, and who has which file. One that can't be read in any of the readings
     counts so in all: `unread` has these, each with why. `has_stacks` says that stacks were asked for."""
 
@@ -284,7 +284,7 @@ class Machine:
         return list(dict.fromkeys(owner for owner, file in self.holders.get(key, [])
                                   if mode in file.mode or not file.mode))
 
-    def names_of(self, owners: Iterable[Owner], waiter: Thread) -> List[str]:
+    def names_of(self, owners: Iterable[Owner], waiter: LinuxThread) -> List[str]:
         """Returns the names of the living threads of some processes, in one list for all waits that have the same. A
         waiter that is alone in its process is one of them only where nobody else is."""
         others = [owner for owner in dict.fromkeys(owners) if owner.living]
@@ -302,7 +302,7 @@ class Machine:
             self.lists[tuple(key)] = list(names)
         return self.lists[tuple(key)]
 
-    def threads(self, number: int) -> List[Thread]:
+    def threads(self, number: int) -> List[LinuxThread]:
         """Returns the threads that see themselves as a number: several, if they are of several namespaces."""
         return [thread for owner in self.owners for thread in owner.numbered.get(number, ())]
 
@@ -342,15 +342,15 @@ class Machine:
         return [self.owners[place] for place in self.kin.get(pid, ())]
 
 
-def threads_by(threads: Iterable[Thread], number_of: Callable[[Thread], int]) -> Dict[int, List[Thread]]:
+def threads_by(threads: Iterable[LinuxThread], number_of: Callable[[LinuxThread], int]) -> Dict[int, List[LinuxThread]]:
     """Returns threads by a number of each."""
-    rows: Dict[int, List[Thread]] = {}
+    rows: Dict[int, List[LinuxThread]] = {}
     for thread in threads:
         rows.setdefault(number_of(thread), []).append(thread)
     return rows
 
 
-def call_owners(machines: List[Machine]) -> None:
+def call_owners(machines: List[LinuxMachine]) -> None:
     """Has processes called in all readings as in the first that shows one: a program may change its name."""
     known: Dict[Tuple[int, object], Owner] = {}
     for owner in (owner for machine in machines for owner in machine.owners):
@@ -358,7 +358,7 @@ def call_owners(machines: List[Machine]) -> None:
         owner.command, owner.name = first.command, first.name
 
 
-def call_threads(machines: List[Machine]) -> None:
+def call_threads(machines: List[LinuxMachine]) -> None:
     """Has threads called as their programs have named them, in all readings as in the first that shows one. Those whose
     names don't tell them from others, or may be numbers of threads, have their own numbers besides."""
     titles: Dict[int, Dict[int, str]] = {}
@@ -376,7 +376,7 @@ def call_threads(machines: List[Machine]) -> None:
             thread.kin = family if kin[owner.pid][family] > 1 else title
 
 
-def keep_calls(machines: List[Machine]) -> None:
+def keep_calls(machines: List[LinuxMachine]) -> None:
     """Lets what the unwound stack of a thread says count in later readings too, where it is in the same call, and in
     which call of a library it is where it is still at the same wait. Who is at the other word of a condition has the
     first one's."""
@@ -393,13 +393,13 @@ def keep_calls(machines: List[Machine]) -> None:
                 thread.within = "" if thread.is_again else first.within
 
 
-def call_of(thread: Thread) -> Tuple[object, List[str]]:
+def call_of(thread: LinuxThread) -> Tuple[object, List[str]]:
     """Returns the call that a thread is in, with its arguments: what the other registers have is of no call."""
     call = thread.row.get("call")
     return call, (thread.row.get("args") or [])[:ARGUMENTS.get(str(call), MOST_ARGUMENTS)]
 
 
-def is_at_same_condition(first: Thread, thread: Thread) -> bool:
+def is_at_same_condition(first: LinuxThread, thread: LinuxThread) -> bool:
     """Whether a thread is at the same condition in two readings. Who comes next waits at the other one of its words."""
     (call, args), (later_call, later_args) = call_of(first), call_of(thread)
     is_one = call == later_call == "futex" and args[1:] == later_args[1:] and CONDITION.fullmatch(first.within)

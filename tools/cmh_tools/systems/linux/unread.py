@@ -15,7 +15,7 @@ from cmh_proc.open_files import OpenFile
 
 from ...sketch import UNREADABLE, Process, garbled, unknown
 from .children import tops_of
-from .text import ODD_THREADS, Machine, Owner, Thread
+from .text import ODD_THREADS, LinuxMachine, Owner, LinuxThread
 
 BELOW = "below "  # what stands for whatever is used below a process
 
@@ -23,12 +23,12 @@ BELOW = "below "  # what stands for whatever is used below a process
 class Branches:
     """The processes of one reading by who descends from whom."""
 
-    def __init__(self, machine: Machine) -> None:
+    def __init__(self, machine: LinuxMachine) -> None:
         self.machine = machine
         self.roots: Dict[str, Optional[int]] = {}  # below which process each file was made
         self.answers: Dict[Tuple[int, int], bool] = {}
 
-    def may_have(self, unread: List[Owner], thread: Thread) -> bool:
+    def may_have(self, unread: List[Owner], thread: LinuxThread) -> bool:
         """Whether one of some processes that can't be read may have a file at which a thread waits. Where it isn't
         known who they are, they may."""
         keys = list(dict.fromkeys(keys_of_wait(self.machine, thread)))
@@ -88,7 +88,7 @@ class Branches:
         return True
 
 
-def keys_of_wait(machine: Machine, thread: Thread) -> Iterator[str]:
+def keys_of_wait(machine: LinuxMachine, thread: LinuxThread) -> Iterator[str]:
     """Yields what tells the files or the memory at which a thread waits, and their other ends, from others."""
     if thread.call in IPC:
         yield from (f"{BELOW}{top.pid}" for top in tops_of(machine, thread))
@@ -105,7 +105,7 @@ def keys_of_wait(machine: Machine, thread: Thread) -> Iterator[str]:
         yield from (f"socket:[{number}]" for number in numbers)
 
 
-def keys_with_peers(machine: Machine, file: OpenFile) -> Iterator[str]:
+def keys_with_peers(machine: LinuxMachine, file: OpenFile) -> Iterator[str]:
     """Yields what tells an open file, and if it is a socket its peers."""
     yield from file.keys()
     yield from (f"socket:[{peer}]" for peer in machine.sockets.get(file.socket, {}).get("peers", ()))

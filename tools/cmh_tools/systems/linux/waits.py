@@ -9,7 +9,7 @@ from typing import Iterable, List
 from cmh_proc.calls import ACCEPTS, CHILDREN, EPOLLS, MOVES, READ, SETS, SLEEPS, SUSPENDS, WRITE, int32
 
 from ...model import Part, Sign, any_of, unseen, wakers
-from .text import Machine, Owner, Thread
+from .text import LinuxMachine, Owner, LinuxThread
 
 FILES, SLEEPER, UNTIMED = "files", "sleeper", "untimed"  # assumptions
 AT_FILES = (*READ, *WRITE, *ACCEPTS, *SETS, *EPOLLS, *MOVES)  # calls that wait at files
@@ -37,7 +37,7 @@ class Ease(IntEnum):
 
 
 @dataclass
-class Wait:
+class LinuxWait:
     """A wait, or what one descriptor of a set is waited at for. `what` says at what it is, and `others` who has the
     other ends, for people. `why` says why it isn't understood, rests, or ends by itself. `is_exact` says that no
     process that can't be read may end it, and `operation` what it does, if that is another word than the call."""
@@ -53,20 +53,20 @@ class Wait:
     ease: Ease = Ease.NONE
 
 
-def is_in_call(thread: Thread) -> bool:
+def is_in_call(thread: LinuxThread) -> bool:
     """Whether a thread may wait in its call where it does in the kernel."""
     where = str(thread.row.get("wchan", ""))
     calls = next((calls for form, calls in CALLS_IN if form.fullmatch(where)), None)
     return calls is None or thread.call in (*calls, "restart_syscall")
 
 
-def not_understood(why: str, what: str = "", operation: str = "") -> Wait:
-    return Wait(what=what, sign=Sign.UNKNOWN, why=why, operation=operation)
+def not_understood(why: str, what: str = "", operation: str = "") -> LinuxWait:
+    return LinuxWait(what=what, sign=Sign.UNKNOWN, why=why, operation=operation)
 
 
-def not_shown(why: str, what: str, how: str = "unshown", ease: Ease = Ease.NONE) -> Wait:
+def not_shown(why: str, what: str, how: str = "unshown", ease: Ease = Ease.NONE) -> LinuxWait:
     """A wait that somebody may end who isn't in the state."""
-    return Wait(any_of(unseen(how)), what, why=why, ease=ease)
+    return LinuxWait(any_of(unseen(how)), what, why=why, ease=ease)
 
 
 def only_sleeps(owner: Owner) -> bool:
@@ -88,7 +88,8 @@ def with_sleeper(premises: List[str], owners: List[Owner]) -> List[str]:
     return [*premises, SLEEPER] if len(users_of(owners)) < len(owners) else [*premises]
 
 
-def with_end(machine: Machine, thread: Thread, owners: Iterable[Owner], how: str, may_be_alone: bool = False) -> Part:
+def with_end(machine: LinuxMachine, thread: LinuxThread, owners: Iterable[Owner], how: str,
+             may_be_alone: bool = False) -> Part:
     """Returns the wakers that some processes are who have what is needed: the one thread there is, in the way `how`, or
     each thread of them, which can reach it. A waiter that is alone in its process is one of several only where it
     `may_be_alone` the one who is needed."""
@@ -97,7 +98,7 @@ def with_end(machine: Machine, thread: Thread, owners: Iterable[Owner], how: str
     return (wakers(how if len(names) == 1 else "reaches", names),) if names else ()
 
 
-def against(machine: Machine, thread: Thread, owners: Iterable[Owner], how: str) -> Part:
+def against(machine: LinuxMachine, thread: LinuxThread, owners: Iterable[Owner], how: str) -> Part:
     """Returns the threads of some processes, but for the waiter where it is alone in its own, as those who may end a
     wait in another way."""
     others = [owner for owner in dict.fromkeys(owners)
@@ -105,7 +106,7 @@ def against(machine: Machine, thread: Thread, owners: Iterable[Owner], how: str)
     return (wakers(how, machine.names_of(others, thread)),) if others else ()
 
 
-def names_of_epoll(thread: Thread) -> List[str]:
+def names_of_epoll(thread: LinuxThread) -> List[str]:
     """Returns the name of the open epoll at which a thread waits, which others may have too, or of any epoll where the
     kernel doesn't tell one from another."""
     epoll = thread.owner.file(int32(thread.arguments[0])) if thread.call in EPOLLS else None

@@ -18,8 +18,8 @@ from ...sketch import LIMIT, SYSTEM, Process, Sketch, blocked, garbled, goes_on,
 from ...snapshots import APART, Reading
 from .. import State
 from ..base import Parser, Snapshot, one_line
-from .text import LINES, Look, seconds_of, words_in
-from ..sessions import SLACK, Lasting, Limits, Row, check_server, check_times, client_words, connections_of, \
+from .text import LINES, MariadbLook, seconds_of, words_in
+from ..sessions import SLACK, Lasting, SessionLimits, Row, check_server, check_times, client_words, connections_of, \
     doubt_newcomers, end_of_socket, names_in, with_limits, words_for
 
 LIMITS, TABLES = "session-limits", "named-tables"  # assumptions
@@ -42,31 +42,31 @@ NAMES_LOCK = re.compile(r"get_lock\s*\(\s*('[^']*')", re.I)
 NO_PLUGIN = "the server doesn't show who has a metadata lock: its plugin metadata_lock_info isn't there"
 
 
-class Server(Snapshot):
+class MariadbServer(Snapshot):
     """A look: the names of its connections by their numbers, and its rows."""
 
-    look: Look
+    look: MariadbLook
     names: Dict[int, str]
     rows_by_id: Dict[int, Row]
 
 
 class MariadbParser(Parser):
     NAME, IDLE, MOMENT = "mariadb", "connections", APART
-    SNAPSHOT_CLASS = Server
+    SNAPSHOT_CLASS = MariadbServer
 
     def __init__(self) -> None:
-        self.limits = Limits()
+        self.limits = SessionLimits()
         self.last = self.later = 0.0  # the time of the last look, and how much later it is than the one at hand
         self.warnings: Dict[str, None] = {}
         self.names: Dict[int, str] = {}
 
     def read(self, state: State) -> List[Reading]:
         return [Reading(look.path, "server", [look], machine=look.end["machine"], time=look.taken)
-                for look in LINES.looks(state.text, state.path, Look)]
+                for look in LINES.looks(state.text, state.path, MariadbLook)]
 
     def begin(self, readings: List[Reading]) -> None:
         """Names the connections, and sees which rows of two looks contradict each other."""
-        looks: List[Look] = [reading.rows[0] for reading in readings]
+        looks: List[MariadbLook] = [reading.rows[0] for reading in readings]
         check_server(readings[0].path, ((look.head["version"], look.end["machine"], look.end["process"])
                                         for look in looks))
         check_times(readings[0].path, [seconds_of(look.head["look"]) for look in looks],
@@ -86,16 +86,16 @@ class MariadbParser(Parser):
         for row in (row for look in looks for row in look.of("thread") if row["thread"] in owners):
             row["odd"] = f"transaction.{owners[row['thread']]}"
 
-    def prepare(self, snapshot: Server) -> None:
+    def prepare(self, snapshot: MariadbServer) -> None:
         snapshot.look = snapshot.readings[0].rows[0]
         self.later = self.last - snapshot.look.taken[1]
         snapshot.rows_by_id = {row["thread"]: row for row in snapshot.look.of("thread")}
         snapshot.names = {number: self.names[number] for number in snapshot.rows_by_id}
 
-    def processes(self, snapshot: Server) -> Iterable[Row]:
+    def processes(self, snapshot: MariadbServer) -> Iterable[Row]:
         return [row for row in snapshot.look.of("thread") if row.get("command") not in OF_SERVER]
 
-    def process_of(self, subject: Row, snapshot: Server) -> Process:
+    def process_of(self, subject: Row, snapshot: MariadbServer) -> Process:
         row, name = subject, snapshot.names[subject["thread"]]
         if "odd" in row:
             return garbled(name, f"its row has no {row['odd']} as these have it")
@@ -123,12 +123,12 @@ class MariadbParser(Parser):
         name = self.limits.name(f"{setting} of connection {row['thread']}", row["thread"], left)
         return (wakers("expires", [name], premise(LIMIT)),)
 
-    def statement_limit(self, row: Row, look: Look) -> Part:
+    def statement_limit(self, row: Row, look: MariadbLook) -> Part:
         return self.limit(row, "max_statement_time", look.limits.get("max_statement_time"), row["time"])
 
     # Waits for a lock
 
-    def at_row(self, name: str, row: Row, trx: Row, snapshot: Server, more: Dict[str, Any]) -> Process:
+    def at_row(self, name: str, row: Row, trx: Row, snapshot: MariadbServer, more: Dict[str, Any]) -> Process:
         """One that waits for a lock of InnoDB, for all by whom it is blocked."""
         look = snapshot.look
         if any(wait["lock"] != trx["lock"] for wait in look.waits_of(trx["transaction"])):
@@ -155,7 +155,7 @@ class MariadbParser(Parser):
                   *self.statement_limit(row, look))
         return blocked(name, with_limits(parts, limits), [SYSTEM, premise(LIMITS)], **more)
 
-    def at_user_lock(self, name: str, row: Row, snapshot: Server, more: Dict[str, Any]) -> Process:
+    def at_user_lock(self, name: str, row: Row, snapshot: MariadbServer, more: Dict[str, Any]) -> Process:
         """One that waits in GET_LOCK for who has the lock of that name, up to the limit that it says."""
         owner = snapshot.names.get(row["user_lock"] or 0)
         match = ENDS_WAIT.search(row["info"] or "")
@@ -167,7 +167,7 @@ class MariadbParser(Parser):
         parts = with_limits([part], (*limits, *self.statement_limit(row, snapshot.look)))
         return blocked(name, parts, [SYSTEM, premise(LIMITS)], **more)
 
-    def at_metadata(self, name: str, row: Row, kind: str, snapshot: Server, more: Dict[str, Any]) -> Process:
+    def at_metadata(self, name: str, row: Row, kind: str, snapshot: MariadbServer, more: Dict[str, Any]) -> Process:
         """One that waits for a metadata lock, of a table whose name stands in its statement."""
         look = snapshot.look
         more.update(operation=kind, note=f"{kind}{lasting(row['time'])}: {query_of(row)}")
@@ -187,7 +187,8 @@ class MariadbParser(Parser):
 
     # Other states
 
-    def by_state(self, name: str, row: Row, trx: Optional[Row], snapshot: Server, more: Dict[str, Any]) -> Process:
+    def by_state(self, name: str, row: Row, trx: Optional[Row], snapshot: MariadbServer,
+                 more: Dict[str, Any]) -> Process:
         """Returns one by its command and the state of its thread."""
         command, state, look = row["command"], row["state"] or "", snapshot.look
         if command == SLEEP and trx is not None:
@@ -219,7 +220,7 @@ class MariadbParser(Parser):
         more.update(frames=[], objects=[], operation="")  # (it goes from state to state)
         return goes_on(name, "is at work", [SYSTEM], **more)
 
-    def finish(self, sketch: Sketch, snapshots: List[Server]) -> None:
+    def finish(self, sketch: Sketch, snapshots: List[MariadbServer]) -> None:
         """Adds the limits, who serves which connection, and warnings. One through a socket of Unix has no ends here.
         """
         self.limits.add_to(sketch)
@@ -237,7 +238,7 @@ def lock_of(row: Row) -> str:
     return f"lock {one_line(names.pop(), 40)} of GET_LOCK" if len(names) == 1 else "lock of GET_LOCK"
 
 
-def held_by(number: int, look: Look) -> List[str]:
+def held_by(number: int, look: MariadbLook) -> List[str]:
     """Returns in words the locks of a connection for which others wait, but for those of rows."""
     waiting = [row for row in look.of("thread") if "odd" not in row]
     kinds = {match[1].lower() for row in waiting for match in [METADATA.fullmatch(row["state"] or "")] if match}
@@ -246,7 +247,7 @@ def held_by(number: int, look: Look) -> List[str]:
               if lock["metadata"] == number and lock["mode"] != WEAK and lock["type"].lower() in kinds)]
 
 
-def more_of(row: Row, trx: Optional[Row], look: Look) -> Dict[str, Any]:
+def more_of(row: Row, trx: Optional[Row], look: MariadbLook) -> Dict[str, Any]:
     """Returns what is told of a connection beside its wait."""
     count = [str(row["query_id"])]
     count += [str(trx[key]) for key in ("transaction", "started", "wait_started")] if trx else []
@@ -270,7 +271,7 @@ def begun(trx: Row) -> str:
     return "" if trx["age"] is None else f", begun {words_for(trx['age'])} ago"
 
 
-def renamed_in(before: Look, look: Look) -> Iterator[int]:
+def renamed_in(before: MariadbLook, look: MariadbLook) -> Iterator[int]:
     """Yields the connections that wait since one time by both looks, in transactions of two numbers."""
     for owner, row in look.transactions.items():
         other = before.transactions.get(owner, row)
@@ -278,7 +279,7 @@ def renamed_in(before: Look, look: Look) -> Iterator[int]:
             yield from [owner] if row["transaction"] != other["transaction"] else []
 
 
-def is_newer(row: Row, look: Look) -> bool:
+def is_newer(row: Row, look: MariadbLook) -> bool:
     """Whether a connection is newer than all of a look, and so is what it does."""
     last = max((other.get("query_id") or 0 for other in look.of("thread")), default=0)
     is_later = not row.get("query_id") or row["query_id"] > last
@@ -307,7 +308,7 @@ def query_of(row: Row) -> str:
     return one_line(str(row["info"] or ""), 80) or "no query"
 
 
-def is_wanted(trx: Row, look: Look) -> bool:
+def is_wanted(trx: Row, look: MariadbLook) -> bool:
     """Whether others may wait for what a transaction has: a row, or a metadata lock."""
     return any(wait["for"] == trx["transaction"] for wait in look.of("wait")) or any(
         "odd" not in row and METADATA.fullmatch(row["state"] or "") for row in look.of("thread"))
@@ -321,7 +322,7 @@ def takes_strong(row: Row) -> bool:
     return (words_in(row.get("info") or "") or [""])[0] in CHANGES_TABLES
 
 
-def metadata_parts(row: Row, kind: str, snapshot: Server) -> List[Part]:
+def metadata_parts(row: Row, kind: str, snapshot: MariadbServer) -> List[Part]:
     """Returns the parts of a wait for a metadata lock: who has it in a way that keeps this statement out, and who waits
     for it in such a way, and came first. Where the statement may speak of several things that are locked, any of these
     may be the one."""
@@ -348,7 +349,7 @@ def metadata_parts(row: Row, kind: str, snapshot: Server) -> List[Part]:
     return any_of(wakers("listed", names), unseen("unshown", why)) if names else []
 
 
-def likely_holders(row: Row, snapshot: Server) -> List[str]:
+def likely_holders(row: Row, snapshot: MariadbServer) -> List[str]:
     """Returns who is likely to keep a statement out that waits for a metadata lock, where the server doesn't show that:
     whose statement takes such a lock that keeps all out, or for one like that also who has a transaction open."""
     rows = [other for other in snapshot.look.of("thread") if other is not row and "odd" not in other]

@@ -41,7 +41,7 @@ def seconds_of(text: str) -> float:
         raise Refusal(f"{shown(text)} is no time") from error
 
 
-class Look(ServerLook):
+class MariadbLook(ServerLook):
     def check(self) -> None:
         is_one = len(self.of("end")) == len(self.of("limits")) == 1
         self.check_count(is_one and self.end["end"] == sum(map(len, self.rows.values())) - 1)

@@ -9,7 +9,7 @@ from typing import Any, Dict, Iterable, List, NamedTuple, Tuple
 
 from ...model import Part, Strength, Wakers, any_of, of_list, unseen, wakers
 from ...sketch import SYSTEM, premise
-from .ranks import EVERY, TAKES, Job, Rank, Thread, name_of
+from .ranks import EVERY, TAKES, MpiJob, RankOfRecords, RankThread, name_of
 from .text import (ALL, ALL_OF, ANY_OF, ANY_SOURCE, BEFORE, FROM_ROOT, LOCK, OTHER, POLL, RECEIVE, SEND, SOME,
                    TO_ROOT, Row, rank_at, ranks_of)
 
@@ -35,7 +35,7 @@ def open_to(why: str, *known: Wakers) -> Need:
     return Need(any_of(*known, unseen("unshown", why)), (), why)
 
 
-def need_of(thread: Thread, job: Job, row: Row) -> Need:
+def need_of(thread: RankThread, job: MpiJob, row: Row) -> Need:
     """Returns what a call, or a request, of a thread needs."""
     kind, comms = row["kind"], thread.rank.comms
     if kind == OTHER and not name_of(row).startswith(("File_", *NEIGHBORS)) or not 0 <= row["comm"] < len(comms):
@@ -66,7 +66,7 @@ def is_of(row: Row, comm: Row) -> bool:
 # Messages
 
 
-def partner(rank: Rank, name: str) -> Part:
+def partner(rank: RankOfRecords, name: str) -> Part:
     """Returns who sends or receives for a rank. It may be another thread of it than the one that calls MPI."""
     names = [other for other in rank.names() if other != name] or rank.names()
     helpers = [thread.name for thread in rank.helpers]
@@ -74,7 +74,7 @@ def partner(rank: Rank, name: str) -> Part:
     return (one, wakers("same-process", helpers)) if helpers else (one,)
 
 
-def need_of_message(thread: Thread, job: Job, comm: Row, row: Row) -> Need:
+def need_of_message(thread: RankThread, job: MpiJob, comm: Row, row: Row) -> Need:
     if row["partner"] == ANY_SOURCE:
         return need_of_any(thread, job, comm, row)
     number = rank_at(comm, row["partner"])
@@ -87,7 +87,7 @@ def need_of_message(thread: Thread, job: Job, comm: Row, row: Row) -> Need:
     return Need(any_of(*partner(job.ranks[number], thread.name)))
 
 
-def need_of_any(thread: Thread, job: Job, comm: Row, row: Row) -> Need:
+def need_of_any(thread: RankThread, job: MpiJob, comm: Row, row: Row) -> Need:
     """Returns the need of a receive that any other one of a communicator may end."""
     ranks = ranks_of(comm)
     if ranks is None:
@@ -103,7 +103,7 @@ def need_of_any(thread: Thread, job: Job, comm: Row, row: Row) -> Need:
     return Need(any_of(names))
 
 
-def is_under_way(rank: Rank, other: Rank, comm: Row, row: Row) -> bool:
+def is_under_way(rank: RankOfRecords, other: RankOfRecords, comm: Row, row: Row) -> bool:
     """Whether another rank has the other half of a message: it may be long, and on its way."""
     for half in (*other.halves.get(comm["rank"], ()), *other.halves.get(ANY_SOURCE, ())):
         ids, tags = {other.comms[half["comm"]]["id"], comm["id"]}, {row["tag"], half["tag"]}
@@ -123,7 +123,7 @@ class Late:
     `lacks` why others may be late too, as a rank isn't in the state."""
 
     ranks: List[int] = field(default_factory=list)
-    away: List[Rank] = field(default_factory=list)
+    away: List[RankOfRecords] = field(default_factory=list)
     parts: Dict[int, Part] = field(default_factory=dict)
     differs: bool = False
     lacks: str = ""
@@ -142,7 +142,7 @@ class Late:
             (*self.parts[number], *beside) for number in ranks]
 
 
-def late_of(job: Job, comm: Row, row: Row, name: str) -> Late:
+def late_of(job: MpiJob, comm: Row, row: Row, name: str) -> Late:
     """Returns those that haven't come to a collective call."""
     key = comm["id"], row["number"], name, row["partner"]
     if key not in job.late:
@@ -151,7 +151,7 @@ def late_of(job: Job, comm: Row, row: Row, name: str) -> Late:
     return late
 
 
-def find_late(job: Job, comm: Row, row: Row, name: str) -> Late:
+def find_late(job: MpiJob, comm: Row, row: Row, name: str) -> Late:
     late = Late()
     for number in ranks_of(comm) or []:
         rank = job.ranks.get(number)
@@ -168,12 +168,12 @@ def find_late(job: Job, comm: Row, row: Row, name: str) -> Late:
     return late
 
 
-def is_unknown(rank: Rank, comm: Row) -> bool:
+def is_unknown(rank: RankOfRecords, comm: Row) -> bool:
     """Whether it isn't known of a rank that lacks a communicator whether it has freed that, or has yet to make it."""
     return comm["id"] not in rank.by_id and (comm.get("parent", "0") == "0" or rank.is_hidden())
 
 
-def is_late(rank: Rank, comm: Row, number: int, name: str, root: Any) -> bool:
+def is_late(rank: RankOfRecords, comm: Row, number: int, name: str, root: Any) -> bool:
     """Whether a rank, by its count in a communicator, hasn't come to a call, or has made another one in its place."""
     own = rank.by_id.get(comm["id"])
     if own is None:
@@ -196,7 +196,7 @@ def past_name(comm: Row, number: int) -> str:
     return next(iter(past[comm["number"] - number - 1:]), "")
 
 
-def has_yet_to_make(rank: Rank, comm: Row) -> bool:
+def has_yet_to_make(rank: RankOfRecords, comm: Row) -> bool:
     """Whether a rank that doesn't have a communicator hasn't made it so far. Then it still has the one that this is
     made of. Else it has freed it: it has come to all calls of it, and gone."""
     parent = rank.by_id.get(comm.get("parent", ""))
@@ -207,7 +207,7 @@ def has_yet_to_make(rank: Rank, comm: Row) -> bool:
     return parent["number"] < made or any(rank.comms[row["comm"]:row["comm"] + 1] == [parent] for row in makes)
 
 
-def need_of_meeting(thread: Thread, job: Job, comm: Row, row: Row) -> Need:
+def need_of_meeting(thread: RankThread, job: MpiJob, comm: Row, row: Row) -> Need:
     """Returns what a collective call needs, or a request of one."""
     if row["number"] < 1 or ranks_of(comm) is None:
         return open_to("the record doesn't have its number" if row["number"] < 1 else NO_RANKS)
@@ -231,7 +231,7 @@ def needed(comm: Row, kind: int, root: Any, late: Late) -> List[int]:
     return [number for number in ranks[:comm["rank"]] if number in late.ranks] if kind == BEFORE else []
 
 
-def need_of_late(late: Late, away: List[Rank]) -> Need:
+def need_of_late(late: Late, away: List[RankOfRecords]) -> Need:
     """Returns the need of a call that may go on without some of those that are late: it waits for one of them at least,
     or for one that has begun the same call, and goes on with it only when it calls MPI again."""
     names = [name for number in late.ranks for group in late.parts[number] for name in group.names()]
@@ -247,7 +247,7 @@ def need_of_late(late: Late, away: List[Rank]) -> Need:
 # Windows
 
 
-def need_of_window(thread: Thread, job: Job, comm: Row, row: Row) -> Need:
+def need_of_window(thread: RankThread, job: MpiJob, comm: Row, row: Row) -> Need:
     """Returns what a call needs that waits for the lock of a window, or for the other side of an access."""
     target, ranks = row["partner"], ranks_of(comm) or []
     if target not in (EVERY, *range(len(ranks))) or any(number not in job.ranks for number in ranks):
@@ -269,11 +269,11 @@ def need_of_window(thread: Thread, job: Job, comm: Row, row: Row) -> Need:
                                                                    if names else [])), (SYSTEM, premise(KEPT_BY)))
 
 
-def names_of(ranks: Iterable[Rank]) -> List[str]:
+def names_of(ranks: Iterable[RankOfRecords]) -> List[str]:
     return [name for rank in dict.fromkeys(ranks) for name in rank.all_names()]
 
 
-def keepers_of(ranks: List[Rank], target: int) -> List[Rank]:
+def keepers_of(ranks: List[RankOfRecords], target: int) -> List[RankOfRecords]:
     """Returns those that may have to look after the lock of a target of a window."""
     if target == EVERY:
         return ranks
@@ -284,7 +284,7 @@ def keepers_of(ranks: List[Rank], target: int) -> List[Rank]:
 # Requests
 
 
-def need_of_requests(thread: Thread, job: Job, kind: int) -> Need:
+def need_of_requests(thread: RankThread, job: MpiJob, kind: int) -> Need:
     """Returns what a call needs that waits for requests: all of them, or any."""
     rows = thread.requests()
     number = len([request for request in thread.row["requests"] if request[0]])

@@ -20,7 +20,7 @@ from .. import State
 from ..base import Break, Parser, Snapshot, without_sleep
 from .ranks import FEW
 from .records import COMPUTES, FINALIZED, ONE_THREAD, RecordsParser, doubt_reach, pids_of, say_missing
-from .stacks import Stack, like_gdb, lost_of, stacks_of
+from .stacks import RankStack, like_gdb, lost_of, stacks_of
 from .text import MARK
 
 # Lines are searched for by the letters that they begin with, as those of stacks.
@@ -48,17 +48,17 @@ class Head(NamedTuple):
 
 
 @dataclass
-class Rank:
+class RankOfStacks:
     """A rank as one reading shows it, or with a `suffix` another thread of it. `threads` are those that run code of the
     job's, `fault` says what of it isn't understood, and `cut` which of its other threads isn't shown whole. `peers` are
     the others of its process, and `count` is how often it has given up its processor: one that polls in
     a call of MPI doesn't."""
 
     head: Head
-    stack: Stack
+    stack: RankStack
     fault: str = ""
     suffix: str = ""
-    threads: List[Rank] = field(default_factory=list)
+    threads: List[RankOfStacks] = field(default_factory=list)
     peers: List[str] = field(default_factory=list)
     cut: str = ""
     count: Optional[str] = None
@@ -78,10 +78,10 @@ class Rank:
                 "count": self.count if self.suffix else None, "stack": stack.whole,
                 "is_collective": stack.is_collective, "meeting": self.name if stack.is_of_request else ""}
 
-    def between(self, place: int, polls: Stack) -> Tuple[Rank, Dict[str, Any]]:
+    def between(self, place: int, polls: RankStack) -> Tuple[RankOfStacks, Dict[str, Any]]:
         """Returns it as it stands at the call by which another one polls in the function of a frame of its own: the
         next call of that loop, or the one before."""
-        made = Rank(self.head, Stack([*polls.frames[:polls.begin], *self.stack.own[place:]]))
+        made = RankOfStacks(self.head, RankStack([*polls.frames[:polls.begin], *self.stack.own[place:]]))
         more = made.more()
         return made, {**more, "frames": [*polls.places[:1], *more["frames"][1:]]}
 
@@ -91,18 +91,18 @@ class Ranks(Snapshot):
     to MPI_Finalize, and `late` the names of those that aren't in the one collective call in which all others are, by
     the same calls of the job's own, if there is one."""
 
-    ranks: Dict[int, Rank]
+    ranks: Dict[int, RankOfStacks]
     names: List[str]
     to_finalize: List[Part]
     late: List[str]
 
-    def others(self, rank: Rank) -> Wakers:
+    def others(self, rank: RankOfStacks) -> Wakers:
         """Those who may end a wait of a rank of which the state doesn't show who does."""
         names = self.names if len(self.names) > FEW else [other for other in self.names if other != rank.name]
         return wakers("reaches", names)
 
 
-def other_thread(rank: Rank, snapshot: Ranks) -> str:
+def other_thread(rank: RankOfStacks, snapshot: Ranks) -> str:
     """Returns what shows that another thread of a rank may send for it, of whom nothing is known, or nothing."""
     return rank.cut
 
@@ -115,7 +115,7 @@ class MpiParser(Parser):
     BREAKS = {ONE_THREAD: Break(other_thread, True)}
 
     def __init__(self) -> None:
-        self.polls: Dict[str, Stack] = {}  # by the function that calls it, who polls there
+        self.polls: Dict[str, RankStack] = {}  # by the function that calls it, who polls there
         self.names: List[str] = []  # those of the last snapshot, whose list the next one shares
 
     def record(self, states: List[State]) -> Sketch:
@@ -138,8 +138,8 @@ class MpiParser(Parser):
 
     def begin(self, readings: List[Reading]) -> None:
         """Says which ranks the job has that the state lacks."""
-        ranks: List[Rank] = [rank for reading in readings for rank in reading.rows]
-        pids = pids_of(readings, Rank.process_id)
+        ranks: List[RankOfStacks] = [rank for reading in readings for rank in reading.rows]
+        pids = pids_of(readings, RankOfStacks.process_id)
         self.polls = {rank.stack.own[0].function: rank.stack for rank in reversed(ranks)
                       if rank.stack.does_poll and rank.stack.own}
         say_missing(readings, pids, [rank.head.size for rank in ranks])
@@ -156,13 +156,13 @@ class MpiParser(Parser):
         is_one = len({*places.values()}) == 1 and not any(thread.stack.is_together() for thread in threads)
         snapshot.late = [rank.name for rank in snapshot.ranks.values() if is_one and rank.name not in places]
 
-    def processes(self, snapshot: Ranks) -> Iterable[Rank]:
+    def processes(self, snapshot: Ranks) -> Iterable[RankOfStacks]:
         return [one for rank in snapshot.rows() for one in (rank, *rank.threads)]
 
     def finish(self, sketch: Sketch, snapshots: List[Any]) -> None:
         doubt_reach(sketch)
 
-    def process_of(self, subject: Rank, snapshot: Ranks) -> Process:
+    def process_of(self, subject: RankOfStacks, snapshot: Ranks) -> Process:
         rank, more, stack = subject, subject.more(), subject.stack
         if rank.fault or not stack.frames:
             return garbled(rank.name, rank.fault or "no stack could be read", site=more["site"])
@@ -180,7 +180,7 @@ class MpiParser(Parser):
         return made
 
 
-def in_call(rank: Rank, snapshot: Ranks, more: Dict[str, Any]) -> Process:
+def in_call(rank: RankOfStacks, snapshot: Ranks, more: Dict[str, Any]) -> Process:
     """Returns a rank that is in a call of MPI."""
     name, operation = rank.name, more["operation"]
     if operation == "MPI_Finalize":
@@ -198,7 +198,7 @@ def in_call(rank: Rank, snapshot: Ranks, more: Dict[str, Any]) -> Process:
     return blocked(name, any_of(*partner), [SYSTEM], **more)
 
 
-def partner_of(rank: Rank, snapshot: Ranks, operation: str) -> Tuple[List[Wakers], str]:
+def partner_of(rank: RankOfStacks, snapshot: Ranks, operation: str) -> Tuple[List[Wakers], str]:
     """Returns who ends the call of a rank, as far as that is known, and why the state doesn't say it, if it doesn't."""
     others = [snapshot.others(rank)]
     if rank.stack.does_poll:
@@ -214,14 +214,14 @@ def partner_of(rank: Rank, snapshot: Ranks, operation: str) -> Tuple[List[Wakers
     return [wakers("partner", [other.name], SYSTEM)], ""
 
 
-def likely_partner(rank: Rank, snapshot: Ranks) -> List[Wakers]:
+def likely_partner(rank: RankOfStacks, snapshot: Ranks) -> List[Wakers]:
     """Returns the rank that an argument of the job's own function is likely to mean, if it is in the state."""
     number = rank.stack.likely_partner
     other = snapshot.ranks.get(number) if number is not None and number != rank.number else None
     return [wakers("guess", [other.name])] if other is not None else []
 
 
-def without_call(rank: Rank, more: Dict[str, Any]) -> Process:
+def without_call(rank: RankOfStacks, more: Dict[str, Any]) -> Process:
     """Returns a rank that is in no call of MPI."""
     name, stack, top = rank.name, rank.stack, rank.stack.frames[0].function
     inside = next((step.function for step in stack.frames if step.is_of_mpi), None)
@@ -260,12 +260,12 @@ def reading_of(path: str, heading: Match[str], text: str, counts: Counts) -> Rea
         return Reading(path, heading[0], [], f"a stack has no rank in its heading: {shown(heading[0])[:80]}", PARTS)
     is_bare = heading[0].startswith("# eu-stack")
     stacks, fault = stacks_of(like_gdb(text, head.pid) if is_bare else text)
-    rank = Rank(head, stacks[0][1], fault or lost_of(text) or odd_of(head, stacks[0][1], text))
+    rank = RankOfStacks(head, stacks[0][1], fault or lost_of(text) or odd_of(head, stacks[0][1], text))
     rank.count = count_at(counts, stacks[0][0], heading.start())
     if not all(stack.is_whole() for _, stack in stacks[1:]):
         rank.cut = "the stack of another thread of it isn't whole, so that one may send for it"
     elif not rank.fault:
-        rank.threads = [Rank(head, stack, suffix=f"/{number}", count=count_at(counts, number, heading.start()))
+        rank.threads = [RankOfStacks(head, stack, suffix=f"/{number}", count=count_at(counts, number, heading.start()))
                         for number, stack in stacks[1:] if stack.is_of_job(is_bare)]
     family = [rank, *rank.threads]
     for one in family:
@@ -273,7 +273,7 @@ def reading_of(path: str, heading: Match[str], text: str, counts: Counts) -> Rea
     return Reading(path, rank.number, [rank])
 
 
-def odd_of(head: Head, stack: Stack, text: str) -> str:
+def odd_of(head: Head, stack: RankStack, text: str) -> str:
     """Returns what of the text of a rank contradicts the rest, or nothing."""
     others = [pid for pid in DETACHED.findall(text) if pid != head.pid]
     if others:

@@ -31,7 +31,7 @@ FEW = 200  # of more ranks all waits share the list, with the one that waits in 
 
 
 @dataclass(eq=False)
-class Rank:
+class RankOfRecords:
     """A rank as one reading shows it. `fault` says why nothing is known of it. `threads` are those that may call MPI:
     its first one, and the others if the job has asked for that, or several have done so. `helpers` are others that go
     on by themselves, and of which the job hasn't said that they don't call MPI."""
@@ -54,7 +54,7 @@ class Rank:
         self.is_threaded = self.level >= SERIALIZED or len(callers) > 1 or any(
             is_parked(row) or joined_by(row, there) for row in main)
         more = self.others if self.is_threaded else []
-        self.threads = [Thread(self, row, f"/{row['tid']}" if number else "")
+        self.threads = [RankThread(self, row, f"/{row['tid']}" if number else "")
                         for number, row in enumerate([*main, *more])]
         self.in_finalize = any(thread.row.get("name") == "Finalize" for thread in self.threads if thread.kind == OTHER)
         self.halves: Dict[Any, List[Row]] = {}
@@ -65,10 +65,10 @@ class Rank:
                 self.halves.setdefault(half["partner"], []).append(half)
 
     @functools.cached_property
-    def helpers(self) -> List[Thread]:
+    def helpers(self) -> List[RankThread]:
         has_said = self.row.get("asked") == FUNNELS == self.level
         silent = [] if has_said or self.is_threaded else self.others
-        return [Thread(self, row, f"/{row['tid']}") for row in silent
+        return [RankThread(self, row, f"/{row['tid']}") for row in silent
                 if row["state"] == "R" or row.get("call") in BY_ITSELF or row.get("ticks")]
 
     def names(self) -> List[str]:
@@ -103,7 +103,7 @@ class Rank:
         """Whether its record hasn't all of its calls."""
         return bool(self.fault or self.row.get("full") or any("fault" in row for row in self.row.get("threads", [])))
 
-    def inside(self, comm: Row, *kinds: int) -> List[Thread]:
+    def inside(self, comm: Row, *kinds: int) -> List[RankThread]:
         """Its threads that are in calls of some kinds on a communicator, or a window."""
         own = self.by_id.get(comm["id"])
         return [thread for thread in self.threads
@@ -117,11 +117,11 @@ class Rank:
 
 
 @dataclass(eq=False)
-class Thread:
+class RankThread:
     """A thread of a rank, with its record. `returns` says that it has made no call since the first reading but some on
     windows."""
 
-    rank: Rank
+    rank: RankOfRecords
     row: Row
     suffix: str
 
@@ -192,12 +192,12 @@ class Thread:
         return str(comm["name"]) if comm.get("number") == row["number"] else ""
 
 
-class Job(Snapshot):
+class MpiJob(Snapshot):
     """The ranks at one time, by their numbers. `late` keeps who is late for which collective call, `to_finalize` has a
     part for each that hasn't come to MPI_Finalize, and `odd` the communicators of which two ranks say different things.
     """
 
-    ranks: Dict[int, Rank]
+    ranks: Dict[int, RankOfRecords]
     late: Dict[Tuple[Any, ...], Any]
     to_finalize: List[Any]
     members: Dict[Tuple[int, ...], List[str]]
@@ -266,7 +266,7 @@ def record_of(row: Row) -> List[Any]:
 # Two readings
 
 
-def align(ranks: List[Rank]) -> None:
+def align(ranks: List[RankOfRecords]) -> None:
     """Notes what several readings of ranks show together."""
     note_ticks(rank.row for rank in ranks)
     for was, now in pairs_of((rank.number, rank) for rank in ranks):
@@ -297,7 +297,7 @@ def pairs_of(keyed: Iterable[Tuple[Any, Any]]) -> Iterator[Tuple[Any, Any]]:
             yield one, thing
 
 
-def difference(was: Rank, now: Rank) -> str:
+def difference(was: RankOfRecords, now: RankOfRecords) -> str:
     """Returns in which thing that never changes two readings of a rank differ, or nothing."""
     if "threads" not in was.row or "threads" not in now.row:
         return ""
@@ -339,7 +339,7 @@ def contradiction(pair: Tuple[Row, Row]) -> str:
         is_one or is_asleep) and was.get("calls") != now.get("calls") else ""
 
 
-def align_calls(one: Thread, later: Thread) -> None:
+def align_calls(one: RankThread, later: RankThread) -> None:
     """Has one who polls in turn for several things, and has found nothing between two readings, stand at one place in
     both. One who hasn't even looked is outside of MPI. Notes who has made calls on windows alone between, which don't
     count."""

@@ -16,7 +16,7 @@ from ...snapshots import APART, PARTS, Reading
 from .. import State
 from ..base import Parser
 from .needs import Need, need_of, need_of_requests
-from .ranks import BY_ITSELF, Job, Rank, Thread, align, is_parked, joined_by
+from .ranks import BY_ITSELF, MpiJob, RankOfRecords, RankThread, align, is_parked, joined_by
 from .text import ALL_OF, ANY_OF, POLL, rows_of
 
 RETURNS = "it comes back to calls on a window, and may look for a value there"
@@ -27,7 +27,7 @@ class RecordsParser(Parser):
     """Ranks are read one after the other, and nobody waits for that. Each counts its calls."""
 
     NAME, IDLE, MOMENT = "mpi", "ranks", APART
-    SNAPSHOT_CLASS = Job
+    SNAPSHOT_CLASS = MpiJob
 
     def __init__(self) -> None:
         self.lists: Dict[Tuple[str, ...], List[str]] = {}  # of names, which all snapshots share
@@ -46,23 +46,24 @@ class RecordsParser(Parser):
                                         f"{row.get('fault', 'it has ended')}", PARTS))
             elif "pid" in row:
                 number = row.get("rank", numbers[row["pid"]])
-                readings.append(Reading(state.path, number, [Rank(row, number, host)], machine=machine, time=time))
+                readings.append(Reading(state.path, number, [RankOfRecords(row, number, host)], machine=machine,
+                                        time=time))
         return readings
 
     def begin(self, readings: List[Reading]) -> None:
         """Says which ranks the job has that the state lacks."""
-        ranks: List[Rank] = [rank for reading in readings for rank in reading.rows]
+        ranks: List[RankOfRecords] = [rank for reading in readings for rank in reading.rows]
         pids = pids_of(readings, lambda rank: f"{rank.pid} on {rank.host}")
         align(ranks)
         say_missing(readings, pids, [rank.row.get("size", 0) for rank in ranks])
 
-    def prepare(self, snapshot: Job) -> None:
+    def prepare(self, snapshot: MpiJob) -> None:
         snapshot.read_ranks(self.lists)
         working = [rank for rank in snapshot.ranks.values() if not rank.in_finalize]
         snapshot.to_finalize = all_of([rank.names()[0] for rank in working], "comes", premise(FINALIZED))
 
-    def processes(self, snapshot: Job) -> Iterable[Any]:
-        subjects: List[Union[Rank, Thread]] = []
+    def processes(self, snapshot: MpiJob) -> Iterable[Any]:
+        subjects: List[Union[RankOfRecords, RankThread]] = []
         for rank in snapshot.ranks.values():
             subjects += [*rank.threads, *rank.helpers] or [rank]
         return subjects
@@ -70,8 +71,8 @@ class RecordsParser(Parser):
     def finish(self, sketch: Sketch, snapshots: List[Any]) -> None:
         doubt_reach(sketch)
 
-    def process_of(self, subject: Union[Rank, Thread], snapshot: Job) -> Process:
-        if isinstance(subject, Rank):
+    def process_of(self, subject: Union[RankOfRecords, RankThread], snapshot: MpiJob) -> Process:
+        if isinstance(subject, RankOfRecords):
             return without_thread(subject)
         thread, rank = subject, subject.rank
         fault = rank.fault or str(thread.row.get("fault", ""))
@@ -119,14 +120,14 @@ def say_missing(readings: List[Reading], numbers: Dict[int, str], sizes: List[in
             f"rank {first}")
 
 
-def without_thread(rank: Rank) -> Process:
+def without_thread(rank: RankOfRecords) -> Process:
     """Returns a rank without threads: it has no record, or has ended."""
     if rank.row.get("ended"):
         return Process(rank.name, Sign.ENDED, reason=DONE, because=[SYSTEM], site=rank.host)
     return garbled(rank.name, rank.fault or "it has no thread", site=rank.host)
 
 
-def process_of_thread(thread: Thread, job: Job) -> Process:
+def process_of_thread(thread: RankThread, job: MpiJob) -> Process:
     more = thread.more()
     if thread.returns:
         more.update(frames=[], operation="", note="", objects=more["objects"][:1], count=None)
@@ -148,7 +149,7 @@ def process_of_thread(thread: Thread, job: Job) -> Process:
     return blocked(thread.name, need.parts, need.because, reason=need.why, **more)
 
 
-def polls(thread: Thread, job: Job, more: Dict[str, Any]) -> Process:
+def polls(thread: RankThread, job: MpiJob, more: Dict[str, Any]) -> Process:
     """Returns a thread whose last call has looked for something and found nothing. It may look for something else in
     the next step, so nothing counts its wait."""
     why = f"it polls with {thread.operation()}, and may do so in a loop"
@@ -163,7 +164,7 @@ def polls(thread: Thread, job: Job, more: Dict[str, Any]) -> Process:
     return blocked(thread.name, [(*part, beside) for part in need.parts] or any_of(beside), [], reason=why, **more)
 
 
-def finalizes(thread: Thread, job: Job, more: Dict[str, Any]) -> Process:
+def finalizes(thread: RankThread, job: MpiJob, more: Dict[str, Any]) -> Process:
     why = "" if job.to_finalize else "all ranks of the state have come to MPI_Finalize"
     return blocked(thread.name, job.to_finalize or any_of(unseen("unshown", why)), [premise(FINALIZED)], reason=why,
                    **more)
@@ -172,7 +173,7 @@ def finalizes(thread: Thread, job: Job, more: Dict[str, Any]) -> Process:
 # Outside of MPI
 
 
-def outside(thread: Thread, more: Dict[str, Any]) -> Process:
+def outside(thread: RankThread, more: Dict[str, Any]) -> Process:
     """Returns a thread that is in no call of MPI."""
     name, row, rank, hidden = thread.name, thread.row, thread.rank, thread.rank.hidden_calls()
     call = row.get("call", "")
@@ -196,7 +197,7 @@ def outside(thread: Thread, more: Dict[str, Any]) -> Process:
     return unknown(name, f"it waits outside of MPI, {where}: cmh-dump linux shows more", **more)
 
 
-def woken_by(thread: Thread) -> Part:
+def woken_by(thread: RankThread) -> Part:
     """Returns who may wake a thread that waits at a futex of its process alone."""
     rank = thread.rank
     names = [other.name for other in rank.threads if other is not thread]
@@ -208,7 +209,7 @@ def woken_by(thread: Thread) -> Part:
     return tuple(others)
 
 
-def parked(thread: Thread, parts: List[Part], operation: str, because: List[str], more: Dict[str, Any]) -> Process:
+def parked(thread: RankThread, parts: List[Part], operation: str, because: List[str], more: Dict[str, Any]) -> Process:
     """Returns a thread that waits for others of its process. A new one has one place, whatever it does."""
     more.update(count=f"{thread.calls}/{thread.row['switches']}", operation="" if thread.is_new() else operation)
     return blocked(thread.name, parts, because, **more)

@@ -58,7 +58,7 @@ INNER_WAITS = re.compile(r"(__GI_)?_*(new_)?(pthread_(cond|mutex|rwlock|barrier|
 KEPT = 65536  # texts of frames, and of stacks, of which it is kept what they show
 
 
-class Step(NamedTuple):
+class RankStep(NamedTuple):
     """A frame. `text` is how an answer writes it, and `call` the call of MPI that it is, or nothing. `is_of_mpi` says
     that it is of the library, by its name, and `is_end` that it is where this finalizes; `is_own` that it is of the
     job, and not of a library: it has a file that isn't that of the C library, or none."""
@@ -75,18 +75,18 @@ class Step(NamedTuple):
 
 
 @functools.lru_cache(maxsize=KEPT)
-def step_of(text: str) -> Optional[Step]:
+def step_of(text: str) -> Optional[RankStep]:
     """Returns a frame by what stands behind its number and its address, or None if that isn't understood."""
     row = FRAME.fullmatch(ENTRY.sub(r"\1=", text) if "@entry=" in text else text)
     if row is None or "),(" in TEXTS.sub("", row["arguments"]):  # (between arguments is a space)
         return None
     function, file = row["function"], row["file"]
     call, is_of_mpi = CALL.match(function), OF_LIBRARY.match(function) is not None
-    return Step(function, row["arguments"], file, frame(function, file, row["line"]),
-                f"MPI_{call['name'] or call['fortran'].capitalize()}" if call else "", is_of_mpi,
-                FINALIZE.match(function) is not None,
-                not (row["library"] or is_of_mpi or is_of_system(function, file or "")),
-                (f"{function} {' '.join(names_of(row['arguments']))}", file or row["library"] or "", row["line"]))
+    return RankStep(function, row["arguments"], file, frame(function, file, row["line"]),
+                    f"MPI_{call['name'] or call['fortran'].capitalize()}" if call else "", is_of_mpi,
+                    FINALIZE.match(function) is not None,
+                    not (row["library"] or is_of_mpi or is_of_system(function, file or "")),
+                    (f"{function} {' '.join(names_of(row['arguments']))}", file or row["library"] or "", row["line"]))
 
 
 def names_of(arguments: str) -> List[str]:
@@ -99,13 +99,13 @@ def is_of_system(function: str, file: str) -> bool:
     return function.startswith(("??", "_start", "__libc_start")) or file.startswith(("../", "./nptl", "./csu"))
 
 
-class Stack:
+class RankStack:
     """The frames of a thread, innermost first, and what they show. `call` is the outermost call of MPI, which is the
     job's own (those inside of it are the library's), and `own` are the frames of the job's own that made it, or all if
     there is none: the first of these stands at the place `begin`. `operation` is the MPI call that it is in, or
     nothing, `values` are what `values_of` finds, `whole` has each frame with its address, and `note` is for people."""
 
-    def __init__(self, frames: Sequence[Step], addresses: Sequence[str] = ()) -> None:
+    def __init__(self, frames: Sequence[RankStep], addresses: Sequence[str] = ()) -> None:
         self.frames = frames
         self.whole = [(*step.place, address) for step, address in zip(frames, addresses)]
         outside = max((place for place, step in enumerate(frames, 1) if step.call), default=0)
@@ -165,7 +165,7 @@ class Stack:
         return len(self.frames) > 0 and OUTERMOST.match(self.frames[-1].function) is not None
 
 
-def operation_of(frames: Sequence[Step], call: Optional[Step]) -> str:
+def operation_of(frames: Sequence[RankStep], call: Optional[RankStep]) -> str:
     """Returns the MPI call that a thread is in, or nothing. Of one that sends and receives it says which half that is,
     where the library's own frames show it."""
     if any(step.is_end for step in frames):
@@ -175,7 +175,7 @@ def operation_of(frames: Sequence[Step], call: Optional[Step]) -> str:
     return f"{name} {next(halves, '')}".strip() if name.startswith("MPI_Sendrecv") else name
 
 
-def values_of(own: Sequence[Step]) -> List[str]:
+def values_of(own: Sequence[RankStep]) -> List[str]:
     """Returns the arguments of the job's own function that made the call. Then those of its callers, but for `main`,
     that have a name of their own, and are no addresses."""
     texts = [step.arguments for place, step in enumerate(own) if place == 0 or step.function != "main"]
@@ -212,7 +212,7 @@ def lost_of(text: str) -> str:
 
 
 @functools.lru_cache(maxsize=KEPT)
-def stacks_of(text: str) -> Tuple[List[Tuple[str, Stack]], str]:
+def stacks_of(text: str) -> Tuple[List[Tuple[str, RankStack]], str]:
     """Returns the stack of the first thread and then of each other one, each with its number, and what isn't understood
     of them."""
     parts = THREAD.split(text)
@@ -220,17 +220,17 @@ def stacks_of(text: str) -> Tuple[List[Tuple[str, Stack]], str]:
     texts = {place: (head[1] if head else place, stack) for place, head, stack in zip(parts[1::2], heads, parts[2::2])}
     first = texts.pop("1", None)
     in_order = [first, *texts.values()] if first is not None else list(texts.values()) or [("1", parts[0])]
-    stacks: List[Tuple[str, Stack]] = []
+    stacks: List[Tuple[str, RankStack]] = []
     fault = ""
     for number, thread in in_order:
         frames, addresses, is_whole = frames_of(re.sub(r"\n {4,}(?=\S)", " ", thread) if "\n    " in thread else thread)
         if not is_whole:
             fault = "its frames don't run from #0 up, each understood: some are missing, or of another rank"
-        stacks.append((number, Stack(frames, addresses)))
+        stacks.append((number, RankStack(frames, addresses)))
     return stacks, fault
 
 
-def frames_of(text: str) -> Tuple[List[Step], List[str], bool]:
+def frames_of(text: str) -> Tuple[List[RankStep], List[str], bool]:
     """Returns the frames of a thread that are understood, their addresses, and whether these are all, and run from #0
     up."""
     rows = [(number, step_of(place) or step_of(address + place), address)

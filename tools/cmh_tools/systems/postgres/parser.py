@@ -20,8 +20,8 @@ from .. import State
 from ..base import Parser, Snapshot, one_line
 from .pgbouncer import end_of, seconds_for
 from .pgbouncer import Row as Client
-from .text import LINES, Look, seconds_of
-from ..sessions import SLACK, Lasting, Limits, Row, check_server, check_times, client_words, connections_of, \
+from .text import LINES, PostgresLook, seconds_of
+from ..sessions import SLACK, Lasting, SessionLimits, Row, check_server, check_times, client_words, connections_of, \
     doubt_newcomers, end_of_socket, names_in, with_limits, words_for
 
 DETECTOR = "deadlock detector"
@@ -48,10 +48,10 @@ TOLD = {"relation": "relation {name}", "tuple": "row ({page},{tuple}) of {name}"
         "extension of {name}", "page": "page {page} of {name}", "advisory": "advisory lock {classid}, {objid}"}
 
 
-class Server(Snapshot):
+class PostgresServer(Snapshot):
     """A look: the names of its backends by their numbers, its rows, and who has what others wait for."""
 
-    look: Look
+    look: PostgresLook
     names: Dict[int, str]
     rows_by_pid: Dict[int, Row]
     wanted: Dict[int, str]  # what others want of each backend: which lock, or nothing where it is a session of a pool
@@ -61,10 +61,10 @@ class Server(Snapshot):
 
 class PostgresParser(Parser):
     NAME, IDLE, MOMENT = "postgres", "sessions", APART
-    SNAPSHOT_CLASS = Server
+    SNAPSHOT_CLASS = PostgresServer
 
     def __init__(self) -> None:
-        self.limits = Limits()
+        self.limits = SessionLimits()
         self.lasted: Dict[Tuple[int, str], float] = {}  # by backends and counts, how long a wait has lasted at least
         self.last = 0.0  # the time of the last look
         self.names: Dict[int, str] = {}
@@ -74,12 +74,12 @@ class PostgresParser(Parser):
 
     def read(self, state: State) -> List[Reading]:
         return [Reading(look.path, "server", [look], machine=look.machine, time=look.taken)
-                for look in LINES.looks(state.text, state.path, Look)]
+                for look in LINES.looks(state.text, state.path, PostgresLook)]
 
     def begin(self, readings: List[Reading]) -> None:
         """Names the backends, and sees which rows of two looks contradict each other, and how long each wait has lasted
         in the last look that shows it."""
-        looks: List[Look] = [reading.rows[0] for reading in readings]
+        looks: List[PostgresLook] = [reading.rows[0] for reading in readings]
         check_server(readings[0].path, ((*map(look.head.get, OF_SERVER), look.machine) for look in looks))
         timed = [look for look in looks if look.taken is not None]
         check_times(readings[0].path, [look.time for look in timed], [look.taken[0] for look in timed if look.taken])
@@ -101,7 +101,7 @@ class PostgresParser(Parser):
                     begun = seconds_of(start) if start else first.setdefault(key, look.time)
                     self.lasted[key] = max(self.lasted.get(key, 0.0), look.time - begun)
 
-    def prepare(self, snapshot: Server) -> None:
+    def prepare(self, snapshot: PostgresServer) -> None:
         snapshot.look = snapshot.readings[0].rows[0]
         snapshot.rows_by_pid = {row["backend"]: row for row in snapshot.look.of("backend")}
         snapshot.names = {pid: self.names[pid] for pid in snapshot.rows_by_pid}
@@ -115,13 +115,13 @@ class PostgresParser(Parser):
             snapshot.wanted.update(dict.fromkeys((row["blocked_by"] or ()) if "odd" not in row else (), what))
         snapshot.apart = apart_in(snapshot.look)
 
-    def processes(self, snapshot: Server) -> Iterable[Tuple[str, Row]]:
+    def processes(self, snapshot: PostgresServer) -> Iterable[Tuple[str, Row]]:
         return [*(("backend", row) for row in snapshot.look.of("backend") if row["backend"] not in snapshot.apart
                   and (row["backend"] in snapshot.wanted or not is_of_server(row))),
                 *(("prepared", row) for row in snapshot.look.of("prepared")),
                 *(("client", row) for row in waiting_in(snapshot.look))]
 
-    def process_of(self, subject: Tuple[str, Row], snapshot: Server) -> Process:
+    def process_of(self, subject: Tuple[str, Row], snapshot: PostgresServer) -> Process:
         kind, row = subject
         if kind == "prepared":
             return prepared_one(row, snapshot.look)
@@ -141,7 +141,7 @@ class PostgresParser(Parser):
         process = self.at_event(name, row, snapshot, more)
         return process if process is not None else self.by_state(name, row, snapshot, more)
 
-    def more_of(self, row: Row, snapshot: Server) -> Dict[str, Any]:
+    def more_of(self, row: Row, snapshot: PostgresServer) -> Dict[str, Any]:
         """Returns what is told of a backend beside its wait."""
         event = ":".join(filter(None, [row["wait_event_type"], row["wait_event"]]))
         starts = [str(row[key]) for key in ("query_start", "xact_start", "state_change")]
@@ -152,14 +152,15 @@ class PostgresParser(Parser):
                 "objects": [*self.lock_of(row, snapshot), *starts], "count": count_of(row),
                 "note": note_of(row, snapshot.look)}
 
-    def lock_of(self, row: Row, snapshot: Server) -> List[str]:
+    def lock_of(self, row: Row, snapshot: PostgresServer) -> List[str]:
         lock = snapshot.look.waited_for.get(row["backend"])
         return [self.told.setdefault((row["backend"], key_of(lock)), told(lock, row["backend"], snapshot.look))] \
             if lock else []
 
     # Waits for a lock
 
-    def waiter(self, name: str, row: Row, lock: Optional[Row], snapshot: Server, more: Dict[str, Any]) -> Process:
+    def waiter(self, name: str, row: Row, lock: Optional[Row], snapshot: PostgresServer,
+               more: Dict[str, Any]) -> Process:
         """One that waits for a lock, for all by whom it is blocked."""
         blockers = list(dict.fromkeys(row["blocked_by"] or []))
         if not blockers or lock is None:
@@ -174,7 +175,7 @@ class PostgresParser(Parser):
         return blocked(name, with_limits(parts, self.limits_of(row, lock, blockers, snapshot)),
                        [SYSTEM, premise(LIMITS)], **more)
 
-    def part_of(self, pid: int, lock: Row, snapshot: Server) -> Part:
+    def part_of(self, pid: int, lock: Row, snapshot: PostgresServer) -> Part:
         """Returns the part of a wait for a lock that one of its blockers has to end."""
         if pid not in snapshot.names:
             return (unseen("unshown", f"backend {pid}, which blocks it, isn't in the look"),)
@@ -182,7 +183,7 @@ class PostgresParser(Parser):
         is_before = theirs is not None and key_of(theirs) == key_of(lock)
         return (wakers("ahead" if is_before else "owns", [snapshot.names[pid]]),)
 
-    def limits_of(self, row: Row, lock: Row, blockers: List[int], snapshot: Server) -> Part:
+    def limits_of(self, row: Row, lock: Row, blockers: List[int], snapshot: PostgresServer) -> Part:
         """Returns what may break off a wait for a lock: the detector where it hasn't looked yet, and limits."""
         look = snapshot.look
         part: Part = ()
@@ -199,7 +200,7 @@ class PostgresParser(Parser):
         return part + ((unseen("unshown", "the server is a standby, which may cancel it"),)
                        if look.head["standby"] else ())
 
-    def timeouts(self, row: Row, look: Look, starts: Dict[str, Optional[str]]) -> Part:
+    def timeouts(self, row: Row, look: PostgresLook, starts: Dict[str, Optional[str]]) -> Part:
         """Returns the limits in force that may break off what a backend does. One that is over by now isn't in force:
         the session has set another one, which no view shows."""
         part: Part = ()
@@ -218,7 +219,7 @@ class PostgresParser(Parser):
 
     # Other waits
 
-    def at_event(self, name: str, row: Row, snapshot: Server, more: Dict[str, Any]) -> Optional[Process]:
+    def at_event(self, name: str, row: Row, snapshot: PostgresServer, more: Dict[str, Any]) -> Optional[Process]:
         """Returns one by what it waits at, if that says what ends it."""
         kind, event = row["wait_event_type"], row["wait_event"]
         if kind == "Timeout":
@@ -235,7 +236,7 @@ class PostgresParser(Parser):
             return blocked(name, parts, [SYSTEM], reason="waits for a standby that confirms its commit", **more)
         return self.among_workers(name, row, snapshot, more) if kind == "IPC" else None
 
-    def among_workers(self, name: str, row: Row, snapshot: Server, more: Dict[str, Any]) -> Optional[Process]:
+    def among_workers(self, name: str, row: Row, snapshot: PostgresServer, more: Dict[str, Any]) -> Optional[Process]:
         """Returns a leader that waits for its parallel workers, or one of these that waits for it."""
         if row["backend_type"] == WORKER and row["wait_event"] in FOR_LEADER:
             leader = snapshot.names.get(row.get("leader_pid") or 0)
@@ -246,7 +247,7 @@ class PostgresParser(Parser):
             return None
         return blocked(name, all_of(workers, COMES), [SYSTEM], **more)
 
-    def by_state(self, name: str, row: Row, snapshot: Server, more: Dict[str, Any]) -> Process:
+    def by_state(self, name: str, row: Row, snapshot: PostgresServer, more: Dict[str, Any]) -> Process:
         """Returns one by the state of its session."""
         state, kind, look = row["state"], row["wait_event_type"], snapshot.look
         if state is None and (row["backend_type"] in (None, CLIENT) or "insufficient privilege" in str(row["query"])):
@@ -271,7 +272,7 @@ class PostgresParser(Parser):
             return blocked(name, parts, [SYSTEM, premise(LIMITS)], reason="waits for its client", **more)
         return unknown(name, f"what ends its wait at {more['operation'] or state} isn't known", **more)
 
-    def at_client(self, name: str, row: Row, starts: Dict[str, Optional[str]], snapshot: Server,
+    def at_client(self, name: str, row: Row, starts: Dict[str, Optional[str]], snapshot: PostgresServer,
                   more: Dict[str, Any]) -> Process:
         """One that has what others wait for, or may have it, until its client goes on with its transaction, or gives it
         back to its pool."""
@@ -287,7 +288,7 @@ class PostgresParser(Parser):
 
     # Clients of pgbouncer
 
-    def at_pool(self, client: Client, snapshot: Server) -> Process:
+    def at_pool(self, client: Client, snapshot: PostgresServer) -> Process:
         """A client that waits until another one gives a session of its pool back. It is the same wait if it began
         before the first look did, and another one if it began after that."""
         first = self.clients[key_of_client(client)]
@@ -308,7 +309,7 @@ class PostgresParser(Parser):
                        site=f"client {name.rpartition(' ')[2]}", frames=[client.get("application_name") or "client"],
                        note=f"a session of the pool {client['database']} for {words_for(lasted)}")
 
-    def finish(self, sketch: Sketch, snapshots: List[Server]) -> None:
+    def finish(self, sketch: Sketch, snapshots: List[PostgresServer]) -> None:
         """Adds the limits, and who serves which connection. Warns of what the role couldn't see."""
         self.limits.add_to(sketch)
         names = {process.name for process in sketch.processes}
@@ -326,13 +327,13 @@ class PostgresParser(Parser):
             sketch.warnings.append(f"{HIDDEN}, for {hidden} of them")
 
 
-def has_begun_since(row: Row, look: Look) -> bool:
+def has_begun_since(row: Row, look: PostgresLook) -> bool:
     """Whether a backend may have begun after a look."""
     start = row.get("backend_start")
     return not isinstance(start, str) or seconds_of(start) >= look.time
 
 
-def apart_in(look: Look) -> Set[int]:
+def apart_in(look: PostgresLook) -> Set[int]:
     """Returns the backends of other databases that neither block one of the database that was asked, directly or not,
     nor are blocked by one, and aren't of a client that it has too. Of a database for all there are none."""
     rows = [row for row in look.of("backend") if "odd" not in row]
@@ -363,14 +364,14 @@ def end_of_client(row: Row) -> str:
     return end_of_socket(row["client_addr"], row["client_port"])
 
 
-def keys_of(row: Row, look: Look) -> List[str]:
+def keys_of(row: Row, look: PostgresLook) -> List[str]:
     """Returns what tells the connection of a backend from others: the end of its client, and its own process where that
     is of the machine on which the state was taken."""
     end = end_of_client(row)
     return [*([end] if end else []), *([f"process {row['backend']} of {look.machine}"] if look.machine else [])]
 
 
-def waiting_in(look: Look) -> List[Client]:
+def waiting_in(look: PostgresLook) -> List[Client]:
     """Returns the clients that wait for a session of a pool."""
     return look.pooler.waiting() if look.pooler is not None else []
 
@@ -380,7 +381,7 @@ def key_of_client(row: Client) -> Tuple[str, str]:
     return row["ptr"], row.get("connect_time", "")
 
 
-def first_clients(looks: List[Look]) -> Dict[Tuple[str, str], Client]:
+def first_clients(looks: List[PostgresLook]) -> Dict[Tuple[str, str], Client]:
     return {key_of_client(row): row for look in reversed(looks) for row in waiting_in(look)}
 
 
@@ -408,7 +409,7 @@ def query_of(row: Row) -> str:
     return one_line(str(row["query"] or ""), 80) or "no query"
 
 
-def note_of(row: Row, look: Look) -> str:
+def note_of(row: Row, look: PostgresLook) -> str:
     """Returns what a backend does, for people: its state, since when, its query and its client."""
     start = row["state_change"] if row["state"] in IN_TRANSACTION else row["query_start"]
     end = end_of_client(row)
@@ -420,7 +421,7 @@ def note_of(row: Row, look: Look) -> str:
     return ", ".join(filter(None, words))
 
 
-def since(start: Optional[str], look: Look) -> str:
+def since(start: Optional[str], look: PostgresLook) -> str:
     """Returns for how long something has lasted, in words."""
     return f" for {words_for(max(look.time - seconds_of(start), 0))}" if start else ""
 
@@ -432,7 +433,7 @@ def key_of(lock: Row) -> Tuple[object, ...]:
     return tuple(lock.get(key) for key in keys)
 
 
-def told(lock: Row, pid: int, look: Look) -> str:
+def told(lock: Row, pid: int, look: PostgresLook) -> str:
     """Returns a lock in words. Who waits for the transaction that has changed a row has that row's own lock besides,
     and so tells which it is."""
     if lock["lock"] == "transactionid":
@@ -457,7 +458,7 @@ def prepared_name(row: Row) -> str:
     return f"prepared {one_line(row['gid'], 80)}"
 
 
-def prepared_one(row: Row, look: Look) -> Process:
+def prepared_one(row: Row, look: PostgresLook) -> Process:
     """A prepared transaction, which somebody has to commit or roll back."""
     why = f"prepared{since(row['prepared'], look)}; whoever prepared it commits it, or rolls it back"
     text = row["gid"].replace("'", "''")
@@ -467,7 +468,7 @@ def prepared_one(row: Row, look: Look) -> Process:
                    count=row["prepared"], remedy=f"rollback prepared '{text}'")
 
 
-def prepared_parts(lock: Row, look: Look, number: int) -> List[Part]:
+def prepared_parts(lock: Row, look: PostgresLook, number: int) -> List[Part]:
     """Returns the parts of a wait for prepared transactions, of which the server says how many block it, and not which:
     those that have the very lock, or else any."""
     rows, locks = look.of("prepared"), [row for row in look.of("lock") if row["pid"] is None]

@@ -13,7 +13,7 @@ from typing import Any, Dict, Iterable, List, Optional, Tuple
 from ...files import Refusal, shown
 from ...model import Part, unseen, wakers
 from ...sketch import LIMIT, premise
-from ..sessions import SLACK, Limits, end_of_socket
+from ..sessions import SLACK, SessionLimits, end_of_socket
 
 Row = Dict[str, str]
 MARK = "cmh-pgbouncer "
@@ -79,7 +79,7 @@ class Pooler:
         having = (wakers("owns" if is_full else "listed", [names[pid] for pid in pids]),) if pids else ()
         return having if is_full else (*having, unseen("unshown", NOT_FULL))
 
-    def limits_of(self, client: Row, name: str, known: Limits, later: float) -> Part:
+    def limits_of(self, client: Row, name: str, known: SessionLimits, later: float) -> Part:
         """Returns what may break off the wait of a client, which is called so, some seconds later than this look."""
         names: List[str] = []
         part: Part = ()

@@ -52,7 +52,7 @@ def seconds_of(text: str, where: str = "") -> float:
 
 
 @dataclass(eq=False)
-class Look(ServerLook):
+class PostgresLook(ServerLook):
     """One look, with when it was taken, and where if the processes of the server are of that machine."""
 
     machine: str = ""

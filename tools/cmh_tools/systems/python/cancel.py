@@ -14,7 +14,7 @@ from itertools import chain
 from typing import Any, Callable, Dict, Iterable, List, Tuple
 
 from ...model import Part, wakers
-from .text import Look, Row
+from .text import PythonLook, PythonRow
 
 AT_END = "asyncio.taskgroups.TaskGroup.__aexit__"  # where a task waits for its group
 
@@ -24,7 +24,7 @@ class Cancellers:
     who do so once they fail, and `outer` the keys of those that do so by a limit or when they are cancelled themselves.
     """
 
-    def __init__(self, look: Look, names_of: Callable[[Iterable[Any]], List[str]]) -> None:
+    def __init__(self, look: PythonLook, names_of: Callable[[Iterable[Any]], List[str]]) -> None:
         self.look, self.names_of = look, names_of
         awaited = {key: awaited_by(row) for key, row in look.tasks.items()}
         self.targets: Dict[str, List[str]] = {key: targets_in(values) for key, values in awaited.items()}
@@ -63,7 +63,7 @@ class Cancellers:
         return tuple([wakers("cancels", names) for names in lists if names])
 
 
-def groups_of(look: Look, what: str) -> Dict[Any, List[Any]]:
+def groups_of(look: PythonLook, what: str) -> Dict[Any, List[Any]]:
     """Returns the tasks of each group that aren't done, by the task whose group it is."""
     groups: Dict[Any, Dict[str, None]] = defaultdict(dict)
     for row in look.tasks.values():
@@ -89,7 +89,7 @@ def gathers_in(value: Any) -> List[List[str]]:
     return own + [members for each in value["all"] for members in gathers_in(each)]
 
 
-def stands_at_end(row: Row) -> bool:
+def stands_at_end(row: PythonRow) -> bool:
     """Whether a task is at the end of its group, where it waits for all of it whatever comes."""
     return AT_END in row.stack.names
 
@@ -99,17 +99,17 @@ def targets_in(awaited: List[Any]) -> List[str]:
     return [key for value in awaited for key in tasks_in(value)]
 
 
-def awaited_by(row: Row) -> List[Any]:
+def awaited_by(row: PythonRow) -> List[Any]:
     """Returns what a state describes that is cancelled with a task."""
     return [row.more.get("waits"), *kept_in(row, "asyncio.tasks.wait_for", "fut")]
 
 
-def kept_in(row: Row, name: str, variable: str) -> List[Any]:
+def kept_in(row: PythonRow, name: str, variable: str) -> List[Any]:
     """Returns what a variable has in each frame of a name."""
     return [each.has.get(variable) for each in row.frames if each.at == name] if name in row.stack.names else []
 
 
-def sharing_futures(look: Look, awaited: Dict[str, List[Any]]) -> Dict[str, List[str]]:
+def sharing_futures(look: PythonLook, awaited: Dict[str, List[Any]]) -> Dict[str, List[str]]:
     """Returns by each task the others that go on if a future is cancelled that it awaits, if there are any."""
     awaiting: Dict[str, Dict[str, None]] = defaultdict(dict)
     for key, row in look.tasks.items():

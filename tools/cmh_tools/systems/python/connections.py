@@ -6,15 +6,15 @@ from __future__ import annotations
 import re
 from typing import Dict, List
 
-from .names import Names
-from .text import Look, Row
+from .names import PythonNames
+from .text import PythonLook, PythonRow
 
 # What the head of a state says where no signal comes to a handler of the program's, and all threads are Python's.
 NO_HANDLER = {"handlers": {}, "foreign_timer": False, "others": 0, "unseen": []}
 LIBRARIES = re.compile(r"asyncpg\.")  # their functions await the answer of the connection that they have
 
 
-def connections_of(looks: List[Look], names: Names) -> Dict[str, Dict[str, List[str]]]:
+def connections_of(looks: List[PythonLook], names: PythonNames) -> Dict[str, Dict[str, List[str]]]:
     """Returns by each socket who has it ('holds') and which tasks wait there ('awaits'), and by each process whose
     waits no signal ends ('quiet')."""
     rows: Dict[str, Dict[str, List[str]]] = {}
@@ -29,7 +29,7 @@ def connections_of(looks: List[Look], names: Names) -> Dict[str, Dict[str, List[
     return rows
 
 
-def add_sockets(rows: Dict[str, Dict[str, List[str]]], row: Row, name: str) -> None:
+def add_sockets(rows: Dict[str, Dict[str, List[str]]], row: PythonRow, name: str) -> None:
     """Adds which sockets a thread or task has, and where it waits if that is the only one of its innermost function."""
     asks = row.more.get("asks", []) if row.frames and LIBRARIES.match(row.frames[0].at) else []
     for what, targets in (("holds", row.more["connections"]), ("awaits", asks if len(asks) == 1 else [])):

@@ -6,7 +6,7 @@ from __future__ import annotations
 from typing import Any, Dict, Iterable, List, Set
 
 from .names import label
-from .text import Look, Row
+from .text import PythonLook, PythonRow
 
 OTHERS = "its number is another one's in another look"
 OF_LOOP = "the thread of its event loop isn't understood"
@@ -16,7 +16,7 @@ OF_CALL = ("words", "how", "module", "function", "named")  # what the code says 
 NUMBERS = {"thread": "native", "task": "number"}
 
 
-def doubt_looks(looks: List[Look]) -> None:
+def doubt_looks(looks: List[PythonLook]) -> None:
     """Says of threads and tasks of a process that they aren't understood, where two of its looks contradict each other
     in them. Such a one is called in each look as in the first."""
     known = {id(row) for look in looks for row in look.threads.values() if row.fault}  # (by its text alone)
@@ -27,7 +27,7 @@ def doubt_looks(looks: List[Look]) -> None:
         doubt_loops(look, {key for key, row in look.threads.items() if row.fault and id(row) not in known})
 
 
-def doubt_loops(look: Look, threads: Set[Any]) -> None:
+def doubt_loops(look: PythonLook, threads: Set[Any]) -> None:
     """Says of the tasks of loops that they aren't understood, which some threads run of which two looks contradict each
     other."""
     for row in look.tasks.values():
@@ -35,7 +35,7 @@ def doubt_loops(look: Look, threads: Set[Any]) -> None:
         row.fault = row.fault or (OF_LOOP if loop is not None and loop["thread"] in threads else "")
 
 
-def doubt_rows(kind: str, first: Dict[Any, Row], second: Dict[Any, Row]) -> None:
+def doubt_rows(kind: str, first: Dict[Any, PythonRow], second: Dict[Any, PythonRow]) -> None:
     before, after = (numbers_of(kind, rows.values()) for rows in (first, second))
     for key, row in second.items():
         was = first.get(key)
@@ -52,11 +52,11 @@ def doubt_rows(kind: str, first: Dict[Any, Row], second: Dict[Any, Row]) -> None
                 other.fault = other.fault or OTHERS
 
 
-def numbers_of(kind: str, rows: Iterable[Row]) -> Set[int]:
+def numbers_of(kind: str, rows: Iterable[PythonRow]) -> Set[int]:
     return {row.more[NUMBERS[kind]] for row in rows if isinstance(row.more.get(NUMBERS[kind]), int)}
 
 
-def fault_in(kind: str, was: Row, row: Row, before: Set[int], after: Set[int]) -> str:
+def fault_in(kind: str, was: PythonRow, row: PythonRow, before: Set[int], after: Set[int]) -> str:
     """Returns what two rows with one address contradict each other in, or nothing. At the address of one that has ended
     there may be another one, which is newer than all before, and not just like it."""
     number, later = was.more.get(NUMBERS[kind]), row.more.get(NUMBERS[kind])
@@ -86,17 +86,17 @@ def fault_in(kind: str, was: Row, row: Row, before: Set[int], after: Set[int]) -
     return "what it waits for was done before, and isn't now" if is_undone else ""
 
 
-def place_of(row: Row) -> List[Any]:
+def place_of(row: PythonRow) -> List[Any]:
     """Returns where a thread stands: by its frames with the things that they have, and by the call of the topmost one.
     """
     return [lines_of(row), [things_in(frame.has) for frame in row.frames], *map(call_of(row).get, OF_CALL)]
 
 
-def lines_of(row: Row) -> List[Any]:
+def lines_of(row: PythonRow) -> List[Any]:
     return [(frame.at, frame.file, frame.line) for frame in row.frames]
 
 
-def call_of(row: Row) -> Dict[str, Any]:
+def call_of(row: PythonRow) -> Dict[str, Any]:
     call = row.more.get("call")
     return call if isinstance(call, dict) else {}
 

@@ -9,8 +9,8 @@ from typing import Any, Dict, Iterator, List, Optional, Tuple
 
 from ...files import Refusal, shown
 from ..base import fits, once_each, row_in
-from .stack import Frame, frame_in_file
-from .text import OF_FRAMES, SPY, Look, Row
+from .stack import PythonFrame, frame_in_file
+from .text import OF_FRAMES, SPY, PythonLook, PythonRow
 
 VERSION = 1
 HEX = re.compile(r"0x[0-9a-f]{1,16}")
@@ -36,7 +36,7 @@ SHORT = re.compile(r"(threading|queue|selectors|socket|socketserver|ssl|subproce
                    r"|(asyncio|concurrent|multiprocessing|logging|importlib|http|urllib|xmlrpc)/.*)\.py$")
 
 
-def looks_of_frames(path: str, text: str) -> List[Look]:
+def looks_of_frames(path: str, text: str) -> List[PythonLook]:
     """Returns the looks of a text in their order."""
     if OF_FRAMES in text:
         return [look_of_reader(path, at, head, body) for at, head, body in parts_of(path, text)]
@@ -44,7 +44,7 @@ def looks_of_frames(path: str, text: str) -> List[Look]:
     looks = []
     for start, end in zip(starts, [*starts[1:], len(text)]):
         pid = int(text[start:end].split(" ", 2)[1].rstrip(":"))
-        looks.append(Look(path, f"process-{pid}", pid, shown_by="py-spy"))
+        looks.append(PythonLook(path, f"process-{pid}", pid, shown_by="py-spy"))
         add_threads(looks[-1], spy_rows(text[start:end].split("\n")), {})
     return looks
 
@@ -73,10 +73,10 @@ def parts_of(path: str, text: str) -> Iterator[Tuple[int, Dict[str, Any], List[s
         raise Refusal(f"{shown(path)}:{start}: this state is cut off: its last line is missing")
 
 
-def look_of_reader(path: str, at: int, head: Dict[str, Any], body: List[str]) -> Look:
+def look_of_reader(path: str, at: int, head: Dict[str, Any], body: List[str]) -> PythonLook:
     known = {**head, "alarm": None}
-    look = Look(f"{path}:{at}", head["name"] or f"process-{head['pid']}", head["pid"], head["seconds"], known,
-                shown_by=head["by"])
+    look = PythonLook(f"{path}:{at}", head["name"] or f"process-{head['pid']}", head["pid"], head["seconds"], known,
+                      shown_by=head["by"])
     rows, lost = json_rows(body) if body[:1] and body[0].startswith("[") else ([], 0)
     rows = rows or list(spy_rows(body) if head["by"] == "py-spy" else gdb_rows(body))
     if not any(frames for _, _, frames, *_ in rows):
@@ -92,10 +92,10 @@ def look_of_reader(path: str, at: int, head: Dict[str, Any], body: List[str]) ->
 
 
 # Its number, its name, its frames, its call, and lines that aren't understood.
-Thread = Tuple[Any, str, List[Frame], Optional[Dict[str, Any]], List[str]]
+Thread = Tuple[Any, str, List[PythonFrame], Optional[Dict[str, Any]], List[str]]
 
 
-def add_threads(look: Look, rows: Any, counts: Dict[str, Dict[str, Any]]) -> None:
+def add_threads(look: PythonLook, rows: Any, counts: Dict[str, Dict[str, Any]]) -> None:
     """Adds the threads of a process. One whose frames couldn't be read has none."""
     for tid, name, frames, call, odd in rows:
         count = counts.get(str(tid), {})
@@ -103,14 +103,14 @@ def add_threads(look: Look, rows: Any, counts: Dict[str, Dict[str, Any]]) -> Non
         more.update({"new_stops": None} if count else {})
         if frames and call is not None:
             frames[0].call = call
-        row = look.threads[tid] = Row(tid, name or f"thread-{tid}", frames, more,
-                                      ODD if odd else fault_of(name, frames))
+        row = look.threads[tid] = PythonRow(tid, name or f"thread-{tid}", frames, more,
+                                            ODD if odd else fault_of(name, frames))
         if row.fault:
             look.is_whole = False
             look.warnings.append(f"{shown(look.where)}: thread {shown(row.name)} of process {look.pid}: {row.fault}")
 
 
-def fault_of(name: str, frames: List[Frame]) -> str:
+def fault_of(name: str, frames: List[PythonFrame]) -> str:
     """Returns what shows that the first line of a thread is missing, so that its frames stand below another's."""
     is_begun = any(LIBRARY.match(outermost.at) for outermost in frames[-1:])  # (as all are but for the main thread)
     if is_begun and name == MAIN or any(map(is_outermost, frames, frames[1:])):
@@ -118,7 +118,7 @@ def fault_of(name: str, frames: List[Frame]) -> str:
     return ""
 
 
-def is_outermost(it: Frame, outer: Frame) -> bool:
+def is_outermost(it: PythonFrame, outer: PythonFrame) -> bool:
     """Whether the frame that stands below one can't have called it."""
     found = LIBRARY.match(it.at)
     if not outer.file.endswith(".py"):  # (which couldn't be read, or isn't Python's, as py-spy --native shows it)
@@ -129,7 +129,7 @@ def is_outermost(it: Frame, outer: Frame) -> bool:
     return outer.kind == "own" and (is_main or found is not None and not outer.at.endswith(".run"))
 
 
-def frame_of(name: str, file: str, line: Optional[str]) -> Frame:
+def frame_of(name: str, file: str, line: Optional[str]) -> PythonFrame:
     """A frame of py-spy, which shortens files of the library, or of gdb."""
     return frame_in_file(file, line or "", name, SHORT.match(file) is not None)
 
@@ -179,7 +179,7 @@ def gdb_rows(lines: List[str]) -> Iterator[Thread]:
     """Threads that run no Python have no frames of it, and are left out. The frames of others begin with a line that no
     thread has twice."""
     tid = 0
-    frames: List[Frame] = []
+    frames: List[PythonFrame] = []
     call: Optional[Dict[str, Any]] = None
     begins: List[str] = []
     for line in [*lines, "Thread 0 (Thread 0x0 (LWP 0)):"]:

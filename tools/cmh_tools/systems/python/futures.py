@@ -7,21 +7,21 @@ from typing import Any, Dict, Iterable, List, Optional, Tuple
 from ...model import Part, Wakers, any_of, unseen, wakers
 from .job import FUTURE
 from .names import Standing, pools_of
-from .stack import Frame
-from .waits import Wait, blocked, goes
+from .stack import PythonFrame
+from .waits import PythonWait, blocked, goes
 
 FINISHED = ("FINISHED", "CANCELLED", "CANCELLED_AND_NOTIFIED")
 MOST_PARTS = 64  # of one wait for any of several that each have parts; with more, all of their wakers make one
 DONE = "what it waited for is done"
 
 
-def by_future(standing: Standing) -> Optional[Wait]:
+def by_future(standing: Standing) -> Optional[PythonWait]:
     line = next((line for line in standing.standard
                  if re.match(r"concurrent\.futures\._base\.Future\.(result|exception)$", line.at)), None)
     return all_waits(standing, [line.has.get("self")]) if line is not None else None
 
 
-def by_futures(standing: Standing) -> Optional[Wait]:
+def by_futures(standing: Standing) -> Optional[PythonWait]:
     for line in standing.standard:
         if line.at == "concurrent.futures._base.wait":
             return wait_of_frame(standing, line)
@@ -30,7 +30,7 @@ def by_futures(standing: Standing) -> Optional[Wait]:
     return None
 
 
-def wait_of_frame(standing: Standing, line: Frame) -> Wait:
+def wait_of_frame(standing: Standing, line: PythonFrame) -> PythonWait:
     """The wait of a frame of `wait`: for all, for any, or for all unless one fails, which any may do."""
     values, when = line.has["fs"], line.has["return_when"]
     if when == "FIRST_EXCEPTION":
@@ -38,14 +38,14 @@ def wait_of_frame(standing: Standing, line: Frame) -> Wait:
     return all_waits(standing, values) if when == "ALL_COMPLETED" else any_waits(standing, values)
 
 
-def all_waits(standing: Standing, values: Iterable[Any]) -> Wait:
+def all_waits(standing: Standing, values: Iterable[Any]) -> PythonWait:
     """The wait for all of these. Those that are done don't count."""
     left = [wait for wait in [resolve(standing, value) for value in values] if not wait.goes_on()]
     parts = {key_of(part): part for wait in left for part in wait.parts}
     return waiting(left, list(parts.values())) if left else goes(DONE)
 
 
-def any_waits(standing: Standing, values: Iterable[Any]) -> Wait:
+def any_waits(standing: Standing, values: Iterable[Any]) -> PythonWait:
     """The wait for any of these: one that goes on ends it."""
     waits = [resolve(standing, value) for value in values]
     if not waits or any(wait.goes_on() for wait in waits):
@@ -59,7 +59,7 @@ def any_waits(standing: Standing, values: Iterable[Any]) -> Wait:
     return waiting(waits, parts)
 
 
-def waiting(waits: List[Wait], parts: List[Part]) -> Wait:
+def waiting(waits: List[PythonWait], parts: List[Part]) -> PythonWait:
     return blocked(parts, *dict.fromkeys(reason for wait in waits for reason in wait.because))
 
 
@@ -73,7 +73,7 @@ def key_of(part: Part) -> Tuple[Any, ...]:
     return tuple([(tuple(some.names()) if len(some.names()) < 2 else id(some.who), some.how) for some in part])
 
 
-def resolve(standing: Standing, value: Any) -> Wait:
+def resolve(standing: Standing, value: Any) -> PythonWait:
     """The wait for a future, a task or the like that a state describes. It goes on if that is done."""
     if not isinstance(value, dict):
         return blocked(any_of(unseen("unshown", "its state doesn't describe what it waits for")))
@@ -92,7 +92,7 @@ def resolve(standing: Standing, value: Any) -> Wait:
     return wait if wait.goes_on() else wait.beside(*job.cancellers(key))
 
 
-def resolve_gather(standing: Standing, value: Dict[str, Any]) -> Wait:
+def resolve_gather(standing: Standing, value: Dict[str, Any]) -> PythonWait:
     """The wait for all that is gathered. The first that fails ends it, unless errors are gathered too."""
     wait = all_waits(standing, value["all"])
     may_fail = value.get("raises") is not False and len(value["all"]) > 1
@@ -100,7 +100,7 @@ def resolve_gather(standing: Standing, value: Dict[str, Any]) -> Wait:
     return wait.beside(wakers("cancels", failing)) if may_fail and failing else wait
 
 
-def wait_for_work(standing: Standing, key: Any) -> Wait:
+def wait_for_work(standing: Standing, key: Any) -> PythonWait:
     """The wait for who sets a future: the task or coroutine behind it, the thread that has begun its work, or any of
     the pool that keeps it. Whoever has its future may cancel work. Once a thread has begun it, only those may end it
     whose code sets results or errors."""

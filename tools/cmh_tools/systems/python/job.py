@@ -12,8 +12,8 @@ from typing import Any, Dict, Iterable, List, NamedTuple, Optional, Sequence
 
 from ...model import Part, Wakers, unseen, wakers
 from ...sketch import premise
-from .names import Names, actor_of, holders_in
-from .text import Look, Row, callers_of
+from .names import PythonNames, actor_of, holders_in
+from .text import PythonLook, PythonRow, callers_of
 
 CHILD, FUTURE, BLOCK, DEAD, CANCEL = map(premise, ("child-process", "future", "block", "dead", "cancel"))
 INSIDE = premise("runtime")  # that only its own process ends a wait at an object of the runtime
@@ -26,7 +26,7 @@ ENDS = re.compile(r"(_thread\.interrupt_main|_signal\.(raise_signal|pthread_kill
                   r"|posix\.(kill|killpg|_exit|abort|exec\w+))$")
 
 
-class Machine(NamedTuple):
+class PythonMachine(NamedTuple):
     """What the looks of one time share. `mains` has the main threads by the places of their processes, `stands` where
     these stand, and `children` those of the processes that one has begun. `takers` has by machine and lock of
     multiprocessing, and `sharers` by machine and queue, who is in a process that has it, and `missing` by machine why
@@ -35,7 +35,7 @@ class Machine(NamedTuple):
     who act in it."""
 
     mains: Dict[Any, str]
-    stands: Dict[Any, Row]
+    stands: Dict[Any, PythonRow]
     children: Dict[Any, List[str]]
     takers: Dict[Any, List[str]]
     sharers: Dict[Any, List[str]]
@@ -53,10 +53,10 @@ class Machine(NamedTuple):
                 for name in names]
 
 
-class Job:
+class PythonJob:
     """One look at an OS process."""
 
-    def __init__(self, look: Look, names: Names, machine: Machine) -> None:
+    def __init__(self, look: PythonLook, names: PythonNames, machine: PythonMachine) -> None:
         self.look, self.machine, self.acting = look, machine, machine.within[id(look)]
         self.site, self.rest = names.sites[look.place()], names.rest(look.place())
         self.named = names.within(look)
@@ -122,17 +122,17 @@ class Job:
         lists: List[Sequence[str]] = [self.names_of(chain.from_iterable(keys)), self.cancelling if is_work else []]
         return tuple([wakers("cancels" if is_work else "kills", names) for names in lists if names])
 
-    def loop_of(self, row: Row) -> Optional[Dict[str, Any]]:
+    def loop_of(self, row: PythonRow) -> Optional[Dict[str, Any]]:
         return self.look.loops.get(row.more.get("loop"))
 
-    def thread_of(self, loop: Optional[Dict[str, Any]]) -> Optional[Row]:
+    def thread_of(self, loop: Optional[Dict[str, Any]]) -> Optional[PythonRow]:
         """The thread that runs a loop, or None."""
         return self.look.threads.get((loop or {}).get("thread"))
 
-    def is_main(self, row: Optional[Row]) -> bool:
+    def is_main(self, row: Optional[PythonRow]) -> bool:
         return row is not None and row.more.get("main") is True
 
-    def holder(self, loop: Dict[str, Any]) -> Optional[Row]:
+    def holder(self, loop: Dict[str, Any]) -> Optional[PythonRow]:
         """The task or thread that has a loop's thread and doesn't give it back now, or None."""
         thread = self.thread_of(loop)
         if thread is None or thread.more.get("moved") is True:
@@ -147,7 +147,7 @@ class Job:
         return [name for name in map(self.name_of, keys) if name is not None]
 
 
-def acting_in(look: Look, names: Names) -> List[str]:
+def acting_in(look: PythonLook, names: PythonNames) -> List[str]:
     """The names of all of a process who may do something there."""
     callers = [key for key, caller in look.callers.items() if caller.is_waking]
     keys = [*[row.key for row in look.rows() if not is_idle(row)], *look.asked, *callers]
@@ -155,12 +155,12 @@ def acting_in(look: Look, names: Names) -> List[str]:
     return [named[key] for key in keys if key in named]
 
 
-def is_idle(row: Row) -> bool:
+def is_idle(row: PythonRow) -> bool:
     """Whether a thread waits for the events of a loop, which calls what the state shows."""
     return row.more.get("loop") is not None and "thread" in row.more and row.stack.is_idle_loop
 
 
-def takers_in(look: Look, word: str) -> Dict[Any, List[Any]]:
+def takers_in(look: PythonLook, word: str) -> Dict[Any, List[Any]]:
     """Returns the keys of the threads and tasks that have each object by a word of their rows: as `taken` for a block,
     or `around` an inner block."""
     takers: Dict[Any, List[Any]] = defaultdict(list)
@@ -170,7 +170,7 @@ def takers_in(look: Look, word: str) -> Dict[Any, List[Any]]:
     return takers
 
 
-def why_unshown(look: Look) -> str:
+def why_unshown(look: PythonLook) -> str:
     """Returns why others may end a wait at an object of the runtime than the state shows, or nothing."""
     others = look.head.get("others")
     if look.shown_by or look.by_faulthandler:
@@ -188,14 +188,14 @@ def why_unshown(look: Look) -> str:
     return "" if is_known else "its event loop will call what the state doesn't show"
 
 
-def timer_call(row: Row) -> str:
+def timer_call(row: PythonRow) -> str:
     """Returns what a timer's thread will call that interrupts the main thread or ends the process, or nothing."""
     own = [line.has.get("self") for line in row.frames if line.at == TIMER]
     calls = [str(thread.get("calls")) for thread in own if isinstance(thread, dict)]
     return next(filter(ENDS.match, calls), "")
 
 
-def enders_of(looks: List[Look], names: Names) -> Dict[Any, List[str]]:
+def enders_of(looks: List[PythonLook], names: PythonNames) -> Dict[Any, List[str]]:
     """Returns those whose code may end an OS process: their own one, or any if it kills by number. One of whom a state
     doesn't say it may, but for one of 1.0, which says nothing of anybody's code."""
     enders: Dict[Any, List[str]] = defaultdict(list)
@@ -208,10 +208,10 @@ def enders_of(looks: List[Look], names: Names) -> Dict[Any, List[str]]:
     return enders
 
 
-def machine_of(looks: List[Look], names: Names) -> Machine:
+def machine_of(looks: List[PythonLook], names: PythonNames) -> PythonMachine:
     """Returns what the looks of one time share."""
     mains: Dict[Any, str] = {}
-    stands: Dict[Any, Row] = {}
+    stands: Dict[Any, PythonRow] = {}
     children: Dict[Any, List[str]] = defaultdict(list)
     takers: Dict[Any, List[str]] = defaultdict(list)
     sharers: Dict[Any, List[str]] = defaultdict(list)
@@ -235,4 +235,5 @@ def machine_of(looks: List[Look], names: Names) -> Machine:
             takers[host, what] += here
         for what in look.queues:
             sharers[host, what] += here
-    return Machine(mains, stands, children, takers, sharers, enders_of(looks, names), missing, acting, above, within)
+    return PythonMachine(mains, stands, children, takers, sharers, enders_of(looks, names), missing, acting, above,
+                         within)

@@ -8,22 +8,22 @@ from dataclasses import dataclass, field
 from typing import TYPE_CHECKING, Any, Dict, List, Optional, Tuple
 
 from ...sketch import REST
-from .stack import KEPT, Frame, Stack, stack_of
-from .text import Look, Row, is_number, last_word
+from .stack import KEPT, PythonFrame, PythonStack, stack_of
+from .text import PythonLook, PythonRow, is_number, last_word
 
 if TYPE_CHECKING:
-    from .job import Job
+    from .job import PythonJob
 
 NEED_ALL = ("Barrier.wait",)  # operations that need all of several
 PACKAGE_AWAITS = "await of a package"  # of a task that no code of the program's own began, as a server's for a client
 UNNAMED = re.compile(r"Task-\d+$")
 
 
-class Names:
+class PythonNames:
     """The name of each thread and task, PROCESS/NAME, the same in all looks, and another one for another one at its
     place."""
 
-    def __init__(self, looks: List[Look]) -> None:
+    def __init__(self, looks: List[PythonLook]) -> None:
         self.names: Dict[Any, str] = {}
         self.of_look: Dict[int, Dict[Any, str]] = {id(look): {} for look in looks}
         self.used: Counter[str] = Counter()
@@ -40,7 +40,7 @@ class Names:
             for key in (*look.callers, *look.signals()):
                 self.add(look, key, key, "")
 
-    def add(self, look: Look, key: Any, name: str, number: str) -> None:
+    def add(self, look: PythonLook, key: Any, name: str, number: str) -> None:
         place = look.place()
         full = f"{self.processes[place]}/{name}"
         identity = place, key, number, full
@@ -53,17 +53,17 @@ class Names:
         """The name of those who may be missing from a process."""
         return f"{self.processes[place]}/{REST}"
 
-    def of(self, look: Look, key: Any) -> Optional[str]:
+    def of(self, look: PythonLook, key: Any) -> Optional[str]:
         """The name of a thread, a task, a coroutine that is handed over, what a loop will call or what comes by a
         signal, or None if it isn't in the state."""
         return self.of_look[id(look)].get(key)
 
-    def within(self, look: Look) -> Dict[Any, str]:
+    def within(self, look: PythonLook) -> Dict[Any, str]:
         """The names of all in a look, by their keys."""
         return self.of_look[id(look)]
 
 
-def label(row: "Row") -> str:
+def label(row: "PythonRow") -> str:
     """The name that a thread or task has, and of a task without one its function too."""
     if row.more.get("main") is True:
         return "MainThread"
@@ -78,11 +78,11 @@ class Standing:
     frames say by where they are, and `standard` those of the standard library from the innermost on, up to the first of
     other code. `call` is the call in which the innermost one stands, and `word` the last word of that."""
 
-    job: Job
-    row: Row
-    frames: List[Frame]
-    stack: Stack = field(init=False)
-    standard: List[Frame] = field(init=False)
+    job: PythonJob
+    row: PythonRow
+    frames: List[PythonFrame]
+    stack: PythonStack = field(init=False)
+    standard: List[PythonFrame] = field(init=False)
     call: Dict[str, Any] = field(init=False)
     word: str = field(init=False)
     waits_in: Optional[Tuple[str, List[str]]] = field(init=False, default=None)
@@ -95,7 +95,7 @@ class Standing:
         self.word = last_word(self.call)
 
     @property
-    def look(self) -> Look:
+    def look(self) -> PythonLook:
         return self.job.look
 
     @property
@@ -109,13 +109,13 @@ class Standing:
         return self.waits_in
 
 
-def main_task(row: Row) -> Any:
+def main_task(row: PythonRow) -> Any:
     """The key of the task for which a thread runs an event loop, or None."""
     future = row.frames[row.stack.runs].has.get("future") if row.stack.runs is not None else None
     return future.get("id") if isinstance(future, dict) else None
 
 
-def actor_of(look: Look, key: Any) -> Any:
+def actor_of(look: PythonLook, key: Any) -> Any:
     """The key of who acts where a thread would: of one that waits for events the task for which it runs its loop."""
     row = look.threads.get(key)
     if row is None or not row.stack.is_idle_loop:
@@ -123,7 +123,7 @@ def actor_of(look: Look, key: Any) -> Any:
     return main_task(row) if main_task(row) in look.tasks else key
 
 
-def holders_in(look: Look) -> Dict[Any, List[Any]]:
+def holders_in(look: PythonLook) -> Dict[Any, List[Any]]:
     """Returns the keys of the threads and tasks that have each task or child in a variable: they may end it. Under None
     it has those that may have any, since the state doesn't say it of them."""
     if look.holders is None:
@@ -135,7 +135,7 @@ def holders_in(look: Look) -> Dict[Any, List[Any]]:
     return look.holders
 
 
-def pools_of(look: Look) -> Any:
+def pools_of(look: PythonLook) -> Any:
     """The task that sets each future, or the thread that has begun its work, and the threads of the pool that keeps
     it."""
     if look.pools is None:
@@ -203,7 +203,7 @@ def lasting_objects(standing: Standing) -> List[str]:
     return [str(own["id"])] if isinstance(own, dict) and own.get("id") and "sleep" not in run[-1].at else []
 
 
-def public_name(each: Frame) -> str:
+def public_name(each: PythonFrame) -> str:
     """CLASS.METHOD of a frame of the library, or MODULE.FUNCTION."""
     kind, name, is_general = public_words(each.at)
     own: Any = each.has.get("self") if is_general else None

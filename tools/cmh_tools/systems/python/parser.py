@@ -25,12 +25,12 @@ from .. import State
 from ..base import Parser, Snapshot, is_loop, without_sleep
 from .connections import connections_of
 from .contradictions import doubt_looks
-from .job import Job, machine_of
-from .names import NEED_ALL, Names, Standing, lasting_objects, main_task, public_name
-from .stack import KEPT, Frame, Stack, stack_of
-from .tasks import Waits
-from .text import Look, Row, is_number, looks_of
-from .waits import Wait, unsure
+from .job import PythonJob, machine_of
+from .names import NEED_ALL, PythonNames, Standing, lasting_objects, main_task, public_name
+from .stack import KEPT, PythonFrame, PythonStack, stack_of
+from .tasks import TaskWaits
+from .text import PythonLook, PythonRow, is_number, looks_of
+from .waits import PythonWait, unsure
 
 PLACES, HANDED = ("thread", "task"), ("asked", "caller")  # kinds of subjects: that stand somewhere, or are to begin
 NOT_UNDERSTOOD = (AttributeError, KeyError, TypeError, ValueError, IndexError, RecursionError)
@@ -46,17 +46,17 @@ MODULE = ".<module>"
 
 
 @dataclass
-class Subject:
+class PythonSubject:
     """A thread, a task, a coroutine that a loop has been handed, what loops will call, or what a signal brings, with
     the look that it is in."""
 
-    waits: Waits
+    waits: TaskWaits
     what: str  # "thread", "task", "asked", "caller" or "signal"
     key: Any
     row: Any
-    job: Job = field(init=False)
+    job: PythonJob = field(init=False)
     loop: Optional[Dict[str, Any]] = field(init=False)  # the event loop whose thread it needs
-    thread: Optional[Row] = field(init=False)  # the row of the thread that it needs
+    thread: Optional[PythonRow] = field(init=False)  # the row of the thread that it needs
 
     def __post_init__(self) -> None:
         self.job = self.waits.job
@@ -75,8 +75,8 @@ class Subject:
             return self.job.look.loops.get(self.row.loops[0])
         return self.job.loop_of(self.row) if self.what == "task" else None
 
-    def frames(self) -> List[Frame]:
-        frames: List[Frame] = self.waits.frames_of_task(self.row) if self.what == "task" else self.row.frames
+    def frames(self) -> List[PythonFrame]:
+        frames: List[PythonFrame] = self.waits.frames_of_task(self.row) if self.what == "task" else self.row.frames
         return frames
 
     def is_main(self) -> bool:
@@ -94,7 +94,7 @@ class Subject:
 class Jobs(Snapshot):
     """The looks of one time, each with the waits in it."""
 
-    jobs: List[Waits]
+    jobs: List[TaskWaits]
 
 
 class PythonParser(Parser):
@@ -105,9 +105,9 @@ class PythonParser(Parser):
 
     def __init__(self) -> None:
         self.dumps = 0
-        self.names = Names([])
+        self.names = PythonNames([])
         self.is_alone = True
-        self.looks: Dict[Any, List[Look]] = {}  # of each process
+        self.looks: Dict[Any, List[PythonLook]] = {}  # of each process
 
     def read(self, state: State) -> List[Reading]:
         looks = looks_of(state)
@@ -129,7 +129,7 @@ class PythonParser(Parser):
         for own in self.looks.values():
             doubt_looks(own)
             mark_woken(own)
-        self.names = Names(looks)
+        self.names = PythonNames(looks)
         places = {look.place() for look in looks}
         hosts = {(look.machine(), look.place()[0]) for look in looks if look.machine()}
         if len({machine for machine, _ in hosts}) < len(hosts):
@@ -154,16 +154,17 @@ class PythonParser(Parser):
     def prepare(self, snapshot: Jobs) -> None:
         looks = snapshot.rows()
         machine = machine_of(looks, self.names)
-        snapshot.jobs = [Waits(Job(look, self.names, machine)) for look in looks]
+        snapshot.jobs = [TaskWaits(PythonJob(look, self.names, machine)) for look in looks]
 
-    def processes(self, snapshot: Jobs) -> Iterator[Subject]:
+    def processes(self, snapshot: Jobs) -> Iterator[PythonSubject]:
         for waits in snapshot.jobs:
             look = waits.look
             kinds: Dict[str, Dict[Any, Any]] = {"thread": look.threads, "task": look.tasks, "asked": look.asked,
                                                 "caller": look.callers, "signal": waits.job.coming}
-            yield from [Subject(waits, what, key, row) for what, rows in kinds.items() for key, row in rows.items()]
+            yield from [PythonSubject(waits, what, key, row) for what, rows in kinds.items() for key,
+                        row in rows.items()]
 
-    def process_of(self, subject: Subject, snapshot: Jobs) -> Process:
+    def process_of(self, subject: PythonSubject, snapshot: Jobs) -> Process:
         """Returns the process of a row. A row that is odd makes it unknown, whatever is odd in it."""
         try:
             process = place_of(subject) if subject.what in PLACES else coming_of(subject)
@@ -181,7 +182,7 @@ class PythonParser(Parser):
             snapshot.moments[process.name] = ONCE
         return process
 
-    def count(self, process: Process, subject: Subject, snapshot: Jobs) -> None:
+    def count(self, process: Process, subject: PythonSubject, snapshot: Jobs) -> None:
         """Gives a process the count of its waits, and says of it how it was read."""
         thread = subject.thread
         is_held = subject.what in HANDED or subject.what == "task" and \
@@ -201,7 +202,7 @@ class PythonParser(Parser):
         elif self.is_alone and is_vouched(thread, is_held, subject):
             snapshot.moments[process.name] = ONCE
 
-    def stops_of_main(self, thread: Row, look: Look) -> Optional[int]:
+    def stops_of_main(self, thread: PythonRow, look: PythonLook) -> Optional[int]:
         """Returns how often the main thread has stopped. Up to 1.1 each signal that asked for states woke it, and no
         state says by which version it was printed: so that is known of the states of the first signal alone. If there
         are two, later ones count as the last of these."""
@@ -222,7 +223,7 @@ class PythonParser(Parser):
         sketch.warnings += dict.fromkeys(line for look in looks for line in look.warnings)
 
 
-def mark_woken(looks: List[Look]) -> None:
+def mark_woken(looks: List[PythonLook]) -> None:
     """Marks in all looks at a process the threads that have woken up within one of them: who looks again and again is
     asleep all through another one, and at the same place."""
     woken = {key for look in looks for key, row in look.threads.items() if row.more.get("new_stops")}
@@ -230,13 +231,13 @@ def mark_woken(looks: List[Look]) -> None:
         row.more["woke"] = True
 
 
-def stops_of(thread: Optional[Row]) -> Optional[int]:
+def stops_of(thread: Optional[PythonRow]) -> Optional[int]:
     """How often a thread has stopped to wait, or None if that isn't known."""
     stops = thread.more.get("stops") if thread is not None else None
     return stops if isinstance(stops, int) else None
 
 
-def has_stopped(thread: Row) -> bool:
+def has_stopped(thread: PythonRow) -> bool:
     """Whether a thread has stopped anew between the two looks of a state, or didn't sleep at each."""
     new, asleep = thread.more.get("new_stops"), thread.more.get("asleep")
     return isinstance(new, int) and (new != 0 or asleep is not True)
@@ -250,14 +251,14 @@ def doubt_place(process: Process) -> None:
         process.parts = [(*part, unseen("uncounted", GROWN)) for part in process.parts]
 
 
-def is_vouched(thread: Optional[Row], is_held: bool, subject: Subject) -> bool:
+def is_vouched(thread: Optional[PythonRow], is_held: bool, subject: PythonSubject) -> bool:
     """Whether the two looks of a state show one wait. A task awaits the same future at both, else it has moved."""
     if subject.what == "task" and not is_held:
         return True
     return thread is not None and thread.more.get("new_stops") == 0 and thread.more.get("asleep") is True
 
 
-def add_enders(process: Process, subject: Subject) -> None:
+def add_enders(process: Process, subject: PythonSubject) -> None:
     """Says of one that waits who may end its process, or the wait of the main thread by a signal."""
     more: Part = subject.job.process_enders
     signals = subject.job.interrupting() if subject.job.is_main(subject.thread) else ()
@@ -267,14 +268,14 @@ def add_enders(process: Process, subject: Subject) -> None:
                          for part in parts]
 
 
-def place_of(subject: Subject) -> Process:
+def place_of(subject: PythonSubject) -> Process:
     """Returns the process of a thread or a task."""
     standing = Standing(subject.job, subject.row, subject.frames())
     return process_at(subject, subject.waits.of_task(standing) if subject.what == "task" else
                       subject.waits.of_thread(standing), standing)
 
 
-def process_at(subject: Subject, wait: Wait, standing: Optional[Standing] = None) -> Process:
+def process_at(subject: PythonSubject, wait: PythonWait, standing: Optional[Standing] = None) -> Process:
     """Returns the process of a wait, with what tells it from the next."""
     operation, objects = standing.operation() if standing else ("", [])
     stack = standing.stack if standing else stack_of([])
@@ -306,12 +307,12 @@ def awaited_by(standing: Standing) -> str:
     return str(awaited.get("type", "")).rpartition(".")[2] if isinstance(awaited, dict) and is_bare else ""
 
 
-def package_call(stack: Stack, frames: List[Frame]) -> str:
+def package_call(stack: PythonStack, frames: List[PythonFrame]) -> str:
     """Returns the function of a package that the job's own code has called, such as that of a pool, or nothing."""
     return public_name(frames[stack.package]) if stack.package is not None else ""
 
 
-def sign_of(subject: Subject, wait: Wait, operation: str, stack: Stack) -> Sign:
+def sign_of(subject: PythonSubject, wait: PythonWait, operation: str, stack: PythonStack) -> Sign:
     """Returns the sign of one at its place: one that waits for what comes next in its own loop has nothing to do."""
     if wait.sign is Sign.SLEEPS:
         own = tuple(without_sleep(list(stack.own)))
@@ -336,7 +337,7 @@ def receives(operation: str) -> bool:
     return RECEIVES.fullmatch(operation) is not None
 
 
-def takes_next(subject: Subject, operation: str) -> bool:
+def takes_next(subject: PythonSubject, operation: str) -> bool:
     """Whether one waits for its next message. What a package takes from a queue for it may be a connection of a pool.
     """
     package = package_call(subject.row.stack, subject.row.frames)
@@ -344,13 +345,13 @@ def takes_next(subject: Subject, operation: str) -> bool:
     return receives(operation) and not is_pool
 
 
-def awaits_data(subject: Subject) -> bool:
+def awaits_data(subject: PythonSubject) -> bool:
     """Whether a task awaits a future that a connection has."""
     awaited = subject.row.more.get("waits")
     return isinstance(awaited, dict) and awaited.get("id") in subject.job.look.arriving
 
 
-def is_in_own_loop(subject: Subject, own: Tuple[str, ...]) -> bool:
+def is_in_own_loop(subject: PythonSubject, own: Tuple[str, ...]) -> bool:
     """Whether one waits in the function that it was started with, and comes back to that wait."""
     return subject.what in PLACES and subject.row.more.get("again") is not False and is_in_start(own)
 
@@ -364,7 +365,7 @@ def is_in_start(own: Tuple[str, ...]) -> bool:
     return len(named) <= 1 or len(named) == 2 and (MODULE in named[-1] or is_loop(named[0].partition(" (")[0]))
 
 
-def are_timed(looks: List[Look]) -> bool:
+def are_timed(looks: List[PythonLook]) -> bool:
     """Whether it is known when each look began: those of a process one after the other."""
     last: Dict[Any, float] = {}
     for look in looks:
@@ -375,7 +376,7 @@ def are_timed(looks: List[Look]) -> bool:
     return True
 
 
-def coming_of(subject: Subject) -> Process:
+def coming_of(subject: PythonSubject) -> Process:
     """Returns the process of what isn't begun as yet: what loops and signals bring."""
     if subject.what == "asked":
         wait = subject.waits.of_asked(subject.row)

@@ -55,7 +55,7 @@ KEPT = 8192  # places of which is kept what their names say
 
 
 @dataclass
-class Frame:
+class PythonFrame:
     """A frame: `at` is MODULE.FUNCTION, `has` what the state knows of its variables, `kind` whose code it is."""
 
     at: str
@@ -66,7 +66,7 @@ class Frame:
     call: Optional[Dict[str, Any]] = None
 
 
-class Stack(NamedTuple):
+class PythonStack(NamedTuple):
     """What the frames of a thread or a task say by where they are. `own` has the texts of the job's own frames, `names`
     the names of all, and `standard` those of the standard library from the innermost on, up to the first of other code.
     `called` is the number of the frame of the library that other code has called, if it waits in one, `package` of the
@@ -89,22 +89,22 @@ class Stack(NamedTuple):
     is_taking: bool  # such a one stands in a call of the library that does so
 
 
-def stack_of(frames: Sequence[Frame]) -> Stack:
+def stack_of(frames: Sequence[PythonFrame]) -> PythonStack:
     """Returns what frames say by where they are."""
     return stack_at(tuple([(line.at, line.file, line.line, line.kind) for line in frames]))
 
 
 @lru_cache(maxsize=KEPT)
-def stack_at(places: Tuple[Tuple[str, str, int, str], ...]) -> Stack:
+def stack_at(places: Tuple[Tuple[str, str, int, str], ...]) -> PythonStack:
     """Returns what the places of frames say."""
-    frames = [Frame(name, file, line, {}, kind) for name, file, line, kind in places]
+    frames = [PythonFrame(name, file, line, {}, kind) for name, file, line, kind in places]
     names = tuple(line.at for line in frames)
     standard = standard_names(frames)
     runs = next((number for number, name in enumerate(names) if name.endswith(".run_until_complete")), None)
     is_handler = any(name.endswith("._handle_workers") for name in names)
     taking = list(takewhile(GETS.match, names))
     outer = names[len(taking):]
-    return Stack(
+    return PythonStack(
         own_frames(frames), names, standard,
         len(standard) - 1 if standard and not RUNS.search(standard[0]) else None, package_called(frames), runs,
         names.index(FORKED, 1) if FORKED in names[1:] else len(names),
@@ -115,19 +115,19 @@ def stack_at(places: Tuple[Tuple[str, str, int, str], ...]) -> Stack:
         is_handler or taking != [])
 
 
-def standard_names(frames: List[Frame]) -> Tuple[str, ...]:
+def standard_names(frames: List[PythonFrame]) -> Tuple[str, ...]:
     """Returns the names of the frames of the standard library from the innermost on, up to the first of other code."""
     inner = takewhile(lambda line: line.kind == "standard" and (line is frames[0] or not BEGINS.match(line.at)), frames)
     return tuple(line.at for line in inner)
 
 
-def package_called(frames: List[Frame]) -> Optional[int]:
+def package_called(frames: List[PythonFrame]) -> Optional[int]:
     """Returns the number of the frame of a package that the job's own code has called, such as that of a pool."""
     number = next((number for number, outer in enumerate(frames[1:]) if outer.kind == "own"), None)
     return number if number is not None and frames[number].kind == "package" and frames[0].kind != "own" else None
 
 
-def own_frames(frames: List[Frame]) -> Tuple[str, ...]:
+def own_frames(frames: List[PythonFrame]) -> Tuple[str, ...]:
     """Returns the texts of the job's own frames from the topmost on. Where it has none, those of packages, else of the
     library that began the thread."""
     own = [line for line in frames if line.kind == "own"]
@@ -159,11 +159,11 @@ def kind_of(path: str) -> str:
     return "package" if PACKAGE.search(path) else "own"
 
 
-def frame_in_file(file: str, line: str, function: Optional[str], is_short: bool = False) -> Frame:
+def frame_in_file(file: str, line: str, function: Optional[str], is_short: bool = False) -> PythonFrame:
     """Returns a frame as tools print it that name no module, with that of its file. A short file is one of the library,
     by its path below it."""
     match = STANDARD.search(file) or PACKAGE.search(file)
     inner = file if is_short else (match[1] or "") if match else os.path.basename(file)
     module = re.sub(r"\.py$|/__init__\.py$", "", inner).replace("/", ".")
-    return Frame(f"{module}.{function or '?'}", file, int(line) if line.isdecimal() else 0, {},
-                 "standard" if is_short else kind_of(file))
+    return PythonFrame(f"{module}.{function or '?'}", file, int(line) if line.isdecimal() else 0, {},
+                       "standard" if is_short else kind_of(file))

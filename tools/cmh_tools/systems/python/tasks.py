@@ -14,11 +14,11 @@ from cmh_proc.calls import LIMITS, PRIVATE, has_limit
 from ...model import Part, Sign, any_of, unseen, wakers
 from .cancel import Cancellers
 from .futures import all_waits, any_waits, by_future, by_futures, wait_of_frame
-from .job import CANCEL, Job
+from .job import CANCEL, PythonJob
 from .names import Standing, main_task
-from .stack import KEPT, Frame
-from .text import Caller, Row, callers_of
-from .waits import (Wait, blocked, by_block, by_child, by_end, by_join, by_limit, by_lock, by_object,
+from .stack import KEPT, PythonFrame
+from .text import Caller, PythonRow, callers_of
+from .waits import (PythonWait, blocked, by_block, by_child, by_end, by_join, by_limit, by_lock, by_object,
                     by_semaphore, by_sleep, by_step, by_takers, by_work, goes, idle_wait, is_outside, limited,
                     outside_wait, resting, unsure)
 
@@ -30,7 +30,7 @@ LIMITED_CALLS = {"asyncio.tasks.sleep", "asyncio.tasks.wait_for"}
 RUN = re.compile(r"asyncio\.(base_events\.(\w+\.)?(run_forever|run_until_complete|_run_once)|runners\.(\w+\.)?run"
                  r"|events\.(\w+\.)?_run)$")
 STEP = re.compile(r"asyncio\.(events\.Handle\._run$|runners\.)")
-Rule = Callable[[Standing], Optional[Wait]]
+Rule = Callable[[Standing], Optional[PythonWait]]
 # In their order, each with how the name of a frame begins where it may apply, if it doesn't look at each place.
 RULES: Sequence[Tuple[Rule, Tuple[str, ...]]] = (
     (by_work, ()), (by_sleep, ()), (by_limit, ()), (by_step, ()), (by_lock, ()),
@@ -39,17 +39,17 @@ RULES: Sequence[Tuple[Rule, Tuple[str, ...]]] = (
     (by_futures, ("concurrent.futures._base.",)))
 
 
-class Waits:
+class TaskWaits:
     """The waits of one look at an OS process."""
 
-    def __init__(self, job: Job) -> None:
+    def __init__(self, job: PythonJob) -> None:
         self.job, self.look = job, job.look
         self.cancellers = Cancellers(job.look, job.names_of)
         self.of_loops: Dict[Any, Part] = {}
 
     # Threads
 
-    def of_thread(self, standing: Standing) -> Wait:
+    def of_thread(self, standing: Standing) -> PythonWait:
         row, loop = standing.row, self.job.loop_of(standing.row)
         if self.look.by_faulthandler or self.look.shown_by:
             return self.by_place(standing)
@@ -63,7 +63,7 @@ class Waits:
             return resting(EVENTS, any_of(unseen("outside")))
         return found or thread_wait(standing)
 
-    def of_loop(self, standing: Standing) -> Optional[Wait]:
+    def of_loop(self, standing: Standing) -> Optional[PythonWait]:
         """A loop ends with what it runs for, if it runs for something, however often it stops for events. Meanwhile it
         serves the loop's other tasks."""
         task = self.look.tasks.get(main_task(standing.row))
@@ -73,7 +73,7 @@ class Waits:
         wait = resting(EVENTS, parts) if standing.stack.is_idle_loop else blocked(parts)
         return replace(wait, count=str(task.more["number"]))
 
-    def by_place(self, standing: Standing) -> Wait:
+    def by_place(self, standing: Standing) -> PythonWait:
         """The wait of a thread of which the state shows the place alone, and perhaps its call of the kernel."""
         if any(RUN.match(line.at) for line in standing.frames):
             return unsure(f"it runs an event loop, and {self.tool()} doesn't show the loop's tasks: cmh_state does")
@@ -87,7 +87,7 @@ class Waits:
         rows = self.look.threads.values()
         return any(row.more.get("state") == "R" or by_work(Standing(self.job, row, row.frames)) for row in rows)
 
-    def at_futex(self, standing: Standing) -> Optional[Wait]:
+    def at_futex(self, standing: Standing) -> Optional[PythonWait]:
         """The wait of a thread at a lock of its process alone, without a limit; else None. Where another one computes,
         it may have that lock or not, so nothing is known."""
         row = standing.row
@@ -98,14 +98,14 @@ class Waits:
         if not int(row.more["args"][1], 16) & PRIVATE:  # (as a semaphore of multiprocessing is)
             return None
         why = f"{self.tool()} doesn't show who has what it waits for"
-        return Wait(Sign.BLOCKED, any_of(*standing.job.same_process(standing.name), unseen("unshown", why)), why)
+        return PythonWait(Sign.BLOCKED, any_of(*standing.job.same_process(standing.name), unseen("unshown", why)), why)
 
     def tool(self) -> str:
         return self.look.shown_by or "faulthandler"
 
     # Tasks
 
-    def frames_of_task(self, row: Row) -> List[Frame]:
+    def frames_of_task(self, row: PythonRow) -> List[PythonFrame]:
         """The frames of the task that has its loop's thread are that thread's."""
         loop = self.job.loop_of(row) or {}
         thread = self.job.thread_of(loop)
@@ -114,7 +114,7 @@ class Waits:
         ends = [number for number, line in enumerate(thread.frames) if STEP.match(line.at)]
         return thread.frames[:ends[0]] if ends else thread.frames
 
-    def of_task(self, standing: Standing) -> Wait:
+    def of_task(self, standing: Standing) -> PythonWait:
         row, loop = standing.row, self.job.loop_of(standing.row)
         thread = self.job.thread_of(loop)
         if loop is None or thread is None:
@@ -138,7 +138,7 @@ class Waits:
             self.of_loops[key] = (*((wakers("cancels", names),) if names else ()), *lost)
         return self.of_loops[key]
 
-    def behind(self, holder: Row, own: Wait, thread: Row) -> Wait:
+    def behind(self, holder: PythonRow, own: PythonWait, thread: PythonRow) -> PythonWait:
         """The wait of a task for the one that has its loop's thread, and for what it awaits itself."""
         frames = self.frames_of_task(holder) if holder is not thread else thread.frames
         if not own.goes_on() and thread_wait(Standing(self.job, thread, frames)).goes_on():
@@ -148,7 +148,7 @@ class Waits:
 
     # What loops and signals bring
 
-    def of_asked(self, row: Dict[str, Any]) -> Wait:
+    def of_asked(self, row: Dict[str, Any]) -> PythonWait:
         """Returns the wait of a coroutine that the loop has been handed and hasn't begun."""
         loop = self.look.loops.get(row["loop"], {"current": None})
         holder = self.job.holder(loop)
@@ -157,7 +157,7 @@ class Waits:
         return goes("it is about to begin") if holder is None else \
             blocked(any_of(wakers("owns", self.job.names_of([holder.key]))))
 
-    def of_caller(self, key: str, caller: Caller) -> Wait:
+    def of_caller(self, key: str, caller: Caller) -> PythonWait:
         """Returns the wait of what loops will call: as long as each of their threads is kept, for those who have them.
         A timer goes on once its time has come."""
         found = [self.job.holder(self.look.loops[loop]) for loop in caller.loops]
@@ -165,16 +165,16 @@ class Waits:
         kind = key.partition(" ")[0]
         if len(held) == len(found):
             return blocked(any_of(wakers("owns", self.job.names_of(held))))
-        return Wait(Sign.SLEEPS, reason=COMING[kind]) if kind == "timer" else \
+        return PythonWait(Sign.SLEEPS, reason=COMING[kind]) if kind == "timer" else \
             resting(COMING.get(kind, COMING["signal"]), any_of(unseen("outside")))
 
-    def of_signal(self, key: str) -> Wait:
+    def of_signal(self, key: str) -> PythonWait:
         coming = self.job.coming[key]
-        return Wait(Sign.SLEEPS, reason=coming.why) if coming.is_timed else \
+        return PythonWait(Sign.SLEEPS, reason=coming.why) if coming.is_timed else \
             resting(coming.why, any_of(unseen("outside")))
 
 
-def thread_wait(standing: Standing) -> Wait:
+def thread_wait(standing: Standing) -> PythonWait:
     """Returns the wait of a thread, or of the task that has it: by the first rule that applies."""
     for rule in rules_at(standing.stack.names):
         wait = rule(standing)
@@ -189,7 +189,7 @@ def rules_at(names: Tuple[str, ...]) -> List[Rule]:
     return [rule for rule, starts in RULES if not starts or any(name.startswith(starts) for name in names)]
 
 
-def task_wait(row: Row, standing: Standing) -> Wait:
+def task_wait(row: PythonRow, standing: Standing) -> PythonWait:
     """What a task awaits, apart from its loop's thread."""
     awaited = row.more["waits"]
     if row.more["limit"] is True or is_limited_call(standing):
@@ -216,7 +216,7 @@ def is_limited_call(standing: Standing) -> bool:
         line.at in LIMITED_CALLS and line.has.get("timeout", 0) is not None for line in standing.standard)
 
 
-def by_library(row: Row, standing: Standing, line: Frame) -> Optional[Wait]:
+def by_library(row: PythonRow, standing: Standing, line: PythonFrame) -> Optional[PythonWait]:
     """The wait that a frame of asyncio shows, or None."""
     if line.at == "asyncio.base_events.Server.serve_forever":
         return resting("it serves", any_of(unseen("outside")))
@@ -231,7 +231,7 @@ def by_library(row: Row, standing: Standing, line: Frame) -> Optional[Wait]:
     return None
 
 
-def by_permit(standing: Standing, lock: Any) -> Optional[Wait]:
+def by_permit(standing: Standing, lock: Any) -> Optional[PythonWait]:
     """The wait for a lock of asyncio, or for a semaphore that knows how many permits it has."""
     if not isinstance(lock, dict):
         return None
@@ -243,7 +243,7 @@ def by_permit(standing: Standing, lock: Any) -> Optional[Wait]:
     return by_block(standing, lock, most) if type(most) is int and most > 0 else by_takers(standing, lock)
 
 
-def in_kernel(standing: Standing) -> Optional[Wait]:
+def in_kernel(standing: Standing) -> Optional[PythonWait]:
     """The wait of a thread whose call of the kernel ends by itself, or that is in none; else None."""
     row = standing.row
     if row.more.get("state") == "R":
@@ -251,6 +251,6 @@ def in_kernel(standing: Standing) -> Optional[Wait]:
     return limited("it waits with a limit") if "args" in row.more and is_limited(row) else None
 
 
-def is_limited(row: Row) -> bool:
+def is_limited(row: PythonRow) -> bool:
     """Whether the call of the kernel that a thread is in ends by itself."""
     return has_limit(str(row.more.get("call")), [int(word, 16) for word in row.more.get("args", ())])

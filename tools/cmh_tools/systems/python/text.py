@@ -14,7 +14,7 @@ from typing import Any, Dict, List, NamedTuple, Optional, Sequence, Set, Tuple
 from ...files import Refusal, shown
 from .. import State
 from ..base import COUNT, fits, misfits, once_each
-from .stack import FORKED, Frame, Stack, frame_in_file, kind_of, stack_of
+from .stack import FORKED, PythonFrame, PythonStack, frame_in_file, kind_of, stack_of
 
 MARK = "cmh-state "
 OF_FRAMES = "cmh-python "  # what the lines of cmh_python_reader.py begin with
@@ -72,21 +72,21 @@ FAULT_FRAME = re.compile(r'  File "(.*)", line (\d+|\?\?\?)(?: in (.*))?$')
 
 
 @dataclass
-class Row:
+class PythonRow:
     """A thread or a task. `key` tells it from the others of its process, `more` is the row of the state, and `fault`
     says what of its text shows that it isn't one thread's. `stack` is what its frames say by where they are."""
 
     key: Any
     name: str
-    frames: List[Frame]
+    frames: List[PythonFrame]
     more: Dict[str, Any]
     fault: str = ""
-    stack: Stack = field(init=False)
+    stack: PythonStack = field(init=False)
 
     def __post_init__(self) -> None:
         self.stand_in(self.frames)
 
-    def stand_in(self, frames: List[Frame]) -> None:
+    def stand_in(self, frames: List[PythonFrame]) -> None:
         self.frames, self.stack = frames, stack_of(frames)
 
 
@@ -110,7 +110,7 @@ class Coming(NamedTuple):
 
 
 @dataclass
-class Look:
+class PythonLook:
     """A state of one OS process. `seconds` is the time between the two looks that cmh_state takes, `head` its first
     row, `children` the OS processes that it has begun and not seen end. `semaphores` has the locks of multiprocessing
     that it has taken, and `queues` the queues of it that it has. `arriving` has the futures that what comes by a
@@ -123,8 +123,8 @@ class Look:
     seconds: float = 0
     head: Dict[str, Any] = field(default_factory=dict)
     children: List[Any] = field(default_factory=list)
-    threads: Dict[Any, Row] = field(default_factory=dict)
-    tasks: Dict[Any, Row] = field(default_factory=dict)
+    threads: Dict[Any, PythonRow] = field(default_factory=dict)
+    tasks: Dict[Any, PythonRow] = field(default_factory=dict)
     loops: Dict[Any, Dict[str, Any]] = field(default_factory=dict)
     asked: Dict[Any, Dict[str, Any]] = field(default_factory=dict)
     callers: Dict[str, Caller] = field(default_factory=dict)
@@ -138,7 +138,7 @@ class Look:
     pools: Optional[Tuple[Dict[Any, Any], Dict[Any, List[Any]]]] = None
     holders: Optional[Dict[Any, List[Any]]] = None
 
-    def rows(self) -> List[Row]:
+    def rows(self) -> List[PythonRow]:
         """Returns its threads and tasks."""
         return [*self.threads.values(), *self.tasks.values()]
 
@@ -218,7 +218,7 @@ def has_line(text: str, start: str) -> bool:
     return text.startswith(start) or f"\n{start}" in text
 
 
-def looks_of(state: State) -> List[Look]:
+def looks_of(state: State) -> List[PythonLook]:
     """Returns the looks of a text in their order. Raises Refusal if it has none."""
     if is_of_frames(state.text):
         from .frames import looks_of_frames  # (few states are so, and to make its expressions takes long)
@@ -234,10 +234,10 @@ def looks_of(state: State) -> List[Look]:
 # What cmh_state prints
 
 
-def looks_of_module(path: str, lines: List[str]) -> List[Look]:
+def looks_of_module(path: str, lines: List[str]) -> List[PythonLook]:
     """Each row says of which process it is, so that the lines of several may stand between each other."""
-    looks: List[Look] = []
-    open_looks: Dict[Any, Look] = {}
+    looks: List[PythonLook] = []
+    open_looks: Dict[Any, PythonLook] = {}
     rows: Dict[Any, int] = {}
     for at, line in enumerate(lines, 1):
         text = line.partition(MARK)[2]
@@ -264,7 +264,7 @@ def looks_of_module(path: str, lines: List[str]) -> List[Look]:
     return looks
 
 
-def note_missing(open_looks: Dict[Any, Look], path: str, at: int) -> None:
+def note_missing(open_looks: Dict[Any, PythonLook], path: str, at: int) -> None:
     """A line that can't be read may be of any state that is open. Raises Refusal if none is."""
     where = f"{shown(path)}:{at}: this line of a state isn't understood"
     if not open_looks:
@@ -299,13 +299,13 @@ def object_of(pairs: List[Tuple[str, Any]]) -> Dict[str, Any]:
 ROW = json.JSONDecoder(object_pairs_hook=object_of)  # (to make one for each line takes long)
 
 
-def head_of(row: Dict[str, Any], path: str, at: int) -> Look:
+def head_of(row: Dict[str, Any], path: str, at: int) -> PythonLook:
     if row["version"] != VERSION:
         raise Refusal(f"{shown(path)}:{at}: a state of version {shown(str(row['version']))}, and {VERSION} is read")
     wrong = next(misfits(row, HEAD), None) or (None if is_number(row["seconds"]) else ".seconds") or lost_key(row)
     if wrong is not None:
         raise Refusal(f"{shown(path)}:{at}: the first line of a state, in which {shown(wrong[1:])} is missing or odd")
-    look = Look(f"{path}:{at}", row["process"], row["pid"], row["seconds"], row)
+    look = PythonLook(f"{path}:{at}", row["process"], row["pid"], row["seconds"], row)
     for word in row.get("unseen", ()):
         look.warnings.append(f"process {look.pid} has loaded {shown(word)}: what waits in it is not seen")
     return look
@@ -317,7 +317,7 @@ def lost_key(head: Dict[str, Any]) -> Optional[str]:
     return next((f".{keys[0]}" for has, keys in NEEDS if has <= there and there.isdisjoint(keys)), None)
 
 
-def close(look: Optional[Look], path: str, ended: bool = False) -> None:
+def close(look: Optional[PythonLook], path: str, ended: bool = False) -> None:
     """Says what a state lacks that has no last line, or other rows than that counts. A task whose loop, or whose loop's
     thread or current task, isn't there may wait for anything."""
     if look is None:
@@ -333,7 +333,7 @@ def close(look: Optional[Look], path: str, ended: bool = False) -> None:
         look.warnings.append(f"{shown(path)}: the state of process {look.pid} is not whole: what is missing is unknown")
 
 
-def doubt_owners(look: Look) -> None:
+def doubt_owners(look: PythonLook) -> None:
     """Says of threads that they aren't understood, where the frame in which one began is another one's."""
     for key, row in look.threads.items():
         outer = row.frames[-1] if row.frames and BOOTSTRAP.fullmatch(row.frames[-1].at) else None
@@ -344,13 +344,13 @@ def doubt_owners(look: Look) -> None:
                 one.fault = one.fault or "the frame in which a thread began is another one's"
 
 
-def have_loops(look: Look) -> bool:
+def have_loops(look: PythonLook) -> bool:
     """Whether each thread that says which loop it runs is the one that this loop says to be run by."""
     loops = {row.more["loop"]: row.key for row in look.threads.values() if row.more["loop"] is not None}
     return all(look.loops[loop]["thread"] == key for loop, key in loops.items() if loop in look.loops)
 
 
-def are_tasks(look: Look) -> bool:
+def are_tasks(look: PythonLook) -> bool:
     """Whether each object with the address of a task is described as one, and each task that isn't done has a row: who
     doesn't see that may miss a cancel."""
     values: List[Any] = [frame.has for row in look.rows() for frame in row.frames if frame.has] if look.tasks else []
@@ -366,7 +366,7 @@ def are_tasks(look: Look) -> bool:
     return True
 
 
-def are_alike(look: Look) -> bool:
+def are_alike(look: PythonLook) -> bool:
     """Whether all rows of a kind have the same keys, but for those that some have alone, and threads have those of
     tasks too that both have."""
     orders = [{tuple(row.more) for row in rows.values()} for rows in (look.threads, look.tasks)]
@@ -375,7 +375,7 @@ def are_alike(look: Look) -> bool:
     return all(len(rows) <= 1 for rows in (*kinds, both))
 
 
-def add_row(look: Look, row: Dict[str, Any], path: str, at: int) -> None:
+def add_row(look: PythonLook, row: Dict[str, Any], path: str, at: int) -> None:
     """Adds a row to its look. One that is of no known form, or stands twice, counts as missing."""
     kind = kind_of_row(row)
     is_known = kind != "" and fits(row, ROWS[kind])
@@ -392,7 +392,7 @@ def kind_of_row(row: Dict[str, Any]) -> str:
     return ""
 
 
-def keep_row(look: Look, kind: str, row: Dict[str, Any]) -> bool:
+def keep_row(look: PythonLook, kind: str, row: Dict[str, Any]) -> bool:
     """Keeps a row of a known form, and returns whether it is the first of its key."""
     key = row[kind]
     tables: Dict[str, Dict[Any, Any]] = {"thread": look.threads, "task": look.tasks, "runs": look.loops,
@@ -411,7 +411,7 @@ def keep_row(look: Look, kind: str, row: Dict[str, Any]) -> bool:
     return is_first
 
 
-def add_callers(look: Look, loop: Dict[str, Any]) -> None:
+def add_callers(look: PythonLook, loop: Dict[str, Any]) -> None:
     """Adds what a loop will call, if its row says that."""
     for name, is_cancelling in (callers_of(loop) or {}).items():
         caller = look.callers.setdefault(name, Caller())
@@ -435,12 +435,12 @@ def callers_of(loop: Dict[str, Any]) -> Optional[Dict[str, bool]]:
     return None if callers is None or "error" in callers else callers
 
 
-def row_of_place(key: Any, row: Dict[str, Any]) -> Row:
+def row_of_place(key: Any, row: Dict[str, Any]) -> PythonRow:
     """Returns the row of a thread or a task. One with a frame that couldn't be read may stand anywhere."""
-    frames = [Frame(line["in"], line["file"], line["line"] or 0, line.get("has", {}), kind_of(line["file"]))
+    frames = [PythonFrame(line["in"], line["file"], line["line"] or 0, line.get("has", {}), kind_of(line["file"]))
               for line in row["frames"] if "in" in line]
-    made = Row(key, row["name"], frames, row, "" if len(frames) == len(row["frames"]) else
-               "a frame of its stack couldn't be read")
+    made = PythonRow(key, row["name"], frames, row, "" if len(frames) == len(row["frames"]) else
+                     "a frame of its stack couldn't be read")
     if not frames and "thread" in row:
         made.fault = made.fault or "it has no frame"
     if made.stack.odd is not None:
@@ -465,18 +465,18 @@ def is_of_lock(call: Dict[str, Any]) -> bool:
 # What faulthandler prints
 
 
-def looks_of_faulthandler(path: str, lines: List[str]) -> List[Look]:
+def looks_of_faulthandler(path: str, lines: List[str]) -> List[PythonLook]:
     """A thread that stands again begins another dump."""
-    looks: List[Look] = []
-    row: Optional[Row] = None
+    looks: List[PythonLook] = []
+    row: Optional[PythonRow] = None
     for line in lines:
         line = line.rstrip("\r")
         head, step = FAULT_HEAD.search(line), FAULT_FRAME.search(line)
         if head:
             if not looks or head[1] in looks[-1].threads:
                 number = len(looks) + 1
-                looks.append(Look(path, f"dump-{number}", number, by_faulthandler=True))
-            row = Row(head[1], head[2] or "", [], {})
+                looks.append(PythonLook(path, f"dump-{number}", number, by_faulthandler=True))
+            row = PythonRow(head[1], head[2] or "", [], {})
             looks[-1].threads[head[1]] = row
         elif step and row is not None:
             row.frames.append(frame_in_file(step[1], step[2], step[3]))
@@ -489,7 +489,7 @@ def looks_of_faulthandler(path: str, lines: List[str]) -> List[Look]:
     return looks
 
 
-def thread_name(row: Row) -> str:
+def thread_name(row: PythonRow) -> str:
     """faulthandler shows no names: the function that a thread began in, and its number."""
     inner = [frame for frame in row.frames if not re.match(r"threading\.(_bootstrap|_bootstrap_inner|run)$", frame.at)]
     last = inner[-1].at.split(".")[-1] if inner else "thread"

@@ -8,9 +8,9 @@ from typing import Any, Dict, List, Optional, Pattern, Tuple
 
 from ...model import Part, Sign, Wakers, all_of, any_of, unseen, wakers
 from ...sketch import GOING, LIMIT, SYSTEM, WORK, premise
-from .job import BLOCK, CHILD, DEAD, Job
+from .job import BLOCK, CHILD, DEAD, PythonJob
 from .names import Standing
-from .stack import KEPT, Frame, Stack
+from .stack import KEPT, PythonFrame, PythonStack
 from .text import is_number, last_word
 
 SHARED = re.compile(r"multiprocessing\.queues\.(?:Joinable)?Queue\.(put|get|join)$")
@@ -35,7 +35,7 @@ BUSY = 0.2  # the part of the time between two looks that one who computes has u
 
 
 @dataclass
-class Wait:
+class PythonWait:
     """How one waits, as a process of a sketch has it. `count` is its own, where what it waits for comes once and for
     all."""
 
@@ -48,37 +48,37 @@ class Wait:
     def goes_on(self) -> bool:
         return self.sign in GOING
 
-    def beside(self, *more: Wakers) -> Wait:
+    def beside(self, *more: Wakers) -> PythonWait:
         """The same, where others may end each part too."""
         if not more:
             return self
-        return Wait(self.sign, [(*part, *more) for part in self.parts], self.reason, self.because, self.count)
+        return PythonWait(self.sign, [(*part, *more) for part in self.parts], self.reason, self.because, self.count)
 
 
-def goes(reason: str) -> Wait:
-    return Wait(Sign.GOES_ON, reason=reason)
+def goes(reason: str) -> PythonWait:
+    return PythonWait(Sign.GOES_ON, reason=reason)
 
 
-def limited(reason: str) -> Wait:
-    return Wait(Sign.SLEEPS, reason=reason, because=[premise(LIMIT)])
+def limited(reason: str) -> PythonWait:
+    return PythonWait(Sign.SLEEPS, reason=reason, because=[premise(LIMIT)])
 
 
-def unsure(reason: str, *because: str) -> Wait:
-    return Wait(Sign.UNKNOWN, reason=reason, because=list(because))
+def unsure(reason: str, *because: str) -> PythonWait:
+    return PythonWait(Sign.UNKNOWN, reason=reason, because=list(because))
 
 
-def blocked(parts: List[Part], *because: str) -> Wait:
-    return Wait(Sign.BLOCKED, parts, because=list(because) or [SYSTEM])
+def blocked(parts: List[Part], *because: str) -> PythonWait:
+    return PythonWait(Sign.BLOCKED, parts, because=list(because) or [SYSTEM])
 
 
-def resting(reason: str, parts: List[Part]) -> Wait:
-    return Wait(Sign.RESTS, parts, reason)
+def resting(reason: str, parts: List[Part]) -> PythonWait:
+    return PythonWait(Sign.RESTS, parts, reason)
 
 
 # What goes on by itself
 
 
-def by_work(standing: Standing) -> Optional[Wait]:
+def by_work(standing: Standing) -> Optional[PythonWait]:
     """It computes if it has used the processor. One that hasn't may stand anywhere in a call of the interpreter's own,
     as where the last name of a file goes and its end is written into a full pipe."""
     spent: Any = standing.row.more.get("spent")
@@ -86,12 +86,12 @@ def by_work(standing: Standing) -> Optional[Wait]:
     return goes("it computes") if is_number(spent) and seconds > 0 and spent >= BUSY * seconds * 1e9 else None
 
 
-def by_sleep(standing: Standing) -> Optional[Wait]:
+def by_sleep(standing: Standing) -> Optional[PythonWait]:
     is_sleep = standing.call.get("module") == "time" and standing.call.get("function") == "sleep"
     return limited("it sleeps") if is_sleep else None
 
 
-def by_step(standing: Standing) -> Optional[Wait]:
+def by_step(standing: Standing) -> Optional[PythonWait]:
     """One that has moved runs. In a function of the module `select` it may only look again and again, with a limit."""
     more, on = standing.row.more, standing.call.get("on")
     is_polling = standing.call.get("module") == "select" or isinstance(on, dict) and on.get("type") in POLLS
@@ -110,7 +110,7 @@ def limit_of(call: Dict[str, Any]) -> Any:
     return arguments[1] if len(arguments) == 2 and arguments[0] is True else None
 
 
-def by_limit(standing: Standing) -> Optional[Wait]:
+def by_limit(standing: Standing) -> Optional[PythonWait]:
     """A limit of the innermost wait. That of an outer call doesn't count: it may be over, or not begun."""
     top = standing.frames[0] if standing.frames else None
     if top is None:
@@ -147,7 +147,7 @@ def lock_of(standing: Standing) -> Any:
     return call.get("on") if is_acquire else None
 
 
-def by_lock(standing: Standing) -> Optional[Wait]:
+def by_lock(standing: Standing) -> Optional[PythonWait]:
     lock = lock_of(standing) if standing.frames else None
     if isinstance(lock, dict) and "locked" in lock:
         return by_block(standing, lock)
@@ -158,7 +158,7 @@ def by_lock(standing: Standing) -> Optional[Wait]:
     return blocked(any_of(wakers("owns", standing.job.owners(lock["owner"]))))
 
 
-def by_dead_owner(standing: Standing, lock: Dict[str, Any]) -> Wait:
+def by_dead_owner(standing: Standing, lock: Dict[str, Any]) -> PythonWait:
     """The wait for a lock of whose owner the state has nothing. It has ended if the state has all threads. A thread
     that begins later may have its number, and gives the lock back then, so whoever may begin one may end the wait."""
     look = standing.look
@@ -170,7 +170,7 @@ def by_dead_owner(standing: Standing, lock: Dict[str, Any]) -> Wait:
     return blocked(any_of(wakers("starts", others)) if others else [()], DEAD)
 
 
-def by_block(standing: Standing, lock: Dict[str, Any], most: int = 1) -> Optional[Wait]:
+def by_block(standing: Standing, lock: Dict[str, Any], most: int = 1) -> Optional[PythonWait]:
     """The wait for a lock that doesn't show its owner: for the one whose code has taken it for a block, or for the most
     that may have it so. Code that names `release` may give it back too, and where an inner block may have done so, all
     of the process may have it. None if they are fewer, or more."""
@@ -187,7 +187,7 @@ def by_block(standing: Standing, lock: Dict[str, Any], most: int = 1) -> Optiona
     return wait.beside(*able, *([wakers("releases", job.releasing)] if job.releasing else []))
 
 
-def by_takers(standing: Standing, semaphore: Dict[str, Any]) -> Optional[Wait]:
+def by_takers(standing: Standing, semaphore: Dict[str, Any]) -> Optional[PythonWait]:
     """The wait for a permit, of which the state doesn't show how many there are: for those whose code has taken one for
     a block, and for others who may have one besides. None if nobody has."""
     keys = standing.job.taken.get(semaphore.get("id"), [])
@@ -195,7 +195,7 @@ def by_takers(standing: Standing, semaphore: Dict[str, Any]) -> Optional[Wait]:
     return blocked(any_of(owners, *standing.job.same_process(standing.name))) if owners.who else None
 
 
-def by_semaphore(standing: Standing) -> Optional[Wait]:
+def by_semaphore(standing: Standing) -> Optional[PythonWait]:
     is_wait = standing.frames and standing.frames[0].at == "threading.Condition.wait"
     line = next((line for line in standing.standard if line.at == "threading.Semaphore.acquire" and is_wait), None)
     semaphore: Any = line.has.get("self") if line is not None else None
@@ -206,7 +206,7 @@ def by_semaphore(standing: Standing) -> Optional[Wait]:
 # Joins
 
 
-def by_join(standing: Standing) -> Optional[Wait]:
+def by_join(standing: Standing) -> Optional[PythonWait]:
     line = next((line for line in standing.standard if line.at == "threading.Thread.join"
                  and isinstance(line.has.get("self"), dict)), None)
     if line is None or line is not standing.frames[0] and \
@@ -221,7 +221,7 @@ def ends(name: Optional[str], why: str, *because: str) -> Wakers:
     return wakers("ends", [name], *because) if name else unseen("unread", why)
 
 
-def by_end(standing: Standing) -> Optional[Wait]:
+def by_end(standing: Standing) -> Optional[PythonWait]:
     """The main thread ends when all others have that aren't daemons."""
     if not standing.frames or standing.frames[0].at != "threading._shutdown":
         return None
@@ -230,7 +230,7 @@ def by_end(standing: Standing) -> Optional[Wait]:
     return blocked(all_of(filter(None, map(standing.job.name_of, keys)), "ends")) if keys else None
 
 
-def by_child(standing: Standing) -> Optional[Wait]:
+def by_child(standing: Standing) -> Optional[PythonWait]:
     """A child that is in the state ends with its main thread."""
     job = standing.job
     for line in standing.standard:
@@ -247,7 +247,7 @@ def by_child(standing: Standing) -> Optional[Wait]:
 # Waits of which the state shows at most who may come to what is waited at
 
 
-def by_object(standing: Standing) -> Wait:
+def by_object(standing: Standing) -> PythonWait:
     """The wait of one of which the state doesn't show who ends it."""
     (operation, _), job = standing.operation(), standing.job
     kind = kind_of_object(standing.stack.standard)
@@ -286,12 +286,12 @@ def called(standing: Standing, operation: str) -> str:
     return operation if is_known or not own else f"wait in {own[0]}"
 
 
-def reached_wait(names: List[str], why: str) -> Wait:
+def reached_wait(names: List[str], why: str) -> PythonWait:
     lost = [unseen("unshown", why)] if why else []
     return blocked(any_of(*([wakers("reaches", names)] if names else []), *lost))
 
 
-def shared_wait(job: Job, queue: Any) -> Wait:
+def shared_wait(job: PythonJob, queue: Any) -> PythonWait:
     """The wait at a queue of multiprocessing: for all who are in a process that has it."""
     host = job.look.place()[0]
     what = queue.get("queue") if isinstance(queue, dict) else None
@@ -300,7 +300,7 @@ def shared_wait(job: Job, queue: Any) -> Wait:
     return reached_wait(names, why) if is_known else reached_wait([], "which processes have its queue isn't shown")
 
 
-def feeding_wait(job: Job) -> Wait:
+def feeding_wait(job: PythonJob) -> PythonWait:
     """The wait of a thread that writes for a queue of multiprocessing whose pipe is full: for all who have one of those
     that its process has."""
     host = job.look.place()[0]
@@ -325,7 +325,7 @@ def semaphore_in(standing: Standing) -> str:
     return str(lock["semaphore"]) if is_lock and is_taking and lock.get("semaphore") else ""
 
 
-def child_wait(standing: Standing) -> Wait:
+def child_wait(standing: Standing) -> PythonWait:
     """The wait for a child that isn't in the states, or for any child. Where its pipe has no room, those may read from
     it who have it in a variable."""
     own = [line.has.get("self") for line in standing.standard if CHILDREN.match(line.at)]
@@ -354,7 +354,7 @@ def is_outside(standing: Standing) -> bool:
     return kind in OUTSIDE_TYPES or standing.call.get("module") in OUTSIDE_MODULES or OUTSIDE.match(top) is not None
 
 
-def outside_wait(standing: Standing) -> Wait:
+def outside_wait(standing: Standing) -> PythonWait:
     """The wait for data from elsewhere. At a pipe of multiprocessing that is likely to be of a child or the parent."""
     if not any(line.at.startswith("multiprocessing.connection.") for line in standing.standard):
         return blocked(any_of(unseen("outside")))
@@ -367,7 +367,7 @@ def outside_wait(standing: Standing) -> Wait:
 # Work
 
 
-def idle_wait(standing: Standing) -> Optional[Wait]:
+def idle_wait(standing: Standing) -> Optional[PythonWait]:
     """The wait of a worker of a pool, or of a feeder of a queue, that has nothing to do, or of a thread that keeps the
     processes of a pool; else None."""
     if not has_no_work(standing.stack, standing.frames):
@@ -378,7 +378,7 @@ def idle_wait(standing: Standing) -> Optional[Wait]:
     return keeper_wait(standing, idle) if any(KEEPERS.match(line.at) for line in standing.frames) else idle
 
 
-def has_no_work(stack: Stack, frames: List[Frame]) -> bool:
+def has_no_work(stack: PythonStack, frames: List[PythonFrame]) -> bool:
     """Whether these are the frames of one that takes what comes next for a pool or a queue."""
     if stack.is_taking or not stack.is_worker:
         return stack.is_worker
@@ -386,7 +386,7 @@ def has_no_work(stack: Stack, frames: List[Frame]) -> bool:
     return call.get("words") is None or last_word(call) == "get"
 
 
-def keeper_wait(standing: Standing, idle: Wait) -> Wait:
+def keeper_wait(standing: Standing, idle: PythonWait) -> PythonWait:
     """The wait of a thread that keeps the processes of a pool: for those that have a job, and for children that aren't
     in the states, which may have one. Its own process can at most close the pool. Without any it has nothing to do."""
     machine, place = standing.job.machine, standing.look.place

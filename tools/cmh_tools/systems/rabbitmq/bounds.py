@@ -21,7 +21,7 @@ PLAIN = ("accept", "amqp10_common", "amqp_client", "cowboy", "cowlib", "gun", "p
          "rabbitmq_management_agent", "rabbitmq_prometheus", "rabbitmq_web_dispatch")
 
 
-class Server:
+class BrokerServer:
     """What a state shows of the broker itself, and of its connections and channels by their numbers."""
 
     def __init__(self, raw: Dict[str, Any], routes: Routes) -> None:
@@ -74,7 +74,7 @@ class Server:
         return not all(queue.startswith(NAMED_BY_BROKER) and self.routes.is_by_name(queue) for queue in queues)
 
 
-def all_who_may_end(server: Server, connections: List[str], others: List[str], anybody: str) -> List[Wakers]:
+def all_who_may_end(server: BrokerServer, connections: List[str], others: List[str], anybody: str) -> List[Wakers]:
     """Returns all who may end the wait of a client at the first of its connections: others, and where its queues are
     open to anybody who stands for these. It is nothing where that isn't known."""
     if server.acts or not server.is_silent(connections) or server.may_send_at_once(connections[0]):

@@ -6,7 +6,7 @@ from typing import Any, Dict, List, Optional, Set, Tuple
 
 from ...files import shown
 from ..base import fits
-from .bounds import Server
+from .bounds import BrokerServer
 from .clients import Activity, Row, activities
 from .routes import Routes
 from .services import Service, process_name
@@ -23,7 +23,7 @@ class Broker:
 
     def __init__(self, raw: Raw) -> None:
         self.routes = Routes(raw)
-        self.server = Server(raw, self.routes)
+        self.server = BrokerServer(raw, self.routes)
         self.clients: List[Row] = raw["clients"]
         self.client_ends = {row["connection"]: str(row.get("end", "")) for row in reversed(self.clients)}
         self.ticking: Dict[int, bool] = {}
