@@ -205,9 +205,9 @@ def wait_row(found: Findings, at: int) -> Tree:
     process, waits = found.process(at), found.waits
     shared, kind = waits.list_of(at), waits.kinds[at] if process.kind == ALL else process.kind
     near = waits.left_of(at) if kind in (ANY, ALL) else []
-    one_of = [it for it in waits.left[at] if it >= waits.number] if kind == ALL and shared is None else []
-    nodes = [it for it in waits.left[at] if it < waits.number] if one_of else waits.all_left(at)
-    others = [] if shared is not None or kind not in (ANY, ALL) else nodes
+    nodes = waits.left[at] if kind in (ANY, ALL) and shared is None else []
+    one_of = [node for node in nodes if kind == ALL and node >= waits.number]
+    others = waits.without_hubs(node for node in nodes if not one_of or node < waits.number)
     kept = set(waits.without_hubs(near)) if kind == ANY and shared is None else {*others}
     return {
         "kind": kind,
