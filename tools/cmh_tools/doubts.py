@@ -42,7 +42,8 @@ class Likely:
 
     def __init__(self, waits: Waits, known: Sequence[str] = ()) -> None:
         self.waits, self.decision, self.keys = waits, waits.decision, list(known)
-        self.left: Dict[Tuple[int, int], List[Part]] = {}  # of waits, by the ids of their parts and of what is left of these
+        # Of waits, by the ids of their parts and of what is left of these.
+        self.left: Dict[Tuple[int, int], List[Part]] = {}
         self.numbers = {waits.processes[at].name: at for at in sorted(self.decision.likely - self.decision.certain)}
 
     def process(self, name: str) -> Process:

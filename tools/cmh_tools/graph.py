@@ -14,8 +14,9 @@ INSIDE = Strength.NAMED  # the way from a part to its wait, and from that to tho
 
 
 class Graph:
-    """Its nodes are the processes, by their numbers, then whoever isn't in the state, and lists, parts and waits. `ends`
-    has whom each may end, and in which way, and `needs` how many have to end it: of a wait all parts, or else one."""
+    """Its nodes are the processes, by their numbers, then whoever isn't in the state, and lists, parts and waits.
+    `ends` has whom each may end, and in which way, and `needs` how many have to end it: of a wait all parts, or else
+    one."""
 
     def __init__(self, subjects: Sequence[Subject]) -> None:
         self.names = [subject.name for subject in subjects]
@@ -69,10 +70,10 @@ class Graph:
         ways = {sign: {way for way, signs in counts.items() if sign in signs} for sign in (*Sign, None)}
         todo = list(reached)
         for node in todo:
-            some = ways[self.signs[node]] if node <= self.nobody else counts.keys()
+            open_ways = ways[self.signs[node]] if node <= self.nobody else counts.keys()
             cause = self.names[node] if node < self.nobody else reached[node]
             for way, other in self.ends[node]:
-                if way in some and other not in reached:
+                if way in open_ways and other not in reached:
                     needs[other] -= 1
                     if not needs[other]:
                         reached[other] = cause

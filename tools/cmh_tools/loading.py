@@ -55,26 +55,26 @@ def sketch_in(tree: Any, data: bytes, paths: Sequence[str]) -> Optional[Sketch]:
     if isinstance(tree, dict) and "processes" in tree:
         return with_facts(sketch_of(tree, paths[0]), Facts())
     is_text = tree is None and TEXT.match(data) is not None
-    found = sketches_of(paths, text_of_bytes(data, paths[0])) if data.strip() else []
-    if is_text and not found:
+    sketches = sketches_of(paths, text_of_bytes(data, paths[0])) if data.strip() else []
+    if is_text and not sketches:
         raise Refusal(f"{shown(paths[0])}: it is no JSON, as a dump and a sketch are, and no system knows it as a "
                       "state of its own: 'cmh-dump SYSTEM STATE -o DUMP' says why one doesn't")
-    if found[1:]:
-        systems = " or of ".join(sketch.system for sketch in found)
+    if sketches[1:]:
+        systems = " or of ".join(sketch.system for sketch in sketches)
         raise Failure(f"{shown(paths[0])}: it may be a state of {systems}: cmh-dump takes the name of the system", 2)
-    return found[0] if found else None
+    return sketches[0] if sketches else None
 
 
 def sketches_of(paths: Sequence[str], first: str) -> List[Sketch]:
     """Returns the sketches of those systems that understand some states."""
     texts = {paths[0]: first, **{path: read_text(path) for path in paths[1:]}}
-    found = []
+    sketches = []
     for system in NAMES:
         try:
-            found.append(sketch_for(system, paths, Facts(), texts.__getitem__))
+            sketches.append(sketch_for(system, paths, Facts(), texts.__getitem__))
         except Refusal:
             pass
-    return found
+    return sketches
 
 
 def load_noted(data: bytes, path: str, notes: str, read: Read = read_text) -> Loaded:
