@@ -1,4 +1,4 @@
-"""What a heap dump shows of the waits of a JVM's threads: the rows that `cmh_heap.py` prints, beside those of `jstack`.
+"""What a heap dump shows of the waits of a JVM's threads: the rows that `cmh_heap` prints, beside those of `jstack`.
 
 A thread is known again by its number and its address in the JVM, and its wait by its frames. A heap that was dumped
 between two states shows what a thread waits for that has stood at one wait from the first to the second.
