@@ -18,14 +18,13 @@ import sys
 from collections import Counter
 from typing import Dict, Iterable, Iterator, List, Sequence, Tuple, Union
 
-from cmh_linux.proc import Row, try_slurp
 from cmh_linux.processes import Machine
 from cmh_linux.readers import read_all
 from cmh_linux.sockets import Sockets, address, plain, tcp_of
 from cmh_proc import process
 from cmh_proc.calls import MACHINES, READ, SETS, WRITES, has_limit
 from cmh_proc.open_files import EVENTFD, OpenFile
-from cmh_proc.process import pids
+from cmh_proc.process import Row, parent_of, pids, row_of
 
 Files = Dict[int, List[int]]  # the processes that have a socket, by its number
 ITSELF = "itself"
@@ -113,7 +112,7 @@ class ClientProcess:
         is_bare = not caught and not row.get("timers") and row.get("TracerPid") == "0"
         has_ring = any(file.is_ring or (file.carried, file.kept) != (None, None) for file in row["fds"].values())
         return len(living) == 1 and is_bare and not has_ring and self.waits_there(living[0], connections) \
-            and not any(try_slurp(f"/proc/{pid}/timers") for pid in above(row["ppid"]))
+            and not any(row_of(f"/proc/{pid}/timers") for pid in above(row["ppid"]))
 
     def is_own(self, file: OpenFile) -> bool:
         """Whether the other end of a file is of the process itself, as that by which it wakes itself."""
@@ -138,8 +137,7 @@ def above(pid: int) -> Iterator[int]:
     """Yields a process and those from whom it descends."""
     while pid > 0:
         yield pid
-        words = try_slurp(f"/proc/{pid}/stat").rpartition(")")[2].split()
-        pid = int(words[1]) if words[1:] else 0
+        pid = parent_of(pid)
 
 
 def clients(rows: List[Row]) -> Iterator[Row]:

@@ -26,11 +26,11 @@ from typing import Any, Dict, Iterator, List, Optional, Sequence, Set, Tuple
 from cmh_proc.budget import BUDGET
 from cmh_proc.calls import BY_CLOCK, FUTEX_WAITS, PRIVATE, SLEEPS, calls_of, has_limit
 from cmh_proc.door import at, head, kernel_bytes, open_kernel, plain
-from cmh_proc.process import (bytes_of, environment_of, files_in_memory, files_of, inner_number, link_of, name_of,
-                              parent_of, pids, stat_of, status_of, text_of, threads_of, user_of)
+from cmh_proc.kernel import mappings_in
+from cmh_proc.process import (Row, bytes_of, environment_of, files_in_memory, files_of, inner_number, name_of,
+                              parent_of, pids, row_of, stat_of, status_of, text_of, threads_of, user_of)
 from cmh_proc.programs import run
-
-Row = Dict[str, Any]
+from cmh_proc.scripts import machine
 
 # What cmh_mpi.c writes, in its order: a head, communicators, the records of threads, requests that have been begun, and
 # for each communicator its ranks of the world.
@@ -261,7 +261,7 @@ def is_fortran(pid: int) -> Optional[bool]:
 def stat_of_thread(pid: int, tid: int) -> Row:
     """Returns a thread: its number as it sees itself, its state, and the call of the kernel that it is in."""
     folder = f"/proc/{pid}/task/{tid}"
-    fields, call = stat_of(folder), text_of(f"{folder}/syscall").split()
+    fields, call = stat_of(folder), row_of(f"{folder}/syscall").split()
     row: Row = {"tid": tid, "inner": inner_number(folder, tid), "state": fields[0] if fields else "X",
                 "called": name_in(bytes_of(f"{folder}/comm").strip()), "switches": switches_of(folder)}
     if len(fields) > 12:
@@ -310,11 +310,10 @@ def add_places(rows: Sequence[Row]) -> None:
 
 def mapped_files(pid: int, addresses: Set[int]) -> Iterator[Tuple[str, int]]:
     """Yields for each address of a process the file that is mapped there, and the address within that file."""
-    rows = re.findall(r"^([0-9a-f]+)-([0-9a-f]+) \S+ ([0-9a-f]+) \S+ \d+ +(/.*)$",
-                      text_of(f"/proc/{pid}/maps", MOST_MAPS), re.M)
-    bases = {path: int(start, 16) for start, _, offset, path in reversed(rows) if not int(offset, 16)}
+    rows = [row for row in mappings_in(text_of(f"/proc/{pid}/maps", MOST_MAPS)) if row.path.startswith("/")]
+    bases = {row.path: row.first for row in reversed(rows) if not row.offset}
     for address in addresses:
-        path = next((row[3] for row in rows if int(row[0], 16) <= address < int(row[1], 16)), "")
+        path = next((row.path for row in rows if row.first <= address < row.last), "")
         yield path, address - 1 - (bases.get(path, 0) if is_moved(path) else 0)
 
 
@@ -371,8 +370,7 @@ def state(words: Sequence[str], seconds: float, looks: int) -> str:
     pids = processes_of(words)
     if not pids:
         raise LookupError(f"no process of {' '.join(words)} here has a rank that this user can see")
-    rows: List[Row] = [{"version": 1, "host": os.uname().nodename,
-                        "space": f"{os.uname().nodename} {link_of('/proc/self/ns/pid')}"}]
+    rows: List[Row] = [{"version": 1, "host": os.uname().nodename, "space": machine()}]
     rows += reading(pids, 1)
     for number in range(2, looks + 1):
         time.sleep(seconds)

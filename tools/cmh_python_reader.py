@@ -19,14 +19,13 @@ import re
 import shutil
 import sys
 import time
-from typing import Any, Dict, List, Sequence, Tuple, Type, Union
+from typing import Dict, List, Sequence, Tuple, Type, Union
 
 from cmh_proc.budget import BUDGET
 from cmh_proc.calls import calls_of
-from cmh_proc.process import link_of, stat_of, text_of, threads_of
+from cmh_proc.process import Row, link_of, stat_of, text_of, threads_of
 from cmh_proc.programs import Limits, Session, heed_signals, run
-
-Row = Dict[str, Any]
+from cmh_proc.scripts import machine
 
 LOOK = 0.25  # seconds in which it is measured who computes
 PATIENCE = 120  # seconds for one process
@@ -174,7 +173,7 @@ def state_of(tool: Tool, pid: int, first: Dict[str, Row]) -> Tuple[str, Dict[str
                for tid, count in counts.items() if tid in before and tid in later}
     name = text_of(f"/proc/{pid}/comm").strip()
     head: Row = {"version": 1, "pid": pid, "by": tool.name, "name": name, "seconds": LOOK,
-                 "host": os.uname().nodename, "space": f"{os.uname().nodename} {link_of('/proc/self/ns/pid')}",
+                 "host": os.uname().nodename, "space": machine(),
                  "began": began, "ended": time.time(), "threads": threads}
     text = body if body.endswith("\n") else f"{body}\n"
     return f"cmh-python {json.dumps(head)}\n{text}cmh-python {json.dumps({'end': pid})}\n", later

@@ -12,9 +12,10 @@ from typing import Counter, Dict, List, Optional
 from cmh_proc.calls import (AT_FIRST, EPOLLS, EVENTS, IPC, ONESHOT, OPENS, PAIRS, QUEUES, READS, SETS, WRITE, WRITES,
                             int32)
 from cmh_proc.door import field, kernel_row, kernel_text
+from cmh_proc.kernel import KCMP_EPOLL, LIBC, kcmp, pid_of, sysvipc_row
 from cmh_proc.memory import Memory
+from cmh_proc.process import MOST_TEXT, Row, try_lines
 
-from .proc import KCMP_EPOLL, LIBC, MOST_TEXT, Row, kcmp, pid_of, sysvipc_row, try_lines
 from .sockets import in_words, key_of_connect
 
 GETPID = 11

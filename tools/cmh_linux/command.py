@@ -15,11 +15,12 @@ from typing import Iterable, List, Sequence, Set
 from cmh_proc.budget import BUDGET, UNTIL, Budget
 from cmh_proc.calls import MACHINES
 from cmh_proc.door import link
+from cmh_proc.process import Row, try_lines
+from cmh_proc.scripts import machine
 
 from .debugger import debugger, stacks_of
 from .frames import add_frames
 from .limits import add_ages
-from .proc import Row, try_lines
 from .reading import Reading
 
 NO_THREAD = "can't start new thread"  # as Python says it
@@ -53,7 +54,7 @@ def collect(pids: Sequence[int], seconds: float = 5.0, stacks: bool = False, loo
         begun = time.monotonic()
     kept = kept_of(readings, pids)
     rows: List[Row] = [{"version": 1, "machine": platform.machine(), "release": platform.release(),
-                        "asked": list(pids), "seconds": seconds, "outside": outside(), "space": space(),
+                        "asked": list(pids), "seconds": seconds, "outside": outside(), "space": machine(),
                         "with_stacks": stacks}]
     for number, reading in enumerate(readings, 1):
         rows += reading.text(number, kept)
@@ -87,11 +88,6 @@ def outside() -> str:
     if hidden and os.geteuid():
         return "hidepid"
     return "container" if link("/proc/self/ns/pid") != "pid:[4026531836]" else ""
-
-
-def space() -> str:
-    """Returns the machine and the container in which the numbers of processes are these."""
-    return f"{platform.node()} {link('/proc/self/ns/pid')}"
 
 
 def seconds(text: str) -> float:

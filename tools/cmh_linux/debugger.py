@@ -4,9 +4,9 @@ from __future__ import annotations
 import shutil
 from typing import Dict, Iterable, Iterator, List
 
+from cmh_proc.process import Row, row_of
 from cmh_proc.programs import attach
 
-from .proc import Row, try_slurp
 from .reading import Reading
 
 STACKS = [["eu-stack", "-i", "-s", "-p", "{}"], ["gdb", "-p", "{}", "-batch", "-ex", "thread apply all bt"]]
@@ -35,7 +35,7 @@ def stacks_of(pids: Iterable[int], reading: Reading) -> Iterator[Row]:
 
 def calls_now(pid: int, threads: Iterable[Row]) -> Dict[int, List[str]]:
     """Returns the calls of some threads with their arguments, as they are now."""
-    return {thread["tid"]: try_slurp(f"/proc/{pid}/task/{thread['tid']}/syscall").split()[:7] for thread in threads}
+    return {thread["tid"]: row_of(f"/proc/{pid}/task/{thread['tid']}/syscall").split()[:7] for thread in threads}
 
 
 def text_of_stacks(pid: int, words: List[str]) -> str:

@@ -10,11 +10,11 @@ from typing import Dict, Iterator, List, Optional, Sequence, Tuple
 from cmh_proc import programs as others
 from cmh_proc.budget import BUDGET as LOOK
 from cmh_proc.budget import Budget
+from cmh_proc.process import Row
 from cmh_unwind.cursor import Unclear
 from cmh_unwind.modules import Image, Module
 from cmh_unwind.stack import Unwinder
 
-from .proc import Row
 from .readers import PATIENCE, Worker
 
 MOST_BYTES, MOST_SECONDS = 1 << 27, 60.0  # of what is kept of all programs, their names and their tables

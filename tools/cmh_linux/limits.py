@@ -11,14 +11,13 @@ from typing import Dict, Iterable, List, Optional, Tuple
 
 from cmh_proc.calls import (BY_CLOCK, FUTEX_LOCKS, FUTEX_WAITS, IN_MILLISECONDS, LIMITS, OPERATION, QUEUES, calls_of,
                             int32)
-from cmh_proc.door import field, names
+from cmh_proc.door import tids
 from cmh_proc.memory import Memory
+from cmh_proc.process import Row, inner_number, row_of, stat_of
 
-from .proc import Row, try_slurp
 
 IS_A_TIME = 1  # TIMER_ABSTIME
 FAR = 3600.0  # seconds
-MOST_THREADS = 1 << 20
 RAN_AT = re.compile(r"^se\.exec_start *: *([0-9.]+)", re.M)
 PROCESSOR = 36  # its place in `stat`, behind the name: the one where a thread has last run
 
@@ -50,14 +49,13 @@ def far_limits(pid: str) -> Dict[str, float]:
     the number that the process itself has for it."""
     limits: Dict[str, float] = {}
     memory, calls = Memory(f"/proc/{pid}"), calls_of(platform.machine())
-    for tid in names(f"/proc/{pid}/task", MOST_THREADS):
-        words = try_slurp(f"/proc/{pid}/task/{tid}/syscall").split()
+    for tid in tids(int(pid)):
+        words = row_of(f"/proc/{pid}/task/{tid}/syscall").split()
         numbers = [int(word, 16) for word in words[1:]]
         is_known = len(numbers) > 6 and numbers[6] >> 32
         ends = limits_of(calls.get(int(words[0]), ""), numbers, memory)[1] if is_known else None
         if ends is not None and ends > FAR:
-            inner = field(try_slurp(f"/proc/{pid}/task/{tid}/status"), "NSpid").split()
-            limits[inner[-1] if inner else tid] = ends
+            limits[str(inner_number(f"/proc/{pid}/task/{tid}", tid))] = ends
     memory.close()
     return limits
 
@@ -93,7 +91,7 @@ class Clocks:
 
     def waited(self, folder: str) -> Optional[float]:
         """Returns for how many seconds the thread of a folder of /proc hasn't run, or None if that isn't known."""
-        row, ran = try_slurp(f"{folder}/stat").rpartition(")")[2].split(), ran_at(folder)
+        row, ran = stat_of(folder), ran_at(folder)
         if ran is None or len(row) <= PROCESSOR:
             return None
         ahead = self.of(int(row[PROCESSOR]))
@@ -124,5 +122,5 @@ def boot_time() -> float:
 def ran_at(folder: str) -> Optional[float]:
     """Returns when a thread has last run, by the clock of the processor where that was, or None if that isn't known:
     the kernel notes 0 for one that it has moved since then, as it may where one falls asleep."""
-    ran = RAN_AT.search(try_slurp(f"{folder}/sched"))
+    ran = RAN_AT.search(row_of(f"{folder}/sched"))
     return float(ran[1]) / 1000 or None if ran else None

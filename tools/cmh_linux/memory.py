@@ -9,11 +9,11 @@ from typing import Dict, Iterator, List, Optional, Tuple
 from cmh_proc import door
 from cmh_proc.budget import OF_ONE, Budget
 from cmh_proc.calls import PRIVATE
+from cmh_proc.kernel import DELETED, KCMP_VM, Mapping, kcmp, mappings_in, sysvipc_row
+from cmh_proc.process import Row, try_text
 
-from .proc import DELETED, KCMP_VM, Row, kcmp, sysvipc_row, try_text
 
 FILE = "file"
-MAPPING = re.compile(r"^([0-9a-f]+)-([0-9a-f]+) ...([ps]) [0-9a-f]+ ([0-9a-f]+:[0-9a-f]+) (\d+) *(.*)$", re.M)
 NAMELESS = re.compile(r"/(dev/zero|memfd:.*) \(deleted\)")  # memory that never had a name
 SEGMENT = re.compile(r"/SYSV[0-9a-f]{8} \(deleted\)")  # memory of System V
 DESTROYED = 0o1000  # SHM_DEST: a segment that goes with the last one who has it
@@ -39,24 +39,23 @@ def mappings(pid: int) -> List[Tuple[int, int, str]]:
     file isn't known, as anybody may open it, and pages of it are shared too where a process has it for itself. Raises
     Refused if there is too much of it."""
     budget, found = Budget(MOST_OF_ONE, SECONDS_OF_ONE, OF_ONE), []
-    text = try_text(f"/proc/{pid}/maps")
-    for first, last, way, device, number, path in (match.groups() for match in MAPPING.finditer(text)):
+    for one in mappings_in(try_text(f"/proc/{pid}/maps")):
         budget.spend(MAPPING_SIZE)
-        is_shared = way == "s" and is_nameless(pid, f"{first}-{last}", path, int(number), budget)
-        found.append((int(first, 16), int(last, 16), "" if (way, number) == ("p", "0") else
-                      f"memory {device} {number}" if is_shared else FILE))
+        is_shared = one.is_shared and is_nameless(pid, one, budget)
+        found.append((one.first, one.last, "" if not one.is_shared and not one.number else
+                      f"memory {one.device} {one.number}" if is_shared else FILE))
     return found
 
 
-def is_nameless(pid: int, place: str, path: str, number: int, budget: Budget) -> bool:
+def is_nameless(pid: int, one: Mapping, budget: Budget) -> bool:
     """Whether nobody can open what a process has mapped by a name. One name may be gone and another one still be there:
     so it is with a semaphore that `sem_open` has made. Memory of System V anybody may attach by its number or key until
     it is destroyed."""
-    if SEGMENT.fullmatch(path):
-        return is_destroyed(pid, number, budget)
+    if SEGMENT.fullmatch(one.path):
+        return is_destroyed(pid, one.number, budget)
     with contextlib.suppress(OSError):
-        return bool(NAMELESS.fullmatch(path)) or (
-            path.endswith(DELETED) and door.status(f"/proc/{pid}/map_files/{place}").st_nlink == 0)
+        return bool(NAMELESS.fullmatch(one.path)) or (one.path.endswith(DELETED) and door.status(
+            f"/proc/{pid}/map_files/{one.first:x}-{one.last:x}").st_nlink == 0)
     return False
 
 

@@ -14,19 +14,20 @@ from cmh_proc import door
 from cmh_proc.budget import BUDGET, OF_ONE, Budget, Refused
 from cmh_proc.calls import LOCKS, QUEUES, calls_of
 from cmh_proc.door import field, kernel_row, kernel_text
+from cmh_proc.kernel import KCMP_FILE, KCMP_FILES, kcmp, pid_of
 from cmh_proc.memory import Memory
 from cmh_proc.open_files import ANONYMOUS, EPOLL, EVENTFD, OF_KERNEL, SOCKET, OpenFile
+from cmh_proc.process import (MOST_FILES, MOST_TEXT, Row, lines_of, row_of, status_of, try_lines, try_link,
+                              user_of)
 
 from .calls import besides, set_of
 from .limits import limit_of
 from .memory import mappings, names_of_memory
-from .proc import KCMP_FILE, KCMP_FILES, MOST_TEXT, Row, kcmp, lines_of, pid_of, try_lines, try_link, try_slurp
 
 KERNEL_THREAD = 0x00200000
 SECONDS_OF_ONE = 15.0  # that one process may take, and a half of the bytes for all
 # The bytes that each row counts.
 PROCESS_SIZE, THREAD_SIZE, DESCRIPTOR_SIZE, FILE_SIZE = 3000, 2500, 600, 600
-MOST_DESCRIPTORS = 1 << 20
 CARRIES_NONE = "scm_fds: 0"  # of a socket through which no file is on its way
 HEAD = ("pid", "ppid", "group", "session", "start", "state", "comm")  # what of one is known that is too large
 
@@ -57,7 +58,7 @@ class Machine:
     def whole_process(self, pid: int, row: Row, budget: Budget) -> Row:
         """Returns all of a process. Raises Refused where that is too much."""
         budget.spend(PROCESS_SIZE)
-        if row["state"] in "ZX" and len(threads_of(pid)) == 1:
+        if row["state"] in "ZX" and len(door.tids(pid)) == 1:
             return {**row, "fds": {}, "threads": [{"tid": pid, "state": row["state"]}]}
         row["living"] = pid if row["state"] not in "ZX" else living_thread(pid)
         living = f"/proc/{pid}" if row["living"] == pid else f"/proc/{pid}/task/{row['living']}"
@@ -65,7 +66,7 @@ class Machine:
         try:
             row["net"], row["exe"] = try_link(f"{living}/ns/net")[5:-1], try_link(f"{living}/exe")
             row["fds"] = dict(self.descriptors(living, budget))
-            row["timers"] = bool(try_slurp(f"/proc/{pid}/timers"))
+            row["timers"] = bool(row_of(f"/proc/{pid}/timers"))
             row["threads"] = list(self.threads(pid, memory))
             row.update(runtime_of(living, row))
             row.update(aio_of(living, row))
@@ -83,7 +84,7 @@ class Machine:
         words = rest.split()
         if int(words[6]) & KERNEL_THREAD:
             return None
-        command = try_slurp(f"/proc/{pid}/cmdline").rstrip("\0").replace("\0", " ")
+        command = row_of(f"/proc/{pid}/cmdline").rstrip("\0").replace("\0", " ")
         row: Row = {"pid": pid, "ppid": int(words[1]), "group": int(words[2]), "session": int(words[3]),
                     "start": int(words[19]), "state": words[0], "comm": head.partition("(")[2],
                     "command": command[:500]}
@@ -103,7 +104,7 @@ class Machine:
 
     def descriptors(self, folder: str, budget: Budget) -> Iterator[Tuple[str, OpenFile]]:
         """Yields each descriptor with its file."""
-        fds = door.names(f"{folder}/fd", MOST_DESCRIPTORS)
+        fds = door.names(f"{folder}/fd", MOST_FILES)
         budget.spend(DESCRIPTOR_SIZE * len(fds))
         for fd in fds:
             self.steps += 1
@@ -206,13 +207,13 @@ class Machine:
                 row["unreadable"] = self.refused[row["pid"]]
 
     def threads(self, pid: int, memory: Memory) -> Iterator[Row]:
-        tids = threads_of(pid)
+        tids = door.tids(pid)
         memory.budget.spend(THREAD_SIZE * len(tids))
         for tid in tids:
             self.steps += 1
             memory.budget.check()
             with contextlib.suppress(FileNotFoundError, ProcessLookupError):
-                yield self.thread(f"/proc/{pid}/task/{tid}", int(tid), memory)
+                yield self.thread(f"/proc/{pid}/task/{tid}", tid, memory)
 
     def thread(self, folder: str, tid: int, memory: Memory) -> Row:
         """Returns a thread. Its count is read before and after the call that it is to vouch for."""
@@ -234,7 +235,7 @@ class Machine:
             row.update(self.call_of(words, memory))
         if words[0] == "running":
             return row
-        row["wchan"] = try_slurp(f"{folder}/wchan")
+        row["wchan"] = row_of(f"{folder}/wchan")
         after = kernel_row(f"{folder}/status")
         row["counts"] = [int(field(text, "voluntary_ctxt_switches")) for text in (status, after)]
         return row
@@ -256,15 +257,10 @@ def locked_files() -> List[Tuple[int, int]]:
     return list(dict.fromkeys((os.makedev(int(row[1], 16), int(row[2], 16)), int(row[3])) for row in rows if row))
 
 
-def threads_of(pid: int) -> List[str]:
-    return door.names(f"/proc/{pid}/task", MOST_DESCRIPTORS)
-
-
 def why_unreadable(pid: int) -> str:
     """Returns why a process can't be read."""
-    try:
-        user = door.status(f"/proc/{pid}").st_uid
-    except OSError:
+    user = user_of(pid)
+    if user is None:
         return "it may not be traced"
     if user == os.geteuid():
         return "it may not be traced, though it is of the same user" if user else "not even root may trace it"
@@ -280,9 +276,8 @@ def name_of_user(number: int) -> str:
 
 def living_thread(pid: int) -> int:
     """Returns a thread of a process whose first thread has ended."""
-    tids = list(map(int, threads_of(pid)))
-    states = {tid: field(try_slurp(f"/proc/{pid}/task/{tid}/status"), "State")[:1] for tid in tids}
-    return next((tid for tid, state in states.items() if state and state not in "ZX"), pid)
+    states = {tid: status_of(f"/proc/{pid}/task/{tid}", "State")[:1] for tid in door.tids(pid)}
+    return next((tid for tid, state in states.items() if state and state[0] not in "ZX"), pid)
 
 
 class Descriptor:

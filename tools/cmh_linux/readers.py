@@ -7,9 +7,9 @@ import threading
 from typing import Callable, List, Optional
 
 from cmh_proc.budget import Refused
+from cmh_proc.process import Row, row_of
 
 from .processes import Machine, why_unreadable
-from .proc import Row, try_slurp
 
 PATIENCE = 2.0  # seconds for one process: then it counts as one that can't be read
 LACKS = {errno.EMFILE: "too many files are open here (ulimit -n)", errno.ENOMEM: "there was no memory for that",
@@ -80,7 +80,7 @@ class Reader(Worker):
 
 def unread_row(pid: int, why: str) -> Row:
     """Returns a process of which nothing is known but that it is there."""
-    return {"pid": pid, "ppid": 0, "comm": try_slurp(f"/proc/{pid}/comm").strip() or "process", "unreadable": why}
+    return {"pid": pid, "ppid": 0, "comm": row_of(f"/proc/{pid}/comm").strip() or "process", "unreadable": why}
 
 
 def read_all(machine: Machine, pids: List[int]) -> List[Row]:

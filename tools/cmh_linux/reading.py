@@ -8,17 +8,16 @@ from typing import Dict, Iterable, Iterator, List, Set
 
 from cmh_proc.budget import BUDGET, Budget
 from cmh_proc.calls import EPOLLS, OWNER, PRIVATE, SLEEPS, int32
-from cmh_proc.door import names
 from cmh_proc.open_files import OpenFile
+from cmh_proc.process import Row
+from cmh_proc.process import pids as all_pids
 from cmh_proc.programs import below
 
 from .memory import add_kin
-from .proc import Row
 from .processes import Machine, name_open_files
 from .readers import read_all
 from .sockets import Sockets
 
-MOST_PROCESSES = 1 << 22
 NO_KEY = 0  # what has no key in System V
 
 
@@ -155,7 +154,7 @@ def processes(asked: Iterable[int]) -> List[int]:
     """Returns all other processes. Those that are asked for, and those below them, come last, and so are read first:
     what others take of the budget takes nothing away from them."""
     own, near = os.getpid(), [pid for one in asked for pid in below(one)]
-    pids = [int(name) for name in names("/proc", MOST_PROCESSES) if name.isdigit() and int(name) != own]
+    pids = [pid for pid in all_pids() if pid != own]
     there = {*pids}
     return [pid for pid in pids if pid not in {*near}] + [pid for pid in dict.fromkeys(reversed(near)) if pid in there]
 

@@ -17,6 +17,7 @@ from .budget import BUDGET, Refused, size_in_words
 PIECE = 1 << 20  # bytes that are read at once
 PAGE = 1 << 12
 MOST = 1 << 16  # bytes of a text of the kernel, where nothing else is said
+MOST_PIDS = 1 << 22  # processes or threads, as many as the kernel has
 KINDS = {stat.S_IFIFO: "a FIFO", stat.S_IFSOCK: "a socket", stat.S_IFDIR: "a folder", stat.S_IFLNK: "a link",
          stat.S_IFCHR: "a device", stat.S_IFBLK: "a device"}
 # Links of the kernel's own, which lead to a file and not to a path that somebody has chosen.
@@ -173,6 +174,11 @@ def status_within(folder: str, path: bytes) -> os.stat_result:
             os.close(handle)
     finally:
         os.close(base)
+
+
+def tids(pid: int) -> List[int]:
+    """Returns the threads of a process, in their order."""
+    return sorted(map(int, names(f"/proc/{pid}/task", MOST_PIDS)))
 
 
 def names(folder: str, most: int) -> List[str]:

@@ -7,10 +7,9 @@ import signal
 import time
 from typing import Iterable, List
 
-from .door import field, kernel_row, names
+from .door import field, kernel_row, tids
 
 REST = 1  # seconds in which a process goes on, or stands still, once its debugger has ended
-MOST_THREADS = 1 << 17
 
 
 def standstill(pid: int) -> str:
@@ -26,7 +25,7 @@ def statuses_of(pid: int) -> List[str]:
     """Returns what the kernel keeps of each thread of a process."""
     statuses: List[str] = []
     with contextlib.suppress(FileNotFoundError, ProcessLookupError):
-        for tid in names(f"/proc/{pid}/task", MOST_THREADS):
+        for tid in tids(pid):
             with contextlib.suppress(FileNotFoundError, ProcessLookupError):
                 statuses.append(kernel_row(f"/proc/{pid}/task/{tid}/status"))
     return statuses

@@ -3,15 +3,16 @@ from __future__ import annotations
 
 import contextlib
 import os
-import re
 import signal
-from typing import Dict, List, Optional
+from typing import Any, Dict, List, Optional, Tuple
 
-from .door import MOST, kernel_bytes, link, names, plain, rest
+from .budget import Refused
+from .door import MOST, MOST_PIDS, field, kernel_bytes, kernel_row, kernel_text, link, names, plain, rest, tids
 
-MOST_PIDS = 1 << 22  # as many as the kernel has
 MOST_FILES = 1 << 20  # of a process
+MOST_LINES, MOST_TEXT = 1 << 20, 1 << 25  # bytes of what the kernel says of a descriptor, and of a process or of all
 MOST_WORDS = 8 << 20  # bytes of its command line, or of its environment
+Row = Dict[str, Any]  # what is known of a process, a thread or a socket, as a state has it
 IN_MEMORY = "/memfd:{} "  # how the kernel calls a file in memory
 LONGEST_NAME = 32  # bytes of the name of a signal
 
@@ -23,7 +24,7 @@ def pids() -> List[int]:
 
 def threads_of(pid: int) -> List[int]:
     with contextlib.suppress(OSError):
-        return sorted(map(int, names(f"/proc/{pid}/task", MOST_PIDS)))
+        return tids(pid)
     return []
 
 
@@ -38,9 +39,36 @@ def text_of(path: str, most: int = MOST) -> str:
     return bytes_of(path, most).decode("utf-8", "backslashreplace")
 
 
+def row_of(path: str) -> str:
+    """Returns what one read of such a file gives, also where the time of the look is over."""
+    with contextlib.suppress(OSError):
+        return kernel_row(path)
+    return ""
+
+
+def try_text(path: str) -> str:
+    """Returns a text of the kernel. Raises Refused if it is too large."""
+    try:
+        return kernel_text(path, MOST_TEXT)
+    except Refused:
+        raise
+    except OSError:
+        return ""
+
+
+def try_lines(path: str) -> List[str]:
+    return try_text(path).rstrip("\n").split("\n")
+
+
+def lines_of(path: str, beginnings: Tuple[str, ...]) -> List[str]:
+    """Returns the lines of a file of /proc that begin so. Raises OSError where it isn't there, or is too large."""
+    text = kernel_text(path, MOST_LINES)
+    return [" ".join(line.split()) for line in text.split("\n") if line.startswith(beginnings)]
+
+
 def stat_of(folder: str) -> List[str]:
     """Returns the fields of the file `stat` of a process or thread behind its name: the state is the first."""
-    return text_of(f"{folder}/stat").rpartition(")")[2].split()
+    return row_of(f"{folder}/stat").rpartition(")")[2].split()
 
 
 def parent_of(pid: int) -> int:
@@ -50,8 +78,7 @@ def parent_of(pid: int) -> int:
 
 def status_of(folder: str, key: str) -> List[str]:
     """Returns the words behind a key of the file `status`."""
-    row = re.search(rf"^{key}:(.*)$", text_of(f"{folder}/status"), re.M)
-    return row[1].split() if row else []
+    return field(row_of(f"{folder}/status"), key).split()
 
 
 def inner_number(folder: str, number: int) -> int:
@@ -75,6 +102,14 @@ def link_of(path: str) -> str:
     with contextlib.suppress(OSError):
         return link(path)
     return ""
+
+
+def try_link(path: str) -> str:
+    """Returns what a link says. Raises PermissionError where that may not be read."""
+    try:
+        return link(path)
+    except FileNotFoundError:
+        return ""
 
 
 def files_of(pid: int) -> Dict[str, str]:

@@ -12,8 +12,8 @@ import time
 from typing import IO, Dict, Iterable, Iterator, List, Mapping, NamedTuple, NoReturn, Optional, Sequence
 
 from .budget import BUDGET, size_in_words
-from .door import PIECE, field, kernel_row, names
-from .held import MOST_THREADS, let_go, standstill
+from .door import PIECE, field, kernel_row, tids
+from .held import let_go, standstill
 
 STEP = 0.05  # seconds from one look at its memory to the next
 PATIENCE = 5.0  # seconds in which one that is asked to end, or to detach, does so
@@ -228,7 +228,7 @@ def below(pid: int) -> Iterator[int]:
 def children_of(pid: int) -> List[int]:
     """Returns the children of a process, as far as the kernel says that."""
     with contextlib.suppress(OSError):
-        rows = [kernel_row(f"/proc/{pid}/task/{tid}/children") for tid in names(f"/proc/{pid}/task", MOST_THREADS)]
+        rows = [kernel_row(f"/proc/{pid}/task/{tid}/children") for tid in tids(pid)]
         return [int(word) for row in rows for word in row.split()]
     return []
 

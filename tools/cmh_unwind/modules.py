@@ -3,12 +3,12 @@ from __future__ import annotations
 
 import bisect
 import contextlib
-import re
 import struct
 from typing import Dict, List, NamedTuple, Optional, Tuple
 
 from cmh_proc.budget import Budget
 from cmh_proc.door import kernel_text
+from cmh_proc.kernel import DELETED, mappings_in
 from cmh_proc.memory import Memory
 
 from .cursor import Unclear
@@ -19,8 +19,6 @@ from .tables import Rule, Tables
 EH_FRAME = 0x6474E550  # the kind of a segment with tables for stacks
 REGION_SIZE, FUNCTION_SIZE = 500, 100  # bytes that a piece of memory takes here, and an entry of tables for stacks
 MOST_MAPS = 1 << 25  # bytes of what the kernel says of all that is mapped
-DELETED = " (deleted)"  # behind the name of a file that is gone
-MAPPED_CODE = re.compile(r"^([0-9a-f]+)-([0-9a-f]+) ..(.). ([0-9a-f]+) (\S+ \d+) *(/.*)$", re.M)
 
 
 class Module:
@@ -80,14 +78,15 @@ class Image:
         self.regions: List[Region] = []
         bases: Dict[str, int] = {}
         text = kernel_text(f"{self.memory.folder}/maps", MOST_MAPS)
-        for first, last, code, offset, number, path in (match.groups() for match in MAPPED_CODE.finditer(text)):
+        for one in mappings_in(text):
+            if not one.path.startswith("/"):
+                continue
             budget.spend(REGION_SIZE)
-            key = f"{number} {path}"
-            begin = int(first, 16)
-            if not int(offset, 16):
-                bases[key] = begin
+            key = f"{one.device} {one.number} {one.path}"
+            if not one.offset:
+                bases[key] = one.first
             if key in bases:
-                self.regions.append(Region(begin, int(last, 16), bases[key], key, path, code == "x"))
+                self.regions.append(Region(one.first, one.last, bases[key], key, one.path, one.has_code))
         self.starts = [region.first for region in self.regions]
 
     def region_at(self, address: int) -> Optional[Region]:
