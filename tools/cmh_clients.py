@@ -18,7 +18,7 @@ import sys
 from collections import Counter
 from typing import Dict, Iterable, Iterator, List, Sequence, Tuple, Union
 
-from cmh_linux.processes import Machine
+from cmh_linux.processes import Collector
 from cmh_linux.readers import read_all
 from cmh_linux.sockets import Sockets, address, plain, tcp_of
 from cmh_proc import process
@@ -65,7 +65,7 @@ def files_of(numbers: Iterable[int]) -> Files:
     return found
 
 
-class ClientProcess:
+class Client:
     """A client's process, as it is read."""
 
     def __init__(self, row: Row, sockets: Sockets) -> None:
@@ -146,15 +146,15 @@ def clients(rows: List[Row]) -> Iterator[Row]:
     connections = {here[ends_of(row)]: row["pid"] for row in rows if ends_of(row) in here}
     ends = {row["pid"]: ends_of(row)[0] for row in rows}
     owners = {number: pids[0] for number, pids in files_of(connections).items() if len(pids) == 1}
-    read = read_all(Machine(), list({*owners.values()}))
+    read = read_all(Collector(), list({*owners.values()}))
     found = {row["pid"]: row for row in read if "threads" in row and "unreadable" not in row}
     sockets = Sockets([*found.values()])
     for pid, row in found.items():
-        yield from connections_of(ClientProcess(row, sockets), [it for it, owner in owners.items() if owner == pid],
+        yield from connections_of(Client(row, sockets), [it for it, owner in owners.items() if owner == pid],
                                   connections, ends)
 
 
-def connections_of(process: ClientProcess, numbers: List[int], connections: Dict[int, str],
+def connections_of(process: Client, numbers: List[int], connections: Dict[int, str],
                    ends: Dict[str, str]) -> Iterator[Row]:
     """Yields the connections of a process: the first with what its threads do, and each other one with the first one's
     name. Where a thread waits at this one, among others, it says so."""

@@ -50,7 +50,7 @@ ALARMS = sum(1 << number - 1 for number in (14, 26, 27, 29))  # SIGALRM, SIGVTAL
 TRIES = 50  # to read a record that is being written
 MOST_RANKS = 1 << 22  # of all communicators of a rank together
 MOST_MAPS, MOST_LINES = 16 << 20, 1 << 20  # bytes of what is mapped in a rank, and of its lines of source
-SWITCHES = ("voluntary_ctxt_switches", "nonvoluntary_ctxt_switches")
+SWITCHES = ("voluntary_ctxt_switches", "nonvoluntary_ctxt_switches")  # none of a thread that is at one wait
 RANK = re.compile(rb"OMPI_COMM_WORLD_RANK|PMIX?_RANK|MV2_COMM_WORLD_RANK|SLURM_PROCID")
 FORTRAN = re.compile(r"/lib(mpi_mpifh|mpi_usempi\w*|mpifort|fmpich)\b[^/]*$", re.M)
 NEEDS_RIGHTS = "it is of another user, or may not be traced" if os.geteuid() else "not even root may read it"
@@ -262,18 +262,14 @@ def stat_of_thread(pid: int, tid: int) -> Row:
     """Returns a thread: its number as it sees itself, its state, and the call of the kernel that it is in."""
     folder = f"/proc/{pid}/task/{tid}"
     fields, call = stat_of(folder), row_of(f"{folder}/syscall").split()
+    switches = sum(int(word) for key in SWITCHES for word in status_of(folder, key))
     row: Row = {"tid": tid, "inner": inner_number(folder, tid), "state": fields[0] if fields else "X",
-                "called": name_in(bytes_of(f"{folder}/comm").strip()), "switches": switches_of(folder)}
+                "called": name_in(bytes_of(f"{folder}/comm").strip()), "switches": switches}
     if len(fields) > 12:
         row["used"] = sum(map(int, fields[11:13])) / os.sysconf("SC_CLK_TCK")  # seconds of processor time
     if len(call) > 6 and call[0].isdigit():
         row["call"] = name_of_call(int(call[0]), [int(word, 16) for word in call[1:7]])
     return row
-
-
-def switches_of(folder: str) -> int:
-    """Returns how often a thread has given up its processor, or lost it: not at all during one wait."""
-    return sum(int(word) for key in SWITCHES for word in status_of(folder, key))
 
 
 def name_of_call(number: int, words: Sequence[int]) -> str:
@@ -371,9 +367,8 @@ def state(words: Sequence[str], seconds: float, looks: int) -> str:
     if not pids:
         raise LookupError(f"no process of {' '.join(words)} here has a rank that this user can see")
     rows: List[Row] = [{"version": 1, "host": os.uname().nodename, "space": machine()}]
-    rows += reading(pids, 1)
-    for number in range(2, looks + 1):
-        time.sleep(seconds)
+    for number in range(1, looks + 1):
+        time.sleep(seconds if number > 1 else 0)
         rows += reading(pids, number)
     rows.append({"end": "state"})
     return "".join(f"cmh-mpi {json.dumps(row)}\n" for row in rows)

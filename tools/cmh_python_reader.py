@@ -24,7 +24,7 @@ from typing import Dict, List, Sequence, Tuple, Type, Union
 from cmh_proc.budget import BUDGET
 from cmh_proc.calls import calls_of
 from cmh_proc.process import Row, link_of, stat_of, text_of, threads_of
-from cmh_proc.programs import Limits, Session, heed_signals, run
+from cmh_proc.programs import ProgramLimits, Session, heed_signals, run
 from cmh_proc.scripts import machine
 
 LOOK = 0.25  # seconds in which it is measured who computes
@@ -135,7 +135,7 @@ class Gdb:
 
     def __init__(self) -> None:
         self.program = ""
-        self.gdb = Session([*BOTH, *GDB], Limits(MOST, MEMORY, PATIENCE))
+        self.gdb = Session([*BOTH, *GDB], ProgramLimits(MOST, MEMORY, PATIENCE))
 
     def load(self, pid: int) -> None:
         """Begins to read the symbols of a process's program."""

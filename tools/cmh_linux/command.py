@@ -21,7 +21,7 @@ from cmh_proc.scripts import machine
 from .debugger import debugger, stacks_of
 from .frames import add_frames
 from .limits import add_ages
-from .reading import Reading
+from .reading import MachineReading
 
 NO_THREAD = "can't start new thread"  # as Python says it
 OUT_OF_MEMORY = "out of memory: a higher limit, of ulimit -v or of the cgroup, may be enough"
@@ -40,7 +40,7 @@ def collect(pids: Sequence[int], seconds: float = 5.0, stacks: bool = False, loo
                           "elfutils)")
     if UNTIL not in os.environ:  # (each look has all of it)
         BUDGET.give(seconds * (looks - 1) + looks * SECONDS_OF_ONE, BUDGET.size)
-    readings, begun = [Reading(pids, part_of(looks))], time.monotonic()
+    readings, begun = [MachineReading(pids, part_of(looks))], time.monotonic()
     for pid in pids:
         if pid not in readings[0].rows:
             raise LookupError(f"there is no process {pid}")
@@ -50,7 +50,7 @@ def collect(pids: Sequence[int], seconds: float = 5.0, stacks: bool = False, loo
     add_ages(near)
     for _ in range(looks - 1):
         time.sleep(max(0.0, begun + seconds - time.monotonic()))
-        readings.append(Reading(pids, part_of(looks)))
+        readings.append(MachineReading(pids, part_of(looks)))
         begun = time.monotonic()
     kept = kept_of(readings, pids)
     rows: List[Row] = [{"version": 1, "machine": platform.machine(), "release": platform.release(),
@@ -68,7 +68,7 @@ def part_of(looks: int) -> Budget:
     return BUDGET.part(max(BUDGET.size // (looks + 2), LEAST), max(SECONDS_OF_ONE, BUDGET.seconds() / looks))
 
 
-def kept_of(readings: List[Reading], pids: Iterable[int], is_near: bool = False) -> Set[int]:
+def kept_of(readings: List[MachineReading], pids: Iterable[int], is_near: bool = False) -> Set[int]:
     """Returns the processes of a state: some, with those below, and whoever may end the waits of these. The near ones
     are without those that may be strangers to them, which have nothing in common but where they descend from."""
     kept: Set[int] = set()

@@ -7,7 +7,7 @@ from typing import Dict, Iterable, Iterator, List
 from cmh_proc.process import Row, row_of
 from cmh_proc.programs import attach
 
-from .reading import Reading
+from .reading import MachineReading
 
 STACKS = [["eu-stack", "-i", "-s", "-p", "{}"], ["gdb", "-p", "{}", "-batch", "-ex", "thread apply all bt"]]
 MOST_OUTPUT, MOST_MEMORY, SECONDS = 1 << 26, 1 << 30, 30.0  # of a debugger
@@ -18,7 +18,7 @@ def debugger() -> List[str]:
     return next((words for words in STACKS if shutil.which(words[0])), [])
 
 
-def stacks_of(pids: Iterable[int], reading: Reading) -> Iterator[Row]:
+def stacks_of(pids: Iterable[int], reading: MachineReading) -> Iterator[Row]:
     """Yields the stacks of the processes that stand at a futex, each with the calls before and after. That holds a
     process for a moment."""
     words = debugger()

@@ -32,14 +32,14 @@ CARRIES_NONE = "scm_fds: 0"  # of a socket through which no file is on its way
 HEAD = ("pid", "ppid", "group", "session", "start", "state", "comm")  # what of one is known that is too large
 
 
-class Machine:
+class Collector:
     """Reads the processes of a machine, as its kernel shows them at one time."""
 
     def __init__(self, budget: Budget = BUDGET) -> None:
         self.budget = budget
         self.calls = calls_of(platform.machine())
-        self.files: Dict[Tuple[int, int], List[Descriptor]] = {}  # who has which file open
-        self.epolls: List[Descriptor] = []
+        self.files: Dict[Tuple[int, int], List[HeldFile]] = {}  # who has which file open
+        self.epolls: List[HeldFile] = []
         self.steps = 0  # how much was read, by which one that is read shows that it goes on
         self.refused: Dict[int, str] = {}  # the processes of which something isn't read, and why
         self.warnings: List[str] = []
@@ -114,15 +114,15 @@ class Machine:
                 target, mode = door.link(path), door.mode_of_link(path)
                 file = OpenFile(target, "r" * bool(mode & 0o400) + "w" * bool(mode & 0o200))
                 if target == EPOLL:
-                    self.epolls.append(Descriptor(folder, int(fd), file))
+                    self.epolls.append(HeldFile(folder, int(fd), file))
                 elif target.startswith((ANONYMOUS, SOCKET, "pidfd:[")):
                     file.add(line for line in lines_of(f"{folder}/fdinfo/{fd}", OF_KERNEL) if line != CARRIES_NONE)
                 elif target.startswith("/") and not target.startswith(("/proc/", "/sys/")):
                     budget.spend(FILE_SIZE)
-                    self.add_file(Descriptor(folder, int(fd), file), door.status(path))
+                    self.add_file(HeldFile(folder, int(fd), file), door.status(path))
                 yield fd, file
 
-    def add_file(self, descriptor: "Descriptor", status: os.stat_result) -> None:
+    def add_file(self, descriptor: "HeldFile", status: os.stat_result) -> None:
         """Notes who has a file open. A FIFO is told by its number."""
         if stat.S_ISFIFO(status.st_mode):
             descriptor.file.fifo = f"{status.st_dev:x}:{status.st_ino}"
@@ -137,7 +137,7 @@ class Machine:
                 self.add_locks_of(descriptor)
             name_open_files(them)
 
-    def add_locks_of(self, descriptor: "Descriptor") -> None:
+    def add_locks_of(self, descriptor: "HeldFile") -> None:
         """Adds the locks of an open file, if its process is still there."""
         try:
             descriptor.file.add(lines_of(f"{descriptor.folder}/fdinfo/{descriptor.fd}", ("lock:",)))
@@ -146,7 +146,7 @@ class Machine:
         except OSError:
             pass
 
-    def locked(self) -> Iterator[List["Descriptor"]]:
+    def locked(self) -> Iterator[List["HeldFile"]]:
         """Yields the descriptors of each file that is locked and that several processes have open, once these are told.
         """
         for device, number in self.try_locked_files():
@@ -168,7 +168,7 @@ class Machine:
         for _ in self.waited(rows, QUEUES, "queue"):
             pass
 
-    def waited(self, rows: List[Row], calls: Tuple[str, ...], kind: str) -> Iterator[List["Descriptor"]]:
+    def waited(self, rows: List[Row], calls: Tuple[str, ...], kind: str) -> Iterator[List["HeldFile"]]:
         """Yields the descriptors of each file at which a thread waits in one of some calls, once these are told."""
         waited = {id(row["fds"].get(str(fd))) for row in rows for thread in row.get("threads", ())
                   if thread.get("call") in calls for fd, _ in thread["set"]}
@@ -280,7 +280,7 @@ def living_thread(pid: int) -> int:
     return next((tid for tid, state in states.items() if state and state[0] not in "ZX"), pid)
 
 
-class Descriptor:
+class HeldFile:
     """A descriptor of a process, and its file."""
 
     def __init__(self, folder: str, fd: int, file: OpenFile) -> None:
@@ -292,16 +292,16 @@ def has_own_files(folder: str, tid: int) -> bool:
     return kcmp(pid_of(folder), tid, KCMP_FILES, 0, 0) > 0
 
 
-def compare_open(one: Descriptor, other: Descriptor) -> int:
+def compare_open(one: HeldFile, other: HeldFile) -> int:
     """Returns the order of two descriptors by their open files, 0 if that is the same one."""
     return {0: 0, 1: -1}.get(kcmp(one.pid, other.pid, KCMP_FILE, one.fd, other.fd), 1)
 
 
-def name_open_files(them: List[Descriptor]) -> None:
+def name_open_files(them: List[HeldFile]) -> None:
     """Gives all descriptors of one open file the same name: those that a child inherits, but not those of who opened
     the same file again."""
     there = (descriptor for descriptor in them if compare_open(descriptor, descriptor) == 0)
-    first: Optional[Descriptor] = None
+    first: Optional[HeldFile] = None
     for descriptor in sorted(there, key=functools.cmp_to_key(compare_open)):
         first = descriptor if first is None or compare_open(first, descriptor) else first
         descriptor.file.open = f"{first.pid}:{first.fd}"

@@ -9,7 +9,7 @@ from typing import Callable, List, Optional
 from cmh_proc.budget import Refused
 from cmh_proc.process import Row, row_of
 
-from .processes import Machine, why_unreadable
+from .processes import Collector, why_unreadable
 
 PATIENCE = 2.0  # seconds for one process: then it counts as one that can't be read
 LACKS = {errno.EMFILE: "too many files are open here (ulimit -n)", errno.ENOMEM: "there was no memory for that",
@@ -44,10 +44,10 @@ class Worker:
             raise self.fault
 
 
-class Reader(Worker):
+class ProcessReader(Worker):
     """Reads one process after the other."""
 
-    def __init__(self, machine: Machine, left: List[int]) -> None:
+    def __init__(self, machine: Collector, left: List[int]) -> None:
         self.machine, self.left, self.at, self.is_left = machine, left, 0, False
         self.answers: "queue.Queue[Optional[Row]]" = queue.Queue()
         super().__init__(self.read)
@@ -83,16 +83,16 @@ def unread_row(pid: int, why: str) -> Row:
     return {"pid": pid, "ppid": 0, "comm": row_of(f"/proc/{pid}/comm").strip() or "process", "unreadable": why}
 
 
-def read_all(machine: Machine, pids: List[int]) -> List[Row]:
+def read_all(machine: Collector, pids: List[int]) -> List[Row]:
     """Returns some processes. One that takes too long is left behind, and counts as one that can't be read."""
-    rows, reader = [], Reader(machine, list(pids))
+    rows, reader = [], ProcessReader(machine, list(pids))
     for _ in pids:
         try:
             row = reader.answer()
         except queue.Empty:
             reader.is_left = True
             row = unread_row(reader.at, f"it wasn't read within {PATIENCE:.0f} seconds")
-            reader = Reader(machine, list(reader.left))
+            reader = ProcessReader(machine, list(reader.left))
         if row is not None:
             rows.append(row)
     return rows

@@ -14,19 +14,19 @@ from cmh_proc.process import pids as all_pids
 from cmh_proc.programs import below
 
 from .memory import add_kin
-from .processes import Machine, name_open_files
+from .processes import Collector, name_open_files
 from .readers import read_all
 from .sockets import Sockets
 
 NO_KEY = 0  # what has no key in System V
 
 
-class Reading:
+class MachineReading:
     """All processes of the machine, as they were read one after the other."""
 
     def __init__(self, asked: Iterable[int] = (), budget: Budget = BUDGET) -> None:
         self.began, start = time.time(), time.monotonic()
-        machine = Machine(budget)
+        machine = Collector(budget)
         rows = [*read_all(machine, processes(asked)), machine.itself()]
         machine.add_locks(rows)
         machine.add_queues(rows)

@@ -33,7 +33,7 @@ class Ran(NamedTuple):
     why: str
 
 
-class Limits(NamedTuple):
+class ProgramLimits(NamedTuple):
     """What a program may print, and have in memory with those that it starts, and how long it may take. `space` is what
     it may reserve of memory, of which some need more than they use."""
 
@@ -46,7 +46,7 @@ class Limits(NamedTuple):
 class Program:
     """A program that runs in a session of its own, with what it has printed so far."""
 
-    def __init__(self, words: Sequence[str], limits: Limits, env: Optional[Mapping[str, str]],
+    def __init__(self, words: Sequence[str], limits: ProgramLimits, env: Optional[Mapping[str, str]],
                  stdin: IO[bytes]) -> None:
         self.limits, self.why = limits, ""
         self.last = time.monotonic() + min(limits.seconds, BUDGET.seconds())
@@ -137,7 +137,7 @@ class Program:
 class Session(Program):
     """A program that is told what to do step by step, and stops a process at each. Its limits are for one step."""
 
-    def __init__(self, words: Sequence[str], limits: Limits) -> None:
+    def __init__(self, words: Sequence[str], limits: ProgramLimits) -> None:
         read_end, self.write_end = os.pipe()
         super().__init__(words, limits, None, open(read_end, "rb"))
         self.has_ended = False
@@ -238,7 +238,7 @@ def run(words: Sequence[str], *, most: int, resident: int, seconds: float, space
     """Runs a program, and returns what it has printed. One that prints more than so many bytes, has more memory with
     those that it starts, or takes longer, is ended with these, and `why` says so. Raises OSError if it isn't there."""
     BUDGET.check()
-    program = Program(words, Limits(most, resident, seconds, space), env, given(stdin))
+    program = Program(words, ProgramLimits(most, resident, seconds, space), env, given(stdin))
     try:
         program.follow()
     finally:
@@ -255,7 +255,7 @@ def attach(words: Sequence[str], pids: Iterable[int], *, most: int, resident: in
     moving = [pid for pid in pids if not standstill(pid)]
     program: Optional[Program] = None
     try:
-        program = Program(words, Limits(most, resident, seconds), env, given(b""))
+        program = Program(words, ProgramLimits(most, resident, seconds), env, given(b""))
         program.follow()
     finally:
         if program is not None and not program.end(is_asked=False):

@@ -12,7 +12,7 @@ from .budget import BUDGET, Refused
 from .door import PIECE, larger_than
 
 
-class Answer:
+class HttpAnswer:
     """What a server answers to a request, which a thread waits for: so it can be left behind."""
 
     def __init__(self, host: str, port: int, path: str, most: int, seconds: float) -> None:
@@ -61,7 +61,7 @@ def fetch(host: str, port: int, path: str, most: int, seconds: float) -> bytes:
     some seconds, and OSError where it can't be asked."""
     last = time.monotonic() + min(seconds, BUDGET.seconds())
     try:
-        answer = Answer(host, port, path, most, max(0.1, last - time.monotonic()))
+        answer = HttpAnswer(host, port, path, most, max(0.1, last - time.monotonic()))
     except (ValueError, http.client.HTTPException) as error:
         raise OSError(f"{host}:{port} isn't an address: {error}") from error
     answer.thread.join(max(0.0, last - time.monotonic()))
