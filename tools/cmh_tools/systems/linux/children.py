@@ -7,7 +7,7 @@ from cmh_proc.calls import EPOLLS, int32
 
 from ...model import Part, Sign, Strength, any_of, unseen, wakers
 from ...sketch import LIMIT
-from .text import LinuxMachine, Owner, LinuxThread
+from .machine import Host, LinuxThread, Owner
 from .waits import AT_FILES, FILES, UNTIMED, Ease, LinuxWait, against, not_shown, not_understood, only_sleeps, \
     users_of, with_end
 
@@ -21,7 +21,7 @@ INTERNET = (2, 10)  # the families of addresses of IPv4 and of IPv6
 FOR_SIGNAL = "waits for a signal"  # why one rests
 
 
-def wait_for_children(machine: LinuxMachine, thread: LinuxThread) -> LinuxWait:
+def wait_for_children(machine: Host, thread: LinuxThread) -> LinuxWait:
     """Returns a wait for children."""
     own = machine.children(thread.owner.pid)
     what, children = awaited(thread, own)
@@ -41,7 +41,7 @@ def wait_for_children(machine: LinuxMachine, thread: LinuxThread) -> LinuxWait:
     return wait
 
 
-def set_any_child(machine: LinuxMachine, thread: LinuxThread, wait: LinuxWait, own: List[Owner]) -> None:
+def set_any_child(machine: Host, thread: LinuxThread, wait: LinuxWait, own: List[Owner]) -> None:
     """Sets for which of its children one waits who asks for any: a shell does so also where it waits for one of them
     alone, or for all, and then asks again."""
     if not is_shell(thread.owner) or not wait.others[1:]:
@@ -57,7 +57,7 @@ def set_any_child(machine: LinuxMachine, thread: LinuxThread, wait: LinuxWait, o
                       *all_as_guess(machine, thread, wait.others)]
 
 
-def guess_of(machine: LinuxMachine, thread: LinuxThread, children: List[Owner]) -> Part:
+def guess_of(machine: Host, thread: LinuxThread, children: List[Owner]) -> Part:
     """Returns the children of a shell of which one has to end, or all: rather those that do more than to sleep. The
     end of a sleep is a limit."""
     sleeping = [owner for owner in children if only_sleeps(owner)]
@@ -69,13 +69,13 @@ def guess_of(machine: LinuxMachine, thread: LinuxThread, children: List[Owner]) 
     return (*part, wakers("limit", machine.names_of(sleeping, thread)))
 
 
-def all_as_guess(machine: LinuxMachine, thread: LinuxThread, children: List[Owner]) -> List[Part]:
+def all_as_guess(machine: Host, thread: LinuxThread, children: List[Owner]) -> List[Part]:
     """Returns a part for the end of each child of a shell, which it may need: so the end of one alone frees nobody. Who
     says that it does may be anybody."""
     return [(*ends_of(machine, thread, [owner]), unseen("unshown")) for owner in children if not only_sleeps(owner)]
 
 
-def ends_of(machine: LinuxMachine, thread: LinuxThread, children: List[Owner]) -> Part:
+def ends_of(machine: Host, thread: LinuxThread, children: List[Owner]) -> Part:
     """Returns the wakers by whom any of some children ends: those of one thread are named."""
     unread = [machine.stand_ins.get(owner.pid, owner.name) for owner in children if owner.why]
     single = [owner for owner in children if len(owner.living) == 1]
@@ -86,14 +86,14 @@ def ends_of(machine: LinuxMachine, thread: LinuxThread, children: List[Owner]) -
     return tuple(groups)
 
 
-def starters(machine: LinuxMachine, thread: LinuxThread, own: List[Owner]) -> Part:
+def starters(machine: Host, thread: LinuxThread, own: List[Owner]) -> Part:
     """Returns who may give a process more children: its other threads, and those below, whose children it may inherit.
     One that only sleeps has none."""
     below = [owner for owner in machine.below(own) if not only_sleeps(owner)]
     return against(machine, thread, [thread.owner, *below], "starts")
 
 
-def wait_for_end(machine: LinuxMachine, thread: LinuxThread, pid: int) -> LinuxWait:
+def wait_for_end(machine: Host, thread: LinuxThread, pid: int) -> LinuxWait:
     """Returns the wait for the end of a process."""
     owner = machine.by_pid.get(pid)
     if owner is None:
@@ -103,7 +103,7 @@ def wait_for_end(machine: LinuxMachine, thread: LinuxThread, pid: int) -> LinuxW
     return LinuxWait(any_of(*ends_of(machine, thread, [owner])), f"the end of {owner.name}", [owner], is_exact=True)
 
 
-def wait_for_signals(machine: LinuxMachine, thread: LinuxThread, mask: int, sharers: Sequence[Owner] = ()) -> LinuxWait:
+def wait_for_signals(machine: Host, thread: LinuxThread, mask: int, sharers: Sequence[Owner] = ()) -> LinuxWait:
     """Returns a wait for one of some signals, of which only the end of a child comes by itself. An epoll has those of
     the process that added them, which is one that shares it, or from whom the waiter descends."""
     owners = list(dict.fromkeys([thread.owner, *sharers]))
@@ -123,7 +123,7 @@ def wait_for_signals(machine: LinuxMachine, thread: LinuxThread, mask: int, shar
     return LinuxWait(parts, "a signal", sign=Sign.RESTS, why=FOR_SIGNAL, is_exact=True, ease=Ease.CALM)
 
 
-def wait_for_any_signal(machine: LinuxMachine, thread: LinuxThread) -> LinuxWait:
+def wait_for_any_signal(machine: Host, thread: LinuxThread) -> LinuxWait:
     """Returns the wait of `pause` and the like. A shell waits so for its children."""
     children = machine.children(thread.owner.pid) if thread.owner.catches(SIGCHLD) else []
     part = ends_of(machine, thread, children) if children else ()
@@ -132,8 +132,7 @@ def wait_for_any_signal(machine: LinuxMachine, thread: LinuxThread) -> LinuxWait
         part = guess_of(machine, thread, children) if several else part
         return LinuxWait([*any_of(*part), *all_as_guess(machine, thread, several)], "a child", children, is_exact=True)
     return LinuxWait(any_of(*part, unseen("outside")), "a signal", children, sign=Sign.RESTS, why=FOR_SIGNAL,
-                     is_exact=True,
-                     ease=Ease.CALM)
+                     is_exact=True, ease=Ease.CALM)
 
 
 def doubt_of_children(thread: LinuxThread, children: List[Owner]) -> str:
@@ -190,7 +189,7 @@ def awaited(thread: LinuxThread, own: List[Owner]) -> Tuple[str, List[Owner]]:
     return "a child", [owner for owner in own if owner.pid == thread.owner.file(number).pid]
 
 
-def wait_for_fork(machine: LinuxMachine, thread: LinuxThread) -> LinuxWait:
+def wait_for_fork(machine: Host, thread: LinuxThread) -> LinuxWait:
     """Returns the wait for a child that still has the memory of its parent."""
     children = machine.children(thread.owner.pid)
     if not children:
@@ -201,7 +200,7 @@ def wait_for_fork(machine: LinuxMachine, thread: LinuxThread) -> LinuxWait:
 # Connections, and what others may use without having it open
 
 
-def wait_to_connect(machine: LinuxMachine, thread: LinuxThread) -> LinuxWait:
+def wait_to_connect(machine: Host, thread: LinuxThread) -> LinuxWait:
     path = thread.row.get("path", "")
     if thread.row.get("family") in INTERNET:
         return LinuxWait(what="connection", sign=Sign.SLEEPS, why="it tries that for some minutes at most",
@@ -219,7 +218,7 @@ def wait_to_connect(machine: LinuxMachine, thread: LinuxThread) -> LinuxWait:
     return LinuxWait(any_of(*part), what, others, [FILES, UNTIMED])
 
 
-def wait_at_ipc(machine: LinuxMachine, thread: LinuxThread) -> LinuxWait:
+def wait_at_ipc(machine: Host, thread: LinuxThread) -> LinuxWait:
     """Returns the wait at a set of semaphores or a queue of messages, for who has used it, as far as the kernel says
     that, and who may. One without a key is used below the one that made it alone."""
     kind = "set of semaphores" if thread.call.startswith("sem") else "queue of messages"
@@ -242,14 +241,14 @@ def may_have_made(top: Owner, thread: LinuxThread) -> bool:
     return changed is None or int(top.row.get("start", 0)) <= changed + CLOCK_IS_OFF
 
 
-def tops_of(machine: LinuxMachine, thread: LinuxThread) -> List[Owner]:
+def tops_of(machine: Host, thread: LinuxThread) -> List[Owner]:
     """Returns the highest processes that may have made what a thread and others use, or none if that isn't known."""
     users = [thread.owner, *filter(None, map(machine.by_pid.get, thread.row.get("users", ())))]
     tops = list(dict.fromkeys(top_of(machine, owner) for owner in users))
     return [owner for owner in tops if owner is not None] if None not in tops else []
 
 
-def top_of(machine: LinuxMachine, owner: Owner) -> Optional[Owner]:
+def top_of(machine: Host, owner: Owner) -> Optional[Owner]:
     """Returns the highest process above one whose session or program is that of the one below it, if it can be read."""
     above = machine.by_pid.get(owner.parent)
     while above is not None and any(owner.row.get(name, "") == above.row.get(name) for name in ("session", "exe")):
@@ -257,7 +256,7 @@ def top_of(machine: LinuxMachine, owner: Owner) -> Optional[Owner]:
     return None if owner.why or "session" not in owner.row else owner
 
 
-def timed_parents(machine: LinuxMachine, owner: Owner) -> List[LinuxThread]:
+def timed_parents(machine: Host, owner: Owner) -> List[LinuxThread]:
     """Returns the threads of the parent of a process that wait with a limit at a pipe of which it has an end, or in a
     call that isn't understood. After that they may end it, as the module subprocess of Python does."""
     parent = machine.by_pid.get(owner.parent)

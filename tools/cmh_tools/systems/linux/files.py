@@ -13,10 +13,9 @@ from .children import FOR_SIGNAL, wait_for_end, wait_for_signals
 from .frames import is_of_system
 from ..base import FAR, duration
 from .limits import far_limit
-from .text import MASTER, NOWHERE, TERMINAL, LinuxMachine, Owner, Row, LinuxThread
+from .machine import MASTER, NOWHERE, TERMINAL, Host, LinuxThread, Owner, Row
 from .waits import (COMES, FILES, UNTIMED, Ease, LinuxWait, against, names_of_epoll, not_shown, not_understood,
-                    users_of,
-                    with_end, with_sleeper)
+                    users_of, with_end, with_sleeper)
 
 INOTIFY = "anon_inode:inotify"
 TERMINALS = ("/dev/tty", TERMINAL, MASTER, "/dev/console")
@@ -25,7 +24,7 @@ LOOPS = re.compile(r".*/lib(event|ev|uv|glib-2)\b[^/]*")  # libraries with a loo
 POLLS = re.compile("uv__io_poll|uv_run|ev_run|event_base_loop")  # the same where it is a part of the program
 
 
-def wait_at(machine: LinuxMachine, thread: LinuxThread, fd: int, events: int) -> LinuxWait:
+def wait_at(machine: Host, thread: LinuxThread, fd: int, events: int) -> LinuxWait:
     """Returns the wait for an event at a descriptor of a thread."""
     file = thread.owner.file(fd)
     if file is NOWHERE:
@@ -35,7 +34,7 @@ def wait_at(machine: LinuxMachine, thread: LinuxThread, fd: int, events: int) ->
     return wait
 
 
-def wait_at_file(machine: LinuxMachine, thread: LinuxThread, file: OpenFile, events: int) -> LinuxWait:
+def wait_at_file(machine: Host, thread: LinuxThread, file: OpenFile, events: int) -> LinuxWait:
     """Returns the wait for an event at an open file of a thread."""
     target = file.target
     if file.is_pipe:
@@ -57,11 +56,11 @@ def wait_at_file(machine: LinuxMachine, thread: LinuxThread, file: OpenFile, eve
         return wait_at_terminal(machine, thread, target, events)
     if target == INOTIFY:
         return LinuxWait(any_of(unseen("outside")), INOTIFY, sign=Sign.RESTS, why="waits for changes of files",
-                         ease=Ease.CALM)
+                    ease=Ease.CALM)
     return not_understood(f"what ends a wait at {target} isn't known", target)
 
 
-def wait_at_pipe(machine: LinuxMachine, thread: LinuxThread, key: str, what: str, mode: str, events: int) -> LinuxWait:
+def wait_at_pipe(machine: Host, thread: LinuxThread, key: str, what: str, mode: str, events: int) -> LinuxWait:
     """Returns the wait at an end of a pipe, open in a mode: to one that is only read or only written nothing comes but
     from the other end, whatever is asked for."""
     ways = [other for way, other in ((READS, "w"), (WRITES, "r")) if events & way] or ["w", "r"]
@@ -79,7 +78,7 @@ def waits_for(owner: Owner, key: str) -> bool:
     return any(key in owner.file(fd).keys() for thread in owner.living for fd, *_ in thread.events)
 
 
-def wait_at_terminal(machine: LinuxMachine, thread: LinuxThread, target: str, events: int) -> LinuxWait:
+def wait_at_terminal(machine: Host, thread: LinuxThread, target: str, events: int) -> LinuxWait:
     """Returns the wait at a terminal, or at the end of one that a program has, as `expect` or a server for logins.
     Which of these ends is of which terminal isn't in the state."""
     others = machine.with_file(TERMINAL if target == MASTER else MASTER)
@@ -89,7 +88,7 @@ def wait_at_terminal(machine: LinuxMachine, thread: LinuxThread, target: str, ev
     return LinuxWait(any_of(*part, unseen("outside")), target, others)
 
 
-def wait_for(machine: LinuxMachine, thread: LinuxThread, others: List[Owner], what: str, premises: List[str],
+def wait_for(machine: Host, thread: LinuxThread, others: List[Owner], what: str, premises: List[str],
              how: str = "other-end") -> LinuxWait:
     """Returns the wait for those who have the other end. If none has it, who does isn't shown: it may be on its way."""
     part = with_end(machine, thread, users_of(others), how)
@@ -99,7 +98,7 @@ def wait_for(machine: LinuxMachine, thread: LinuxThread, others: List[Owner], wh
     return LinuxWait(any_of(*part), what, others, with_sleeper(premises, others), ease=ease)
 
 
-def wait_at_queue(machine: LinuxMachine, thread: LinuxThread, file: OpenFile, events: int) -> LinuxWait:
+def wait_at_queue(machine: Host, thread: LinuxThread, file: OpenFile, events: int) -> LinuxWait:
     """Returns the wait at a queue of messages, for who takes from it or puts into it. One that has a name may be opened
     by anybody."""
     others = machine.with_file(file.key("queue"), "w" if events & READS else "r")
@@ -109,7 +108,7 @@ def wait_at_queue(machine: LinuxMachine, thread: LinuxThread, file: OpenFile, ev
     return wait
 
 
-def wait_at_socket(machine: LinuxMachine, thread: LinuxThread, file: OpenFile) -> LinuxWait:
+def wait_at_socket(machine: Host, thread: LinuxThread, file: OpenFile) -> LinuxWait:
     row = machine.sockets.get(file.socket)
     if row is None:
         return not_shown(f"the other end of {file.target} isn't known", file.target)
@@ -139,8 +138,7 @@ def wait_at_socket(machine: LinuxMachine, thread: LinuxThread, file: OpenFile) -
     return wait
 
 
-def wait_for_acceptor(machine: LinuxMachine, thread: LinuxThread, row: Row, what: str,
-                      premises: List[str]) -> LinuxWait:
+def wait_for_acceptor(machine: Host, thread: LinuxThread, row: Row, what: str, premises: List[str]) -> LinuxWait:
     """Returns the wait at a connection that isn't accepted yet: for who accepts at its listener, which may be the
     waiter. Others that have the listener may start one more who does."""
     holders = {peer: machine.with_file(f"socket:[{peer}]") for peer in row["peers"]}
@@ -156,7 +154,7 @@ def wait_for_acceptor(machine: LinuxMachine, thread: LinuxThread, row: Row, what
     return LinuxWait(any_of(*part, *more), f"unaccepted {what}", able, with_sleeper(premises, everybody))
 
 
-def accepts_at(machine: LinuxMachine, owner: Owner, listener: int, row: Row) -> bool:
+def accepts_at(machine: Host, owner: Owner, listener: int, row: Row) -> bool:
     """Whether a process accepts connections at a listener like the one that a socket is an end of: it has another one
     that came to the same address, or waits for one."""
     address = row["to"] or machine.sockets.get(listener, {}).get("at", "")
@@ -166,7 +164,7 @@ def accepts_at(machine: LinuxMachine, owner: Owner, listener: int, row: Row) -> 
     return any(owner.file(fd).socket == listener for thread in owner.living for fd, *_ in thread.events)
 
 
-def self_connections(owner: Owner, machine: LinuxMachine) -> str:
+def self_connections(owner: Owner, machine: Host) -> str:
     """Returns in words with which of its own listeners a process is connected, or nothing: it may wait for itself, also
     where its runtime doesn't show who does."""
     own = [file.socket for file in owner.files.values() if file.socket]
@@ -190,7 +188,7 @@ def doubt_of_datagram(thread: LinuxThread, row: Row) -> str:
     return "to whom it sends isn't known" if thread.is_addressed else ""
 
 
-def may_time_out(machine: LinuxMachine, thread: LinuxThread, row: Row) -> bool:
+def may_time_out(machine: Host, thread: LinuxThread, row: Row) -> bool:
     """Whether a limit of a socket may end a wait at it. To one that polls only that of TCP matters, which needs a timer
     of the kernel at one of the ends."""
     if thread.call not in (*SETS, *EPOLLS):
@@ -199,7 +197,7 @@ def may_time_out(machine: LinuxMachine, thread: LinuxThread, row: Row) -> bool:
     return row["kind"] == "tcp" and any(end.get("timer") is not False for end in ends)
 
 
-def wait_at_anonymous(machine: LinuxMachine, thread: LinuxThread, file: OpenFile) -> LinuxWait:
+def wait_at_anonymous(machine: Host, thread: LinuxThread, file: OpenFile) -> LinuxWait:
     if file.event is not None:
         others = machine.with_file(file.key("event"))
         wait = wait_for(machine, thread, others, f"eventfd {file.event}", [FILES])
@@ -224,29 +222,40 @@ def wait_at_anonymous(machine: LinuxMachine, thread: LinuxThread, file: OpenFile
     return not_understood(f"what ends a wait at {what} isn't known", what)
 
 
-def wait_at_set(machine: LinuxMachine, thread: LinuxThread) -> LinuxWait:
+def wait_at_set(machine: Host, thread: LinuxThread) -> LinuxWait:
     """Returns the wait at several descriptors: what ends any of them."""
     if "set" not in thread.row:
         return not_understood("the set of its descriptors couldn't be read", "a set that can't be read")
-    rows, owners = thread.events, [thread.owner]  # (who may add to the set)
     if thread.call in EPOLLS:
-        if EPOLL not in thread.owner.file(int32(thread.arguments[0])).target or any(len(row) < 3 for row in rows):
-            return not_understood("its epoll isn't known", "epoll")
-        owners += [owner for name in names_of_epoll(thread) for owner in machine.with_file(name)]
-        stale = [fd for fd, _, number in rows if is_other_file(thread.owner, fd, number)]
-        if stale:
-            return not_understood(f"its epoll has a file that descriptor {stale[0]} no longer is", "epoll")
-        rows = [row for row in rows if not row[1] & ONESHOT or row[1] & EVENTS]  # (others were seen)
-    if thread.call in MOVES:  # (what it moves from or to a file on a disk doesn't wait)
-        rows = [row for row in rows if not is_plain(thread.owner.file(row[0]))]
+        return wait_at_epoll(machine, thread)
+    # (What it moves from or to a file on a disk doesn't wait.)
+    is_moved = thread.call in MOVES
+    return wait_for_any(machine, thread, [row for row in thread.events
+                                          if not is_moved or not is_plain(thread.owner.file(row[0]))])
+
+
+def wait_at_epoll(machine: Host, thread: LinuxThread) -> LinuxWait:
+    """Returns the wait at the descriptors of an epoll, to which others who have that may add."""
+    if EPOLL not in thread.owner.file(int32(thread.arguments[0])).target or any(len(row) < 3 for row in thread.events):
+        return not_understood("its epoll isn't known", "epoll")
+    stale = [fd for fd, _, number in thread.events if is_other_file(thread.owner, fd, number)]
+    if stale:
+        return not_understood(f"its epoll has a file that descriptor {stale[0]} no longer is", "epoll")
+    rows = [row for row in thread.events if not row[1] & ONESHOT or row[1] & EVENTS]  # (others were seen)
+    owners = [thread.owner, *(owner for name in names_of_epoll(thread) for owner in machine.with_file(name))]
+    wait = wait_for_any(machine, thread, rows)
+    wait.sign = wait.sign if rows else Sign.BLOCKED
+    more = against(machine, thread, users_of(list(dict.fromkeys(owners))), "closes")
+    wait.parts = [(*part, *more) for part in wait.parts]
+    wait.premises = list(dict.fromkeys(with_sleeper(wait.premises, owners)))
+    return wait
+
+
+def wait_for_any(machine: Host, thread: LinuxThread, rows: Sequence[Sequence[int]]) -> LinuxWait:
+    """Returns the wait for any of some events."""
     wait = joined([wait_at(machine, thread, row[0], row[1]) for row in rows])
     if wait.sign is Sign.BLOCKED and (may_come(wait) or is_in_loop(thread)):
         wait.sign, wait.why = Sign.RESTS, COMES
-    if thread.call in EPOLLS:
-        wait.sign = wait.sign if rows else Sign.BLOCKED
-        more = against(machine, thread, users_of(list(dict.fromkeys(owners))), "closes")
-        wait.parts = [(*part, *more) for part in wait.parts]
-        wait.premises = list(dict.fromkeys(with_sleeper(wait.premises, owners)))
     return wait
 
 
@@ -277,19 +286,18 @@ def is_other_file(owner: Owner, fd: int, number: int) -> bool:
 
 def joined(waits: Sequence[LinuxWait]) -> LinuxWait:
     """Returns the wait that any of some waits ends. One at rest stands at nothing but what tells of that."""
-    names = [wait.what for wait in waits[:4]]
-    what = ", ".join(names) + (f" and {len(waits) - 4} more" if waits[4:] else "") or "nothing"
+    what = ", ".join(wait.what for wait in waits[:4]) + (f" and {len(waits) - 4} more" if waits[4:] else "")
     others = list(dict.fromkeys(owner for wait in waits for owner in wait.others))
     timed = next((wait for wait in waits if wait.sign is Sign.SLEEPS), None)
     if timed is not None:
         return LinuxWait(what=what, others=others, premises=timed.premises, sign=Sign.SLEEPS, why=timed.why)
     if not waits:
-        return LinuxWait(any_of(unseen("outside")), what, sign=Sign.RESTS, why=FOR_SIGNAL, is_exact=True)
+        return LinuxWait(any_of(unseen("outside")), "nothing", sign=Sign.RESTS, why=FOR_SIGNAL, is_exact=True)
     premises = list(dict.fromkeys(name for wait in waits for name in wait.premises))
     is_calm = min(wait.ease for wait in waits) > Ease.NONE and max(wait.ease for wait in waits) is Ease.CALM
     why = COMES if is_calm else next((wait.why for wait in waits if wait.why), "")
     return LinuxWait(any_of(*part_of(waits)), what, others, premises, Sign.RESTS if is_calm else Sign.BLOCKED, why,
-                     is_exact=all(wait.is_exact for wait in waits), ease=min(wait.ease for wait in waits))
+                is_exact=all(wait.is_exact for wait in waits), ease=min(wait.ease for wait in waits))
 
 
 def part_of(waits: Sequence[LinuxWait]) -> Part:

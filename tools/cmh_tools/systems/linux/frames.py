@@ -11,7 +11,7 @@ from typing import Iterable, Iterator, List, Tuple
 
 from ...sketch import frame
 from ..base import without_sleep
-from .text import LinuxFrame, LinuxThread
+from .machine import LinuxThread, LinuxFrame
 
 OF_THE_SYSTEM = re.compile(r".*/(libc|libpthread|libstdc\+\+|libm|libgcc_s|librt|libdl|ld-linux-x86-64)[.-][^/]*")
 KEPT = 65536  # names that are kept as people read them

@@ -9,7 +9,7 @@ from cmh_proc.calls import SLEEPS
 
 from ...model import Part, wakers
 from ..base import FAR, duration
-from .text import LinuxMachine, LinuxThread
+from .machine import Host, LinuxThread
 
 LEAST = 10.0  # so far off may the clocks of processors be by which it is known when a thread ran last
 
@@ -32,7 +32,7 @@ def is_far(thread: LinuxThread) -> bool:
     return thread.has_limit and (limit_of(thread)[1] or 0.0) > FAR
 
 
-def far_limit(machine: LinuxMachine, thread: LinuxThread, seconds: float) -> Part:
+def far_limit(machine: Host, thread: LinuxThread, seconds: float) -> Part:
     """Returns what stands for a limit far away. A fact may say that nobody is to wait for it."""
     name = f"limit of {thread.name}"
     machine.unseen[name] = f"ends in {duration(seconds)}"

@@ -9,7 +9,7 @@ from cmh_proc.calls import SETLKW, int32
 from cmh_proc.open_files import OpenFile
 
 from ...model import Part, any_of, unseen
-from .text import NOWHERE, LinuxMachine, Owner, LinuxThread, some_names
+from .machine import NOWHERE, Host, LinuxThread, Owner, some_names
 from .waits import FILES, LinuxWait, against, not_understood, users_of, with_end, with_sleeper
 
 NUMBER = re.compile(r"[0-9]{1,19}")
@@ -25,7 +25,7 @@ class Holding:
     is_for_reading: bool = False
 
 
-def wait_for_lock(machine: LinuxMachine, thread: LinuxThread) -> LinuxWait:
+def wait_for_lock(machine: Host, thread: LinuxThread) -> LinuxWait:
     """Returns the wait for a lock on a file: for each open file that has one in the way."""
     fd = int32(thread.arguments[0])
     file = thread.owner.file(fd)
@@ -48,7 +48,7 @@ def wait_for_lock(machine: LinuxMachine, thread: LinuxThread) -> LinuxWait:
     return wait
 
 
-def locks_besides(machine: LinuxMachine, thread: LinuxThread) -> str:
+def locks_besides(machine: Host, thread: LinuxThread) -> str:
     """Returns in words who has locked a file that the process of a thread has open, or nothing: it may poll for that.
     """
     said = []
@@ -68,7 +68,7 @@ def add_holder(holding: Holding, owner: Owner, lock: "Lock") -> None:
     holding.is_for_reading = holding.is_for_reading or not lock.is_write
 
 
-def wait_for_holdings(machine: LinuxMachine, thread: LinuxThread, holdings: List[Holding], wanted: "Lock") -> LinuxWait:
+def wait_for_holdings(machine: Host, thread: LinuxThread, holdings: List[Holding], wanted: "Lock") -> LinuxWait:
     """Returns the wait for all who have a lock in the way. Where it isn't known whether that is one lock or several, it
     is for any of those who may have it."""
     parts = [part_of(machine, thread, holding) for holding in holdings]
@@ -83,7 +83,7 @@ def wait_for_holdings(machine: LinuxMachine, thread: LinuxThread, holdings: List
     return LinuxWait(parts, others=others, premises=premises, operation=LOCK_OF)
 
 
-def part_of(machine: LinuxMachine, thread: LinuxThread, holding: Holding) -> Part:
+def part_of(machine: Host, thread: LinuxThread, holding: Holding) -> Part:
     """Returns who may let go of a lock: who took it, and in another way who shares its open file."""
     users = users_of(holding.owners)
     takers = [holding.taker] if holding.taker is not None else users

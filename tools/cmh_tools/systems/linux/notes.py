@@ -9,7 +9,7 @@ from ..base import one_line
 from .frames import call_of, has_names, own_frames, word_of
 from .limits import age_of
 from .locks import LOCK_OF
-from .text import LinuxThread, some_names
+from .machine import LinuxThread, some_names
 from .waits import LinuxWait
 
 WIDTH = 100  # as much of a command line stands in a note

@@ -14,7 +14,7 @@ from cmh_proc.calls import FUTEX_LOCKS, FUTEX_WAITS, OPERATION, OWNER, PRIVATE, 
 from ...model import Sign, any_of, unseen, wakers
 from .children import SIGCHLD
 from .frames import KEPT, is_known, library_names, takes_next
-from .text import CONDITION, ENDED, LinuxMachine, Owner, Row, LinuxThread
+from .machine import CONDITION, ENDED, Host, LinuxThread, Owner, Row
 from .waits import FILES, LinuxWait, against
 
 STACK = "stack"
@@ -33,7 +33,7 @@ HELD = 2  # what glibc's mutex has in its word while it is held and somebody wai
 JOINS = ("_ZNSt6thread4joinEv", "std::thread::join")
 
 
-def add_stacks(machine: LinuxMachine, rows: Iterable[Row]) -> None:
+def add_stacks(machine: Host, rows: Iterable[Row]) -> None:
     """Gives the threads of a reading their stacks, where these still stood at the same call afterwards."""
     for row in rows:
         stacks = stacks_of(str(row.get("text", "")))
@@ -43,7 +43,7 @@ def add_stacks(machine: LinuxMachine, rows: Iterable[Row]) -> None:
                 thread.stack = stacks.get(thread.tid, [])
 
 
-def lend_calls(machine: LinuxMachine) -> None:
+def lend_calls(machine: Host) -> None:
     """Has a thread for whose stack there was no time be in the call of glibc that all others are in who wait at its
     word: a word is that of one lock."""
     for threads in (threads for owner in machine.owners for threads in owner.at_futex.values()):
@@ -110,7 +110,7 @@ def operation_within(thread: LinuxThread) -> str:
     return ""
 
 
-def wait_at_futex(machine: LinuxMachine, thread: LinuxThread) -> LinuxWait:
+def wait_at_futex(machine: Host, thread: LinuxThread) -> LinuxWait:
     """Returns whom a thread at a futex waits for, and else who may wake it at most."""
     wait = owner_of_futex(machine, thread)
     if wait.sign is Sign.UNKNOWN and thread.is_late and not thread.stack and not wait.operation:
@@ -123,7 +123,7 @@ def wait_at_futex(machine: LinuxMachine, thread: LinuxThread) -> LinuxWait:
     return wait
 
 
-def set_wakers(machine: LinuxMachine, thread: LinuxThread, wait: LinuxWait) -> None:
+def set_wakers(machine: Host, thread: LinuxThread, wait: LinuxWait) -> None:
     """Sets who may wake a thread at a futex: the threads that have its memory, and whoever traces these."""
     name, kin = thread.row.get("memory"), thread.owner.row.get("kin", ())
     owners = [thread.owner, *(machine.by_pid[pid] for pid in kin if pid in machine.by_pid)]
@@ -144,26 +144,25 @@ def set_wakers(machine: LinuxMachine, thread: LinuxThread, wait: LinuxWait) -> N
     wait.is_exact, wait.premises = not name, [FILES] if name else []
 
 
-def handling(machine: LinuxMachine, owners: Iterable[Owner]) -> List[Owner]:
+def handling(machine: Host, owners: Iterable[Owner]) -> List[Owner]:
     """Returns the children of those processes that have a handler for the end of these."""
     return [child for owner in owners if owner.catches(SIGCHLD) for child in machine.children(owner.pid)]
 
 
-def owner_of_futex(machine: LinuxMachine, thread: LinuxThread) -> LinuxWait:
+def owner_of_futex(machine: Host, thread: LinuxThread) -> LinuxWait:
     """Returns whom a thread at a futex waits for, if its stack says of what the futex is, or if the kernel keeps that.
     """
     word = f"{thread.arguments[0]:#x}"
     kind, operation = int32(thread.arguments[1]) & OPERATION, operation_of(thread)
     if kind in FUTEX_LOCKS:
-        return owned(LinuxWait(what=word, operation=operation), with_number(machine, thread, thread.word(0) & OWNER),
-                     "owns")
+        owners = with_number(machine, thread, thread.word(0) & OWNER)
+        return owned(LinuxWait(what=word, operation=operation), owners, "owns")
     if not operation or kind not in FUTEX_WAITS:
         more = hint(thread) or ("" if machine.has_stacks or is_known(thread) else "; `--stacks` may show more")
         return LinuxWait(what=word, sign=Sign.UNKNOWN, why=f"the kernel doesn't know who ends it{more}")
     if operation == BARRIER:
-        return LinuxWait(what=word, sign=Sign.UNKNOWN,
-                         why="the state doesn't show who has still to come to its barrier",
-                         operation=operation)
+        why = "the state doesn't show who has still to come to its barrier"
+        return LinuxWait(what=word, sign=Sign.UNKNOWN, why=why, operation=operation)
     if operation == "pthread_join":
         joined = thread.owner.numbered.get(thread.word(0), [])
         return owned(LinuxWait(what=f"thread {thread.word(0)}", operation=operation, premises=[STACK]), joined, "ends")
@@ -171,8 +170,8 @@ def owner_of_futex(machine: LinuxMachine, thread: LinuxThread) -> LinuxWait:
     if operation in MUTEX:
         owner = thread.word(8)
         owner = owner if thread.word(0) == HELD or thread.word(0) & OWNER == owner else 0
-    return owned(LinuxWait(what=word, operation=operation, premises=[STACK]), with_number(machine, thread, owner),
-                 "owns")
+    owners = with_number(machine, thread, owner)
+    return owned(LinuxWait(what=word, operation=operation, premises=[STACK]), owners, "owns")
 
 
 def meeting_of(thread: LinuxThread) -> str:
@@ -181,7 +180,7 @@ def meeting_of(thread: LinuxThread) -> str:
     return f"{thread.owner.pid} {thread.arguments[0]:#x}" if is_private else "shared"
 
 
-def with_number(machine: LinuxMachine, thread: LinuxThread, tid: int) -> List[LinuxThread]:
+def with_number(machine: Host, thread: LinuxThread, tid: int) -> List[LinuxThread]:
     """Returns the threads that a number in a lock may stand for: of the same process, or of any if it is shared, each
     as it sees itself in its container."""
     is_private = thread.arguments[1] & PRIVATE or not tid

@@ -15,7 +15,8 @@ from cmh_proc.open_files import OpenFile
 
 from ...sketch import UNREADABLE, Process, garbled, unknown
 from .children import tops_of
-from .text import ODD_THREADS, LinuxMachine, Owner, LinuxThread
+from .machine import Host, LinuxThread, Owner
+from .text import ODD_THREADS
 
 BELOW = "below "  # what stands for whatever is used below a process
 
@@ -23,7 +24,7 @@ BELOW = "below "  # what stands for whatever is used below a process
 class Branches:
     """The processes of one reading by who descends from whom."""
 
-    def __init__(self, machine: LinuxMachine) -> None:
+    def __init__(self, machine: Host) -> None:
         self.machine = machine
         self.roots: Dict[str, Optional[int]] = {}  # below which process each file was made
         self.answers: Dict[Tuple[int, int], bool] = {}
@@ -88,7 +89,7 @@ class Branches:
         return True
 
 
-def keys_of_wait(machine: LinuxMachine, thread: LinuxThread) -> Iterator[str]:
+def keys_of_wait(machine: Host, thread: LinuxThread) -> Iterator[str]:
     """Yields what tells the files or the memory at which a thread waits, and their other ends, from others."""
     if thread.call in IPC:
         yield from (f"{BELOW}{top.pid}" for top in tops_of(machine, thread))
@@ -105,7 +106,7 @@ def keys_of_wait(machine: LinuxMachine, thread: LinuxThread) -> Iterator[str]:
         yield from (f"socket:[{number}]" for number in numbers)
 
 
-def keys_with_peers(machine: LinuxMachine, file: OpenFile) -> Iterator[str]:
+def keys_with_peers(machine: Host, file: OpenFile) -> Iterator[str]:
     """Yields what tells an open file, and if it is a socket its peers."""
     yield from file.keys()
     yield from (f"socket:[{peer}]" for peer in machine.sockets.get(file.socket, {}).get("peers", ()))

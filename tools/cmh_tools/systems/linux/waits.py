@@ -9,7 +9,7 @@ from typing import Iterable, List
 from cmh_proc.calls import ACCEPTS, CHILDREN, EPOLLS, MOVES, READ, SETS, SLEEPS, SUSPENDS, WRITE, int32
 
 from ...model import Part, Sign, any_of, unseen, wakers
-from .text import LinuxMachine, Owner, LinuxThread
+from .machine import Host, LinuxThread, Owner
 
 FILES, SLEEPER, UNTIMED = "files", "sleeper", "untimed"  # assumptions
 AT_FILES = (*READ, *WRITE, *ACCEPTS, *SETS, *EPOLLS, *MOVES)  # calls that wait at files
@@ -88,8 +88,7 @@ def with_sleeper(premises: List[str], owners: List[Owner]) -> List[str]:
     return [*premises, SLEEPER] if len(users_of(owners)) < len(owners) else [*premises]
 
 
-def with_end(machine: LinuxMachine, thread: LinuxThread, owners: Iterable[Owner], how: str,
-             may_be_alone: bool = False) -> Part:
+def with_end(machine: Host, thread: LinuxThread, owners: Iterable[Owner], how: str, may_be_alone: bool = False) -> Part:
     """Returns the wakers that some processes are who have what is needed: the one thread there is, in the way `how`, or
     each thread of them, which can reach it. A waiter that is alone in its process is one of several only where it
     `may_be_alone` the one who is needed."""
@@ -98,7 +97,7 @@ def with_end(machine: LinuxMachine, thread: LinuxThread, owners: Iterable[Owner]
     return (wakers(how if len(names) == 1 else "reaches", names),) if names else ()
 
 
-def against(machine: LinuxMachine, thread: LinuxThread, owners: Iterable[Owner], how: str) -> Part:
+def against(machine: Host, thread: LinuxThread, owners: Iterable[Owner], how: str) -> Part:
     """Returns the threads of some processes, but for the waiter where it is alone in its own, as those who may end a
     wait in another way."""
     others = [owner for owner in dict.fromkeys(owners)
