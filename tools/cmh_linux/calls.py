@@ -11,8 +11,8 @@ from typing import Counter, Dict, List, Optional
 
 from cmh_proc.calls import (AT_FIRST, EPOLLS, EVENTS, IPC, ONESHOT, OPENS, PAIRS, QUEUES, READS, SETS, WRITE, WRITES,
                             int32)
-from cmh_proc.door import field, kernel_row, kernel_text
-from cmh_proc.kernel import KCMP_EPOLL, LIBC, kcmp, pid_of, sysvipc_row
+from cmh_proc.door import LIBC, field, kernel_row, kernel_text
+from cmh_proc.kernel import KCMP_EPOLL, kcmp, pid_of, sysvipc_row
 from cmh_proc.memory import Memory
 from cmh_proc.process import MOST_TEXT, Row, try_lines
 

@@ -8,11 +8,10 @@ from typing import Dict, Iterator, List, Tuple
 
 from cmh_proc.budget import BUDGET
 from cmh_proc.door import kernel_text, link, status, status_within
-from cmh_proc.netlink import TcpSocket, UnixSocket, tcp_sockets, unix_sockets
+from cmh_proc.netlink import CONNECTED, LISTENS, TcpSocket, UnixSocket, tcp_sockets, unix_sockets
 from cmh_proc.process import Row
 
 MAPPED = bytes(10) + b"\xff\xff"  # how an address of IPv4 begins among those of IPv6
-LISTENS, CONNECTED = 10, 1
 KINDS = {1: "u_str", 2: "u_dgr", 5: "u_seq"}  # of Unix sockets
 STATES = {CONNECTED: "ESTAB", 7: "UNCONN", LISTENS: "LISTEN"}
 NAMELESS = "*"

@@ -1,18 +1,17 @@
 """What processes share and have in memory, as the kernel says it, and what is of System V."""
 from __future__ import annotations
 
-import ctypes
 import os
 import platform
 import re
 from typing import Any, Iterator, List, NamedTuple, Optional
 
 from .budget import Budget
+from .door import LIBC
 from .process import try_link, try_text
 
 KCMP_FILE, KCMP_VM, KCMP_FILES, KCMP_EPOLL = 0, 1, 2, 7
 DELETED = " (deleted)"  # behind the name of a file that is gone
-LIBC = ctypes.CDLL(None, use_errno=True)
 MAPPING = re.compile(r"^([0-9a-f]+)-([0-9a-f]+) (....) ([0-9a-f]+) ([0-9a-f]+:[0-9a-f]+) (\d+) *(.*)$", re.M)
 
 

@@ -10,6 +10,7 @@ import threading
 from typing import Dict, Iterable, Iterator, List, NamedTuple, Optional, Tuple
 
 from .budget import BUDGET, Refused
+from .door import LIBC
 
 SOCK_DIAG, BY_FAMILY, DUMP = 4, 20, 0x301  # the protocol, the kind of a request, and that all are asked for
 FAULT, DONE = 2, 3  # kinds of messages
@@ -17,11 +18,11 @@ NAME, FILE, PEER, QUEUES = 0, 1, 2, 4  # what a row of a Unix socket may have be
 SHOW = 1 << NAME | 1 << FILE | 1 << PEER | 1 << QUEUES
 ALL_STATES = 0xFFFFFFFF
 TCP = 6
+LISTENS, CONNECTED = 10, 1  # states of a socket
 NEW_NETWORK = 0x40000000  # CLONE_NEWNET
 MINOR = 20  # bits of a device's number, as the kernel has it
 LARGEST = 1 << 16  # bytes of a message
 PATIENCE = 10.0  # seconds for the next one
-LIBC = ctypes.CDLL(None, use_errno=True)
 
 
 class UnixSocket(NamedTuple):

@@ -4,10 +4,8 @@ from __future__ import annotations
 import contextlib
 from typing import List
 
-from .netlink import tcp_sockets
+from .netlink import LISTENS, tcp_sockets
 from .process import files_of, pids
-
-LISTENS = 10  # the state of a socket
 
 
 def listeners_at(port: int) -> List[int]:

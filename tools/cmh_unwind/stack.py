@@ -7,12 +7,12 @@ import struct
 from typing import Iterator, List, Optional, Tuple
 
 from cmh_proc.door import field, kernel_row
+from cmh_proc.libraries import OF_THE_SYSTEM
 
 from .cursor import Unclear
 from .modules import Image, Module
 from .tables import FRAME_POINTER, RETURN, STACK_POINTER, Registers, Rule
 
-OF_THE_SYSTEM = re.compile(r".*/(libc|libpthread|libstdc\+\+|libm|libgcc_s|librt|libdl|ld-linux-x86-64)[.-][^/]*")
 DEPTH, GUESSES = 200, 64  # calls on a stack, and places at which a frame is looked for, at most
 PIECE, FAR = 4096, 1 << 16  # bytes of a stack that are read at once, and searched at most
 CALL, CALL_BY_TABLE = b"\xe8", b"\xff\x15"  # how calls begin

@@ -9,11 +9,12 @@ import re
 from functools import lru_cache
 from typing import Iterable, Iterator, List, Tuple
 
+from cmh_proc.libraries import OF_THE_SYSTEM
+
 from ...sketch import frame
 from ..base import without_sleep
 from .machine import LinuxThread, LinuxFrame
 
-OF_THE_SYSTEM = re.compile(r".*/(libc|libpthread|libstdc\+\+|libm|libgcc_s|librt|libdl|ld-linux-x86-64)[.-][^/]*")
 KEPT = 65536  # names that are kept as people read them
 OF_CPLUSPLUS = "/libstdc++."
 OF_LIBRARY = re.compile(r"(_|std::|<?(std|core|alloc|boost)::|\?\?|0x|pthread_|__gnu|clone3?$|start_thread$|futex_|lll_"
