@@ -19,6 +19,7 @@ from cmh_proc.memory import Memory
 from cmh_proc.open_files import ANONYMOUS, EPOLL, EVENTFD, OF_KERNEL, SOCKET, OpenFile
 from cmh_proc.process import (MOST_FILES, MOST_TEXT, Row, lines_of, row_of, status_of, try_lines, try_link,
                               user_of)
+from cmh_unwind.elf import is_go
 
 from .calls import besides, set_of
 from .limits import limit_of
@@ -322,6 +323,4 @@ def runtime_of(folder: str, row: Row) -> Row:
             return {"runtime": "mpi"}
     if len(row["threads"]) == 1 or not any(thread.get("call") == "futex" for thread in row["threads"]):
         return {}
-    with contextlib.suppress(OSError):
-        return {"runtime": "go"} if b"\0Go\0\0" in door.head(f"{folder}/exe", 8192) else {}
-    return {}
+    return {"runtime": "go"} if is_go(f"{folder}/exe") else {}
