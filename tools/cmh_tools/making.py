@@ -4,7 +4,7 @@ from __future__ import annotations
 from typing import Dict, List, Sequence, Set, Tuple
 
 from .application import apply
-from .assumptions import ASSUMPTIONS
+from .assumptions import assumptions_of
 from .command import Read, read_any
 from .facts import Facts
 from .files import Refusal, read_text, shown
@@ -14,7 +14,7 @@ from .nearness import owners_of
 from .sketch import Process, Sketch, has_how
 from .sketch_json import read_sketch
 from .snapshots import both
-from .systems import NAMES, State, parser_of
+from .systems import State, all_described, parser_of
 
 
 def sketch_for(system: str, paths: Sequence[str], facts: Facts, read: Read = read_text) -> Sketch:
@@ -89,6 +89,6 @@ def record(system: str, states: List[State]) -> Sketch:
 
 
 def known_premises() -> List[Tuple[str, str, str]]:
-    """Returns the assumptions that a sketch may have: of each a system that uses it, its name, and its sentence."""
-    return [(system, name, row.sentence) for name, row in ASSUMPTIONS.items()
-            for system in (NAMES if row.systems == "all" else row.systems.split())]
+    """Returns the assumptions that a sketch may have: of each a system that may use it, its name, and its sentence."""
+    return [(system.name, name, row.sentence) for system in all_described()
+            for name, row in assumptions_of(system).items()]

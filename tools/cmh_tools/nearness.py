@@ -12,6 +12,7 @@ from typing import TYPE_CHECKING, Dict, Iterable, List, Sequence, Set, Tuple
 
 from .model import Part, Strength
 from .sketch import ALL, ANY, has_how
+from .systems import all_described
 
 if TYPE_CHECKING:
     from .stuck import Waits
@@ -21,8 +22,8 @@ NEAR = ("inside", "guess")  # those of able ones that are nearer to what is wait
 HAVE = (OWNS, "inside")  # those who have what is waited for, or are likely to have it
 REACH = ("reaches", PROCESS)  # those who merely reach what is waited at
 MAY_HAVE = (*REACH, *NEAR, "listed", "subscribes")  # those of whom the state doesn't show who has it
-FOR_END = ("Thread.join", "System.exit")  # of a JVM, whose states without a heap don't show for whose end one waits
-JOINS = ("Thread.join", "pthread_join", "asyncio.wait", "await of a package", "ThreadPoolExecutor.awaitTermination")
+FOR_END = {word for system in all_described() for word in system.bare_joins}
+JOINS = {word for system in all_described() for word in system.joins}
 
 
 def owners_of(parts: Sequence[Part]) -> List[str]:

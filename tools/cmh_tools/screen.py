@@ -36,7 +36,7 @@ ANY_OTHER = f"any {OTHERS}"
 FOR_WHICH, SOME_BEHIND = ": the state doesn't show which.", "ome may only wait behind."
 LINES, WORDS = 10, 60  # before what to do, and to the end of a group
 # Operations of those that wait for the end or the answer of others, and have nothing themselves that others want.
-FOR_OTHERS = re.compile(r"join|WaitGroup|CountDownLatch|HttpClient|http|sync$|invokeAll|awaitTermination", re.I)
+FOR_OTHERS = re.compile("|".join(filter(None, (system.for_others for system in all_described()))), re.I)
 UNNAMED = re.compile(r"\S+\+0x[0-9a-f]+")  # a frame of a program without symbols
 ADDRESS = re.compile(r"\(?0x[0-9a-f]+\)?")
 LENGTH = re.compile(r"(?:it )?(sleeps for [^,]+)")

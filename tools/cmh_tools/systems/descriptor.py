@@ -20,6 +20,15 @@ class Option:
 
 
 @dataclass(frozen=True)
+class Assumption:
+    """What a wait rests on: `sentence` says it to the reader of an answer, and `broken_by` to the reader of this what
+    would break it."""
+
+    sentence: str
+    broken_by: str
+
+
+@dataclass(frozen=True)
 class Units:
     """What is restarted of a system, for a process: its site, if nothing else is said here. `whole` is what all of it
     is called if nothing less can be restarted, with what it `has`. Each process by itself if it `is_alone`, as a site
@@ -47,7 +56,9 @@ class Descriptor:
 
     `noun` is what one of its processes is, if it isn't called a thread as it is one and `is_threaded`, and `sites` what
     it is instead by the beginning of its site. `units` are what is restarted. `operations` are the system's own words
-    of those at which they wait: all others are of the user's program."""
+    of those at which they wait: all others are of the user's program. `joins` are those that wait for the end of
+    others, and `bare_joins` those that don't say of whom; `for_others` matches those at which one waits for what others
+    of the program do. `assumptions` are those of its waits alone, and it `shares` others."""
 
     name: str = ""
     called: str = ""
@@ -69,6 +80,11 @@ class Descriptor:
     sites: Dict[str, str] = field(default_factory=dict)
     units: Units = Units()
     operations: str = ""
+    joins: Tuple[str, ...] = ()
+    bare_joins: Tuple[str, ...] = ()
+    for_others: str = ""
+    assumptions: Dict[str, Assumption] = field(default_factory=dict)
+    shares: str = ""
 
     def is_named(self) -> bool:
         """Whether it needs a target."""

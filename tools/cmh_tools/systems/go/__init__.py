@@ -1,7 +1,7 @@
 """Go."""
 from __future__ import annotations
 
-from ..descriptor import Descriptor, Option
+from ..descriptor import Assumption, Descriptor, Option
 
 SYSTEM = Descriptor(
     name="go",
@@ -22,4 +22,9 @@ A PID in its place is read as the kernel sees it, or ended by
     sites={"the Go program": "goroutine"},
     operations="""sync.Mutex.Lock sync.RWMutex.Lock sync.RWMutex.RLock sync.WaitGroup.Wait sync.Cond.Wait select sleep
         net/http.Get""",
+    for_others="WaitGroup|http",
+    assumptions={
+        "empty-select": Assumption(
+            "main waits in an empty select by intent, as that of a service does", "a main that was to go on"),
+    },
 )

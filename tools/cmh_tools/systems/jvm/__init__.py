@@ -1,7 +1,7 @@
 """The JVM."""
 from __future__ import annotations
 
-from ..descriptor import Descriptor, Option
+from ..descriptor import Assumption, Descriptor, Option
 
 SYSTEM = Descriptor(
     name="jvm",
@@ -30,4 +30,31 @@ as the user of the JVM.""",
         ArrayBlockingQueue.put ArrayBlockingQueue.take LinkedBlockingQueue.put LinkedBlockingQueue.take
         ThreadPoolExecutor.awaitTermination TimeUnit.sleep ServerSocket.accept SelectorImpl.select
         HttpURLConnection.getInputStream System.exit""",
+    joins=("Thread.join", "ThreadPoolExecutor.awaitTermination"),
+    bare_joins=("Thread.join", "System.exit"),  # (without a heap)
+    for_others="join|CountDownLatch|http|sync$|invokeAll|awaitTermination",
+    shares="inner",
+    assumptions={
+        "native": Assumption(
+            "a native method of the JDK that is known to compute returns",
+            "one that has used no processor time between the states"),
+        "initialiser": Assumption(
+            "a class that is waited for is the one of its name whose initialiser runs",
+            "another class loader that initialises a class of that name"),
+        "queued": Assumption(
+            "one that waits to read with a lock that nobody owns is behind one that waits to write",
+            "a writer that came later"),
+        "processor-time": Assumption(
+            "a thread that was woken has used 0.01 ms of processor time or more",
+            "a system that counts more coarsely"),
+        "pools": Assumption(
+            "a task that stands in the queue of a pool is begun by a thread of that pool",
+            "code of the program's own that takes tasks out of the queue"),
+        "completes": Assumption(
+            "a CompletableFuture is completed by the thread that computes its value",
+            "code of the program's own that completes it besides"),
+        "reaches": Assumption(
+            "a thread that has no reference in the heap to what another one waits at, nor to that thread, doesn't end "
+            "its wait", "native code, or code that looks for threads by name or group"),
+    },
 )

@@ -1,7 +1,7 @@
 """MariaDB and MySQL."""
 from __future__ import annotations
 
-from ..descriptor import Descriptor
+from ..descriptor import Assumption, Descriptor
 
 SYSTEM = Descriptor(
     name="mariadb",
@@ -22,4 +22,10 @@ A path in place of the host is that of a socket.""",
     short="MariaDB",
     serves=True,
     sites={"connection ": "connection"},
+    shares="session-limits",
+    assumptions={
+        "named-tables": Assumption(
+            "a statement waits for the metadata lock of a table whose name stands in it",
+            "a view, a trigger or a foreign key that takes another table's"),
+    },
 )

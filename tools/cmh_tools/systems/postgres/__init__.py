@@ -1,7 +1,7 @@
 """PostgreSQL."""
 from __future__ import annotations
 
-from ..descriptor import Descriptor
+from ..descriptor import Assumption, Descriptor
 
 SYSTEM = Descriptor(
     name="postgres",
@@ -22,4 +22,9 @@ before it.""",
     needs={"psql": "postgresql-client"},
     serves=True,
     sites={"backend ": "backend", "prepared transaction ": "prepared transaction"},
+    shares="session-limits",
+    assumptions={
+        "disk": Assumption("the disk answers, and who waits for it then continues",
+                           "a file system of a server that is gone"),
+    },
 )
