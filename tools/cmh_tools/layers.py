@@ -190,7 +190,7 @@ class Layers:
     def fill_columns(self) -> List[List[Tuple[int, int]]]:
         """Returns what each layer has: clusters, as (0, unit), and places of arrows that go through, as (1 + arrow, 0).
         """
-        columns: List[List[Tuple[int, int]]] = [[] for _ in range(max(self.layer.values()) + 1)]
+        columns: List[List[Tuple[int, int]]] = [[] for _ in range(max(self.layer.values(), default=-1) + 1)]
         for unit, layer in self.layer.items():
             columns[layer].append((0, unit))
         for number, link in self.links.items():
@@ -225,10 +225,10 @@ class Layers:
     def place_columns(self) -> None:
         """Gives each cluster its frame, and each arrow that goes through a layer its gates."""
         heights = [sum(self.tall(key) + ROW for key in column) - ROW for column in self.columns]
-        left = MARGIN
+        left, tallest = MARGIN, max(heights, default=0.0)
         for layer, column in enumerate(self.columns):
             wide = max(self.clusters[unit].width if not number else 0 for number, unit in column)
-            top = MARGIN + (max(heights) - heights[layer]) / 2
+            top = MARGIN + (tallest - heights[layer]) / 2
             self.rights[layer] = left + wide
             for number, unit in column:
                 if number:
@@ -237,7 +237,7 @@ class Layers:
                     self.frames[unit] = Spot(left, top, self.clusters[unit].width, self.clusters[unit].height)
                 top += self.tall((number, unit)) + ROW
             left += wide + COLUMN + self.words_beside(layer)
-        self.width, self.height = left - COLUMN + MARGIN, max(heights) + 2 * MARGIN
+        self.width, self.height = left - COLUMN + MARGIN, tallest + 2 * MARGIN
 
     def words_beside(self, layer: int) -> float:
         """Returns how wide the words are of arrows that come into a layer from whoever waits at its right."""
