@@ -8,14 +8,15 @@ from __future__ import annotations
 import re
 from typing import Any, Dict, List, NamedTuple
 
+from cmh_proc.calls import ACCEPTS, EPOLLS, SLEEPS
+
 Row = Dict[str, Any]
 
 # What services are called that only look on.
 LOOKS_ON = re.compile(r"(?i).*(?:heart.?beat|(?<![a-z])beat|metric|monitor|statistic|(?<![a-z])stats|watch|health|alive"
                       r"|gauge|probe|pulse|dashboard|telemetry|uptime).*")
-SLEEPS = ("nanosleep", "clock_nanosleep")
 # Where one of several threads has nothing to do without a limit: for whoever comes, or in the loop of a runtime.
-AT_REST = ("accept", "accept4", "pause", "epoll_wait", "epoll_pwait", "epoll_pwait2")
+AT_REST = (*ACCEPTS, *EPOLLS, "pause")
 ITSELF = "itself"  # at what only its own process ends, as a mutex
 COMPUTES, SLEEPING, AT, ELSEWHERE, OPEN = "computes", "sleeps", "at a connection", "elsewhere", "open"
 
