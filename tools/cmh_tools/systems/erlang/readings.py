@@ -4,7 +4,7 @@ from __future__ import annotations
 
 import re
 from hashlib import blake2b
-from typing import Dict, Iterator, List, Set, Tuple
+from typing import Callable, Dict, Iterator, List, Set, Tuple
 
 from ...files import Refusal, shown
 from ...snapshots import PARTS, Reading
@@ -138,25 +138,11 @@ class NodeReading(Reading):
         matches = list(filter(None, map(ROWS[word].fullmatch, rows))) if rows else []
         if word in ROWS and not len(matches) == len(rows) == self.numbers[word]:
             self.odd = self.odd or f"the rows of its line '={word} ..' aren't understood"
-        elif word == "receives":
-            self.receives.update({row.group(1, 2, 3): Receives(row[4].split(","), row[5] or "",
-                                                               (row[6] or "").split(",")) for row in matches})
-        elif word == "numbers":
-            self.nodes.update({row[1]: row[2] for row in matches})
-        elif word == "locks":
-            self.locks += [(row[1], row[2]) for row in matches]
-        elif word == "asks":
-            self.asks.update({row.group(1, 2, 3): row[4].split(",") for row in matches})
-        elif word == "mnesia":
-            self.mnesia += matches
-        elif word == "handles":
-            self.handlers += [row[0] for row in matches]
-        elif word == "sockets":
-            self.sockets += matches
-        elif word == "repeated":
-            self.repeated += [row[0] for row in matches]
-        elif word == "machine":
-            self.machine = next((row[0] for row in matches), "")
+        elif word in KEEPERS:
+            KEEPERS[word](self, matches)
+
+    def know_machine(self, rows: List[re.Match[str]]) -> None:
+        self.machine = next((row[0] for row in rows), "")
 
     def take_time(self, text: str, path: str) -> None:
         """Takes a line '=taken BEGAN ENDED NODE'."""
@@ -189,3 +175,18 @@ class NodeReading(Reading):
         lacks += [f"calls by timers are to come, {timers} in all, and may answer or end anybody"] if timers else []
         lacks += [f"{cut[0]} has more than is read, and may have the reference of a caller"] if cut else []
         self.missing = ", and ".join(lacks)
+
+
+# What is kept of the rows behind a line, by the word of that.
+KEEPERS: Dict[str, Callable[[NodeReading, List[re.Match[str]]], None]] = {
+    "receives": lambda node, rows: node.receives.update(
+        {row.group(1, 2, 3): Receives(row[4].split(","), row[5] or "", (row[6] or "").split(",")) for row in rows}),
+    "numbers": lambda node, rows: node.nodes.update({row[1]: row[2] for row in rows}),
+    "locks": lambda node, rows: node.locks.extend((row[1], row[2]) for row in rows),
+    "asks": lambda node, rows: node.asks.update({row.group(1, 2, 3): row[4].split(",") for row in rows}),
+    "mnesia": lambda node, rows: node.mnesia.extend(rows),
+    "handles": lambda node, rows: node.handlers.extend(row[0] for row in rows),
+    "sockets": lambda node, rows: node.sockets.extend(rows),
+    "repeated": lambda node, rows: node.repeated.extend(row[0] for row in rows),
+    "machine": lambda node, rows: node.know_machine(rows),
+}

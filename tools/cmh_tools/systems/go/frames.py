@@ -279,14 +279,11 @@ class GoPlace:
     def __init__(self, frames: Frames, state: str, creator: GoFrame) -> None:
         numbers = [number for number, step in enumerate(frames) if step.function not in OUTERMOST]
         steps = [frames[number] for number in numbers]
-        start = next((index for index, step in enumerate(steps) if is_own(step)), None)
-        self.idle = idle_label(steps[:start], state, start is not None)
-        self.is_at_connection = start is not None and any(label_of(step.function) == CONNECTION
-                                                          for step in steps[:start])
-        if start is None:
-            start = next((index for index, step in enumerate(steps) if is_jobs(step)), None)
-        if start is None:
-            start = next((index for index, step in enumerate(steps) if package_of(step.function) != "runtime"), 0)
+        first = next((index for index, step in enumerate(steps) if is_own(step)), None)
+        self.idle = idle_label(steps[:first], state, first is not None)
+        self.is_at_connection = first is not None and any(label_of(step.function) == CONNECTION
+                                                          for step in steps[:first])
+        start = first_outside(steps) if first is None else first
         own = [step for step in steps[start:] if is_jobs(step)]
         self.function = own[0].function if own else ""
         if not own and creator.function and is_jobs(creator):
@@ -314,6 +311,13 @@ class GoPlace:
         own = [number for number, step in enumerate(frames) if step.function not in OUTERMOST and is_jobs(step)]
         is_writer = self.operation == WRITER and all(MUTEX not in step.function for step in frames)
         return methods_in(frames, own[1:] if self.operation in TAKES_LOCK and not is_writer else own)
+
+
+def first_outside(steps: List[GoFrame]) -> int:
+    """Returns the topmost frame of the job in a broader sense, or else outside of the runtime, where none is its own.
+    """
+    jobs = (index for index, step in enumerate(steps) if is_jobs(step))
+    return next(jobs, next((index for index, step in enumerate(steps) if package_of(step.function) != "runtime"), 0))
 
 
 @lru_cache(maxsize=KEPT)

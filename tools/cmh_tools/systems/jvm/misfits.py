@@ -61,22 +61,32 @@ def add_faults(dump: JvmDump) -> None:
 
 def misfit(thread: JvmThread, dump: JvmDump) -> str:
     """Returns what of the text of a thread doesn't fit the rest, so that lines may be missing, or nothing."""
-    top = thread.frames[0] if thread.frames else None
+    odd = misfit_of_heading(thread) or misfit_of_top(thread) or (
+        f"no list of what it owns ('{OWNERS} ..') follows this line, or an empty one"
+        if thread.state and dump.has_owners and not thread.lists_owned and not thread.is_virtual else "")
+    is_parking = thread.state in ("WAITING", "TIMED_WAITING") and thread.detail == "parking"
+    odd = odd or (misfit_of_park(stack_of(thread), thread.parked_class) if is_parking else "")
+    return f"{thread.place}: {odd}" if odd else ""
+
+
+def misfit_of_heading(thread: JvmThread) -> str:
+    """Returns what of its heading and its state doesn't fit what follows, or nothing."""
     if thread.number and not thread.state and not thread.is_virtual:
-        return f"{thread.place}: no state follows this line"
+        return "no state follows this line"
     if thread.number and not thread.is_virtual and thread.has_top != bool(thread.frames):
-        return f"{thread.place}: this line doesn't fit whether frames follow it"
-    if thread.state not in STATES:
-        return f"{thread.place}: no thread has the state {quote(thread.state)}"
+        return "this line doesn't fit whether frames follow it"
+    return f"no thread has the state {quote(thread.state)}" if thread.state not in STATES else ""
+
+
+def misfit_of_top(thread: JvmThread) -> str:
+    """Returns what of its state doesn't fit its first frame, or nothing."""
+    top = thread.frames[0] if thread.frames else None
     wanted = TOPS.get(thread.detail) if thread.state in ("WAITING", "TIMED_WAITING") else None
     if wanted and (top is None or not wanted.fullmatch(top.method)):
-        return f"{thread.place}: its state is '{thread.state} ({thread.detail})', and its first frame is another"
+        return f"its state is '{thread.state} ({thread.detail})', and its first frame is another"
     if top is not None and thread.state != "BLOCKED" and any(kind == "waiting to lock" for kind, _ in top.marks):
-        return f"{thread.place}: it waits to lock a monitor, and its state is {thread.state or 'missing'}"
-    if thread.state and dump.has_owners and not thread.lists_owned and not thread.is_virtual:
-        return f"{thread.place}: no list of what it owns ('{OWNERS} ..') follows this line, or an empty one"
-    odd = misfit_of_park(stack_of(thread), thread.parked_class) if wanted is TOPS["parking"] else ""
-    return f"{thread.place}: {odd}" if odd else ""
+        return f"it waits to lock a monitor, and its state is {thread.state or 'missing'}"
+    return ""
 
 
 @lru_cache(maxsize=4096)
@@ -84,7 +94,11 @@ def misfit_of_park(stack: Stack, parked_class: str) -> str:
     """Returns what of the frames of a thread doesn't fit the class of what it is parked at, or nothing. Many threads
     have the same ones."""
     methods = [method for method, _, _ in stack]
-    is_in_queue = any(map(QUEUES.fullmatch, methods[:NEAR]))
+    return misfit_of_callers(methods) or misfit_of_private(methods) or misfit_of_class(methods, parked_class)
+
+
+def misfit_of_callers(methods: List[str]) -> str:
+    """Returns which of the methods of a thread that is parked doesn't call such a thing, or nothing."""
     caller = methods[1] if methods[1:] else ""
     is_odd = SUPPORT.match(caller) and not PARK.match(caller)  # (as of another package, which has no such class)
     if is_odd or caller == RUN or QUEUES.fullmatch(caller) or caller and not (
@@ -97,12 +111,22 @@ def misfit_of_park(stack: Stack, parked_class: str) -> str:
     if QUEUES.fullmatch(parking) and not PARKS.fullmatch(parking):
         return f"it is parked, and {parking} calls no such thing"
     waiting = next((method for method in methods if not is_like(MACHINERY, method)), "")
-    if waiting.startswith(OF_QUEUES) and not WAITS.fullmatch(waiting):
-        return f"it is parked, and {waiting} calls no such thing"
+    is_other = waiting.startswith(OF_QUEUES) and not WAITS.fullmatch(waiting)
+    return f"it is parked, and {waiting} calls no such thing" if is_other else ""
+
+
+def misfit_of_private(methods: List[str]) -> str:
+    """Returns which method is called by another class than its own, which alone calls it, or nothing."""
     for method, caller in zip(methods, [*methods[1:], "nobody"]):
         own = PRIVATE.fullmatch(method)
         if own and not (caller.startswith(f"{own[1]}.") and CALLS_PRIVATE.fullmatch(caller)):
             return f"its own class alone calls {method}, and not {caller}"
+    return ""
+
+
+def misfit_of_class(methods: List[str], parked_class: str) -> str:
+    """Returns why no thread with such methods is parked at this class, or nothing."""
+    is_in_queue = any(map(QUEUES.fullmatch, methods[:NEAR]))
     awaits, is_condition = any(map(AWAITS.fullmatch, methods)), parked_class.endswith(f"Synchronizer${CONDITION}")
     if is_condition and not awaits:
         return "it is parked at a condition, and no frame awaits one"

@@ -47,22 +47,31 @@ class RankOfRecords:
         self.fault = str(self.row.get("fault", "")) or fault_of(self.row)
         self.by_id = {comm["id"]: comm for comm in self.comms if comm["id"] != "0"}
         there = [row for row in self.row.get("threads", []) if row["state"] not in DEAD]
-        callers = [row for row in there if "calls" in row or "fault" in row]
+        main = self.know_threads(there, [row for row in there if "calls" in row or "fault" in row])
+        more = self.others if self.is_threaded else []
+        self.threads = [RankThread(self, row, f"/{row['tid']}" if number else "")
+                        for number, row in enumerate([*main, *more])]
+        self.in_finalize = any(thread.row.get("name") == "Finalize" for thread in self.threads if thread.kind == OTHER)
+        self.halves = self.halves_by_partner()
+
+    def know_threads(self, there: List[Row], callers: List[Row]) -> List[Row]:
+        """Returns the thread that calls MPI, at most one. Then it is known which the others are, and whether these may
+        call it too."""
         first = [row for row in there if row["tid"] == self.pid]
         main = (callers if len(callers) == 1 else first or callers or there)[:1]
         self.others = [row for row in there if row not in main]
         self.is_threaded = self.level >= SERIALIZED or len(callers) > 1 or any(
             is_parked(row) or joined_by(row, there) for row in main)
-        more = self.others if self.is_threaded else []
-        self.threads = [RankThread(self, row, f"/{row['tid']}" if number else "")
-                        for number, row in enumerate([*main, *more])]
-        self.in_finalize = any(thread.row.get("name") == "Finalize" for thread in self.threads if thread.kind == OTHER)
-        self.halves: Dict[Any, List[Row]] = {}
-        # (Its sends and receives that aren't complete, by the partner: those it is in, and those it has begun.)
+        return main
+
+    def halves_by_partner(self) -> Dict[Any, List[Row]]:
+        """Returns its sends and receives that aren't complete: those it is in, and those it has begun."""
+        halves: Dict[Any, List[Row]] = {}
         begun = [dict(zip(("kind", "comm", "partner", "tag"), half)) for half in self.row.get("begun", [])]
         for half in (*(thread.row for thread in self.threads if thread.kind in (RECEIVE, SEND)), *begun):
             if 0 <= half["comm"] < len(self.comms):
-                self.halves.setdefault(half["partner"], []).append(half)
+                halves.setdefault(half["partner"], []).append(half)
+        return halves
 
     @functools.cached_property
     def helpers(self) -> List[RankThread]:

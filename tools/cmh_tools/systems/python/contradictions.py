@@ -65,25 +65,39 @@ def fault_in(kind: str, was: PythonRow, row: PythonRow, before: Set[int], after:
         is_other &= any(was.more.get(word) != row.more.get(word) for word in (*COUNTS.values(), "frames"))
         return "" if is_other else f"its looks differ in {NUMBERS[kind]}, and it is no newer one"
     key = next((key for key in KEPT[kind] if was.more.get(key) != row.more.get(key)), None)
-    counts = was.more.get(COUNTS[kind]), row.more.get(COUNTS[kind])
     if key is not None:
         return f"its looks differ in {key}"
-    if kind == "task" and was.frames and row.frames and was.frames[-1].at != row.frames[-1].at:
-        return "its looks differ in the function that it began in"
-    if isinstance(counts[0], int) and isinstance(counts[1], int) and counts[1] < counts[0]:
+    return fault_of_task(was, row) if kind == "task" else fault_of_thread(was, row)
+
+
+def fault_of_count(kind: str, was: PythonRow, row: PythonRow) -> str:
+    """Returns what is wrong with the counts of two rows of one thread or task, or nothing."""
+    first, second = was.more.get(COUNTS[kind]), row.more.get(COUNTS[kind])
+    if isinstance(first, int) and isinstance(second, int) and second < first:
         return f"its count of {COUNTS[kind]} is lower than before"
-    if bool(was.frames) != bool(row.frames) and counts[0] is not None and counts[0] == counts[1]:
-        return "one of its looks lacks its frames"
-    if kind == "thread" and says_two(call_of(was), call_of(row)) and lines_of(was) == lines_of(row):
-        return "it is at one call, of which its looks say different things"
-    is_still = kind == "thread" and counts[0] is not None and counts[0] == counts[1] and all(
-        one.more.get("asleep") is True for one in (was, row))
-    if is_still and place_of(was) != place_of(row):
-        return "it is at two places, and hasn't woken between its looks"
+    lacks = bool(was.frames) != bool(row.frames) and first is not None and first == second
+    return "one of its looks lacks its frames" if lacks else ""
+
+
+def fault_of_task(was: PythonRow, row: PythonRow) -> str:
+    if was.frames and row.frames and was.frames[-1].at != row.frames[-1].at:
+        return "its looks differ in the function that it began in"
     waits: List[Any] = [one.more.get("waits") for one in (was, row)]
-    is_undone = kind == "task" and all(isinstance(one, dict) for one in waits) and waits[0].get("id") == waits[1].get(
-        "id") and waits[0].get("done") is True and waits[1].get("done") is False
-    return "what it waits for was done before, and isn't now" if is_undone else ""
+    is_undone = all(isinstance(one, dict) for one in waits) and waits[0].get("id") == waits[1].get("id") and \
+        waits[0].get("done") is True and waits[1].get("done") is False
+    return fault_of_count("task", was, row) or ("what it waits for was done before, and isn't now" if is_undone else "")
+
+
+def fault_of_thread(was: PythonRow, row: PythonRow) -> str:
+    fault = fault_of_count("thread", was, row)
+    if fault:
+        return fault
+    if says_two(call_of(was), call_of(row)) and lines_of(was) == lines_of(row):
+        return "it is at one call, of which its looks say different things"
+    first, second = was.more.get(COUNTS["thread"]), row.more.get(COUNTS["thread"])
+    is_still = first is not None and first == second and all(one.more.get("asleep") is True for one in (was, row))
+    is_elsewhere = is_still and place_of(was) != place_of(row)
+    return "it is at two places, and hasn't woken between its looks" if is_elsewhere else ""
 
 
 def place_of(row: PythonRow) -> List[Any]:
