@@ -11,46 +11,40 @@ import signal
 import textwrap
 import time
 from dataclasses import replace
-from typing import Any, Callable, Dict, Iterator, List, NamedTuple, Optional, Sequence, Tuple
+from typing import Any, Dict, Iterator, List, NamedTuple, Optional, Sequence, Tuple
 
 from cmh_proc.budget import BUDGET, size_in_words
 
 from .captures import captures_for, labels_of, take
-from .command import CommandParser, dump_of_notes, is_notes, known_doubts, notes_path, put_away, run
+from .command import CommandParser, is_notes, notes_path, put_away, run
 from .dump import Dump
-from .dump_command import NO_GUESSES, texts_of
+from .dump_command import NO_GUESSES
 from .explain import Explanation
 from .explain_command import add_answer_options, answer_on_files, write_answer
-from .facts import Facts, read_facts
-from .files import MOST_TOGETHER, Failure, Refusal, decode, say, shown, write_out
+from .files import Failure, Refusal, say, shown, write_out
 from .folder import Folder, NewFolder
+from .further import OPEN, more_ways, next_step, sight_of
 from .loading import load_noted
-from .making import sketch_for
 from .memory import bound_memory
-from .model import STATUSES, Headline
-from .proposals import Proposal, propose
+from .recorded import (RECORD, facts_of, facts_path, keep_dump, look_of, new_dump, numbers_in, part_row, parts_of,
+                       say_in, sketch_of_part, sketch_of_parts, write_facts)
 from .redact import redacted_texts
 from .running import proposals as what_runs
-from .saying import numbers_of, say_true
+from .saying import numbers_of
 from .screen import More, screen
-from .sketch import Sketch, quote, read_json
+from .sketch import read_json
 from .sketch_json import sketch_of
 from .start import SIGNALS
 from .systems import KERNEL, NAMES, described, taker_of
 from .systems.descriptor import Option
-from .systems.taking import Capture, Part, Sight, command_words
+from .systems.taking import Capture
 from .terminal import style_of_output
 from .timeout_command import add_options, seconds_of
 from .watch import KEPT, Check, watch
 
-RECORD = "stall.json"  # what a folder has, by which it is explained again
 SECONDS, LONGER = 5.0, 60.0  # from the first look to the last, and where only who sleeps leaves the answer open
 MOST, MOST_HELD = 120.0, 600.0  # besides, until all is read, and where something is held meanwhile
 LOOKS = 2  # as often it is looked anew, if that may decide what is open
-OPEN = (Headline.NOT_KNOWN, Headline.IDLE)
-MOST_NAMES = 200  # names that stand in a file of facts, for people to choose from
-MOST_PARTS = 64  # systems, or groups of processes, that are joined
-MOST_LOOKS = 64  # states of one
 SYSTEMS = [described(name) for name in sorted(NAMES)]
 OPTIONS = [(system, option) for system in SYSTEMS for option in system.options]
 WAYS = "\n".join(f"       cmh-stall {system.name} {option.usage}" for system, option in OPTIONS if option.usage)
@@ -65,9 +59,9 @@ NAMED = ", ".join(f"{system.name} {system.target}" for system in SYSTEMS)
 ABOUT = textwrap.fill(f"""Takes the state of a system that hangs twice, and says who is stuck. All that it saw is kept
 in a new folder. SYSTEM TARGET is one of: {NAMED}. Some show more by an option of their own, and stop more meanwhile.
 With a FOLDER that it made, it says the answer again, with the facts that you have written there; with a FILE, that
-on a dump, a sketch, or states. Alone, it says what
-runs here, and the command for each. With --service it looks at a service of systemd, as a timer may do. With --timeout
-it runs a command, looks at all its processes if that takes longer, and then ends them.""", 120)
+on a dump, a sketch, or states. Alone, it says what runs here, and the command for each. With --service it looks at a
+service of systemd, as a timer may do. With --timeout it runs a command, looks at all its processes if that takes
+longer, and then ends them.""", 120)
 MORE = """status: 0 no process is stuck, 3 some process is stuck, 5 LIKELY DEADLOCK, IDLE OR STALLED or NOT KNOWN,
 1 the state is refused, 2 the command line is, 4 out of memory, an I/O error, or the state couldn't be taken;
 of --timeout as for timeout(1): 124 it took longer, 125 a fault of cmh-stall, 126 and 127 it can't be run, or else its
@@ -128,13 +122,18 @@ def main(words: Sequence[str]) -> int:
             made.error("--most-seconds is no more than the time between the looks")
         path = asked.output or f"stall-{parts[0].system}-{time.strftime('%Y%m%d-%H%M%S')}"
         return stall(parts, asked, path, asked.output is not None)[0]
+    return answer_on_words(made, asked)
+
+
+def answer_on_words(parser: CommandParser, asked: argparse.Namespace) -> int:
+    """Answers on a folder that was made before, or on files."""
     is_folder = os.path.lexists(f"{asked.words[0]}/{RECORD}")
     if not is_folder and is_file(asked.words[0]) and not (asked.others or asked.output or asked.redact or asked.true):
         return answer_on_files(asked)
     if asked.others or asked.output or asked.words[1:] or not is_folder:
         names = ", ".join(sorted(NAMES))
-        made.error(f"{asked.words[0]} is neither one of {names}, nor a folder that cmh-stall has made, nor a file")
-    check_folder_words(made, asked)
+        parser.error(f"{asked.words[0]} is neither one of {names}, nor a folder that cmh-stall has made, nor a file")
+    check_folder_words(parser, asked)
     if asked.most_memory:
         BUDGET.give(BUDGET.seconds(), asked.most_memory << 20)
         bound_memory()
@@ -203,12 +202,6 @@ def look_at_service(parser: CommandParser, asked: argparse.Namespace) -> int:
         return stall(captures_for([[KERNEL, pid]], ()), asked, path, False, check)
 
     return watch(asked.service, (asked.output or f"stalls-{asked.service}").rstrip("/"), asked.keep, look)
-
-
-def part_row(part: Capture, seconds: float) -> Dict[str, object]:
-    """Returns what the folder keeps of a system, beside its states."""
-    return {"system": part.system, "targets": part.targets, "states": part.names(seconds),
-            **({"beside": part.beside} if part.beside else {})}
 
 
 def stall(parts: List[Capture], asked: argparse.Namespace, path: str, is_exact: bool,
@@ -340,16 +333,6 @@ def say_unkept(folder: Folder) -> None:
 # From what is kept
 
 
-def new_dump(folder: Folder) -> Dump:
-    """Returns the dump of the states in a new folder, which has no facts yet."""
-    parts = parts_of(folder)
-    if len(parts) == 1:
-        return Dump(sketch_of_part(folder, parts[0], Facts()))
-    dumps = {folder.at(f"{part['label']}.json"): Dump(sketch_of_part(folder, part, Facts())) for part in parts}
-    texts = dict(row for path, dump in dumps.items() for row in texts_of(dump, path, []))
-    return Dump(sketch_for("join", list(map(notes_path, dumps)), Facts(), texts.__getitem__))
-
-
 def explain(folder: Folder, asked: argparse.Namespace, made: Optional[Dump] = None) -> int:
     """Makes the dump of the states in a folder, unless it is there already, and says the answer."""
     parts = parts_of(folder)
@@ -378,130 +361,6 @@ def explain(folder: Folder, asked: argparse.Namespace, made: Optional[Dump] = No
     return explanation.status()
 
 
-def facts_path(folder: Folder, label: str = "") -> str:
-    """Returns where the facts of a folder are: those of its answer, or of one of several systems alone."""
-    return folder.at(f"facts-{label}" if label else "facts")
-
-
-def sketch_of_part(folder: Folder, part: Part, facts: Facts) -> Sketch:
-    return sketch_for(part["system"], list(map(folder.at, part["states"])), facts, folder.read_text)
-
-
-def sketch_of_parts(folder: Folder, parts: List[Part], facts: Facts) -> Sketch:
-    """Returns the sketch of all systems of a folder together. The dumps of each are there if they are several."""
-    if len(parts) == 1:
-        return sketch_of_part(folder, parts[0], facts)
-    dumps = [folder.at(f"{part['label']}.json") for part in parts]
-    return sketch_for("join", list(map(notes_path, dumps)), facts, folder.read_text)
-
-
-def numbers_in(folder: Folder) -> List[str]:
-    """Returns the keys of the doubts that the answer of a folder has numbered, in the order of these. Notes that can't
-    be read are written anew, and have numbered none."""
-    path = notes_path(folder.at("dump.json"))
-    with contextlib.suppress(Refusal, Failure):
-        return known_doubts(read_json(folder.read_text(path), path), path)
-    return []
-
-
-def say_in(folder: Folder, numbers: List[int]) -> None:
-    """Says in the facts of a folder that some doubts of its answer are none."""
-    path = folder.at("dump.json")
-    parts, notes = parts_of(folder), notes_path(path)
-    if not folder.has(path):
-        raise Failure(f"--true: {shown(folder.path)} has no answer yet", 2)
-    dump, _ = dump_of_notes(folder.read_text(path), path, notes, folder.read_text)
-    say_true(folder, facts_path(folder), numbers, dump,
-             lambda facts: Dump(sketch_of_parts(folder, parts, facts), dump.known))
-
-
-def facts_of(folder: Folder, path: str) -> Facts:
-    """Returns the facts that people have written into a folder."""
-    return read_facts(decode(folder.read_bytes(path), path), path) if folder.has(path) else Facts()
-
-
-def keep_dump(folder: Folder, dump: Dump, path: str) -> List[Proposal]:
-    """Writes a dump and its notes into a folder, as cmh-dump does. Returns the facts that are asked for."""
-    asked = propose(dump.waits)
-    folder.keep(texts_of(dump, path, asked))
-    for line in dump.sketch.warnings:
-        say(f"warning: {line}")
-    return asked
-
-
-def look_of(parts: List[Part]) -> str:
-    """Returns the command that takes some systems anew, or nothing where it isn't known whom of them."""
-    words = " --with ".join(command_words([part["system"], *part["targets"]]) for part in parts)
-    return f"cmh-stall {words}" if any(part["targets"] for part in parts) else ""
-
-
-def sight_of(explanation: Explanation, systems: List[str], text_of: Callable[[Part], str] = lambda part: "") -> Sight:
-    """Returns what the systems have to know of an answer to say what would show more."""
-    status = explanation.status()
-    return Sight(status, status not in (0, STATUSES[Headline.DEADLOCK]), systems, explanation.original.waits.processes,
-                 explanation.waits.processes, explanation.dump.sketch.connections, text_of)
-
-
-def more_ways(parts: List[Part], explanation: Explanation, folder: Folder) -> Iterator[str]:
-    """Yields the commands that would take more of a system than was taken, where that may change the answer."""
-    def text_of(part: Part) -> str:
-        return "".join(folder.read_text(folder.at(name)) for name in part["states"])
-
-    sight = sight_of(explanation, [part["system"] for part in parts], text_of)
-    for part in parts:
-        if part["beside"] and sight.status:
-            system, words, more = part["system"], command_words(part["targets"]), command_words(part["beside"])
-            yield f"What wasn't read: {more}, which {words} has started. All of them: cmh-stall {system} {words} {more}"
-        yield from taker_of(part["system"]).more(part, sight)
-
-
-def next_step(folder: Folder, parts: List[Part], explanation: Explanation) -> Iterator[str]:
-    """Yields what to do where something is undecided, and nobody is stuck."""
-    if explanation.headline not in OPEN:
-        return
-    paths = [facts_path(folder)] if len(parts) == 1 else [facts_path(folder, part["label"]) for part in parts]
-    where = " and ".join(shown(path) for path in paths if folder.has(path))
-    if where and explanation.proposals():
-        yield f"What is undecided: complete the facts in {where}, and then: cmh-stall {shown(folder.path)}"
-    elif explanation.headline is Headline.NOT_KNOWN:
-        yield "What is undecided: the state asks for no fact that would decide it."
-
-
-def parts_of(folder: Folder) -> List[Part]:
-    """Returns what the record of a folder says of each system that was taken."""
-    path = folder.at(RECORD)
-    tree = read_json(folder.read_text(path), path)
-    try:
-        parts: List[Part] = [
-            {"system": str(row["system"]), "states": list(map(str, row["states"])),
-             **{key: list(map(str, row.get(key, []))) for key in ("targets", "beside")}} for row in tree["parts"]]
-    except (TypeError, KeyError, AttributeError) as error:
-        raise Refusal(f"{shown(path)}: cmh-stall has written something else there") from error
-    if not parts or tree.get("version") != 1:
-        raise Refusal(f"{shown(path)}: it isn't of a version that is known")
-    if parts[MOST_PARTS:]:
-        raise Refusal(f"{shown(path)}: it has {len(parts):,} parts, and at most {MOST_PARTS} are joined")
-    for part, label in zip(parts, labels_of([part["system"] for part in parts])):
-        check_part(folder, part)
-        part["label"] = label
-    if sum(folder.size(folder.at(name)) for part in parts for name in part["states"]) > MOST_TOGETHER:
-        raise Refusal(f"{shown(path)}: its states have more than {MOST_TOGETHER:,} bytes together")
-    return parts
-
-
-def check_part(folder: Folder, part: Part) -> None:
-    """Raises Refusal if a record names no system, or what is no file in its folder."""
-    path = shown(folder.at(RECORD))
-    if part["system"] not in NAMES:
-        raise Refusal(f"{path}: {quote(part['system'])} is none of {', '.join(sorted(NAMES))}")
-    if not part["states"]:
-        raise Refusal(f"{path}: it names no state of {part['system']}")
-    if part["states"][MOST_LOOKS:]:
-        raise Refusal(f"{path}: it names {len(part['states']):,} states of {part['system']}, and no look has so many")
-    for name in part["states"]:
-        folder.name_of(folder.at(name))
-
-
 def answer(folder: Folder, asked: Optional[argparse.Namespace] = None, look: str = "") -> Explanation:
     """Keeps the first screen of the answer to the dump of a folder there, and prints that, or what is asked of it, with
     colours on a terminal. `look` takes it anew. A copy, of which nothing is asked, has no name of its folder."""
@@ -518,18 +377,6 @@ def answer(folder: Folder, asked: Optional[argparse.Namespace] = None, look: str
     else:
         write_answer(asked, dump, noted, more=more)
     return explanation
-
-
-def write_facts(folder: Folder, path: str, sketch: Sketch, asked: Sequence[Proposal]) -> None:
-    """Writes a file of facts for people to complete, if there is none: each proposal as a comment, and the names."""
-    lines = [f"# {proposal.text()}" for proposal in asked]
-    if folder.has(path) or not lines:
-        return
-    names = [shown(process.name) for process in sketch.processes]
-    more = [f"# and {len(names) - MOST_NAMES:,} more"] if names[MOST_NAMES:] else []
-    text = ["# Complete a line, and take away the # before it. FACTS.md says how facts are written.", *lines,
-            "# The names:", *(f"#   {name}" for name in names[:MOST_NAMES]), *more]
-    folder.keep([(path, "".join(f"{line}\n" for line in text))])
 
 
 def redact_folder(folder: Folder) -> int:
