@@ -8,7 +8,7 @@ from typing import Dict, Iterable, List, Optional, Set, Tuple
 
 from ...sketch import frame
 from ..base import is_loop
-from .text import TAKER, GoFrame, Frames, Goroutine
+from .text import TAKER, Frames, GoFrame, Goroutine
 
 STANDARD = frozenset(
     "archive arena bufio bytes cmp compress container context crypto database debug embed encoding errors expvar flag "

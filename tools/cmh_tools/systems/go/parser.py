@@ -14,9 +14,8 @@ pattern finds isn't whole while more of it may be started: by a goroutine that i
 from __future__ import annotations
 
 import re
-from functools import lru_cache
 from itertools import chain
-from typing import Any, Dict, List, Optional, Set, Tuple
+from typing import Any, Dict, List, Set, Tuple
 
 from ...files import Refusal
 from ...model import COMES, Part, Sign, Wakers, all_of, any_of, unseen, wakers
@@ -24,12 +23,13 @@ from ...sketch import GOING, LIMIT, SYSTEM, Process, Sketch, blocked, garbled, g
 from ...snapshots import APART, CUT, GONE, ONCE, Reading
 from .. import State
 from ..base import FAR, Parser, Reachable, Snapshot, duration, without_sleep
-from .frames import (CONNECTION, KEPT, NEEDS_ALL, WATCHER, WRITER, Caller, GoPlace, Receiver, accepts_for_library,
-                     callers_in, cut_short, entry_of, functions_of, is_at_connection, is_of_runtime, jobs_of,
-                     lacks_wait, misplaced, objects_of, own_calls, place_of, receivers_at, serves_request,
-                     takes_state, types_of, watches_client)
+from .frames import (CONNECTION, NEEDS_ALL, WATCHER, WRITER, Caller, GoPlace, Receiver, accepts_for_library, callers_in,
+                     cut_short, entry_of, functions_of, is_at_connection, is_of_runtime, lacks_wait, misplaced,
+                     objects_of, own_calls, place_of, receivers_at, serves_request, takes_state, types_of,
+                     watches_client)
+from .stacks import check_same, stack_of, whole_stack
 from .starters import MAIN, UNSEEN, Starters, unseen_starter
-from .text import ADDRESSES, AGAIN, LOOKED, TAKER, WHERE, GoDump, GoFrame, Goroutine, notes_in, read_dumps
+from .text import ADDRESSES, AGAIN, LOOKED, TAKER, WHERE, GoDump, Goroutine, notes_in, read_dumps
 
 SITE = "the Go program"
 # States in which a goroutine goes on by itself, or the runtime sees to it.
@@ -144,6 +144,14 @@ class GoParser(Parser):
                 raise Refusal(f"{earlier.path}: SIGQUIT ends the program, so no state of it comes after this one")
         for later in self.dumps[1:]:
             check_same(self.dumps[0], later)
+        self.name_all()
+        times = [reading.time for reading in readings if reading.time is not None]
+        span = times[-1][1] - times[0][0] if len(times) == len(self.dumps) > 1 else float("inf")
+        self.lasting = {goroutine.number for goroutine in self.dumps[-1].goroutines if goroutine.minutes * 60 > span}
+        self.parents = {goroutine.parent for dump in self.dumps for goroutine in dump.goroutines if goroutine.parent}
+
+    def name_all(self) -> None:
+        """Names the goroutines by what they began in, and sees which have left their place."""
         before: Dict[str, Goroutine] = {}
         for look, dump in enumerate(self.dumps):
             for goroutine in dump.goroutines:
@@ -154,10 +162,6 @@ class GoParser(Parser):
                     self.again[id(goroutine)] = ANOTHER
                 before[goroutine.number] = goroutine
                 self.looks[id(goroutine)] = look
-        times = [reading.time for reading in readings if reading.time is not None]
-        span = times[-1][1] - times[0][0] if len(times) == len(self.dumps) > 1 else float("inf")
-        self.lasting = {goroutine.number for goroutine in self.dumps[-1].goroutines if goroutine.minutes * 60 > span}
-        self.parents = {goroutine.parent for dump in self.dumps for goroutine in dump.goroutines if goroutine.parent}
 
     def prepare(self, snapshot: Goroutines) -> None:
         """Finds where all stand, who has in a frame what another one waits at, and whether all goroutines were stopped
@@ -376,37 +380,3 @@ def has_left(first: Goroutine, later: Goroutine) -> bool:
     return is_new or first.frames != later.frames and stack_of(first) != stack_of(later)
 
 
-def stack_of(goroutine: Goroutine) -> List[Tuple[str, Optional[int], str]]:
-    return [(it.function, it.line, it.offset) for it in goroutine.frames]
-
-
-@lru_cache(maxsize=KEPT)
-def whole_stack(frames: Tuple[GoFrame, ...], creator: GoFrame) -> List[Tuple[str, str, Optional[int], str]]:
-    """Returns all frames of a goroutine, and below them where it was created."""
-    return [(it.function, it.path, it.line, it.offset) for it in (*frames, creator)]
-
-
-def check_same(first: GoDump, later: GoDump) -> None:
-    """Raises Refusal if a goroutine has another origin in the later of two dumps, so that they are of two programs: a
-    program gives no number twice."""
-    before = {it.number: origin_of(it) for it in first.goroutines}
-    for it in later.goroutines:
-        here, there = origin_of(it), before.get(it.number)
-        if here and there and here != there:
-            raise Refusal(f"{it.at}: goroutine {it.number} is from {here}, and in {first.path} from {there}: two "
-                          "states of one program are expected")
-
-
-def origin_of(goroutine: Goroutine) -> str:
-    """Returns where a goroutine was created, or for main where main.main is, as text, or nothing."""
-    if goroutine.fault:
-        return ""
-    if goroutine.creator.path:
-        return text_of(goroutine.creator)
-    last = jobs_of(goroutine.frames)[-1:] if goroutine.number == MAIN else ()
-    return "".join(f"main.main ({step.path})" for step in last if step.function == "main.main")
-
-
-@lru_cache(maxsize=KEPT)
-def text_of(creator: GoFrame) -> str:
-    return f"{creator.function} ({creator.path}:{creator.line})"

@@ -9,7 +9,7 @@ from typing import Any, Dict, Iterator, List, Match, Optional, Tuple
 from ...files import Refusal, shown
 from ..base import once_each
 from .misfits import add_faults
-from .text import BETWEEN, FRAME, PARKED, START, JvmDump, PrintReader, JvmThread, add_line, frame_of
+from .text import BETWEEN, FRAME, PARKED, START, JvmDump, JvmThread, PrintReader, add_line, frame_of
 
 FILE_THREAD = re.compile(
     r'#(?P<number>\d+) "(?P<name>.*)"(?P<virtual> virtual)?(?: (?P<state>[A-Z_]+))?(?: \d{4}-\S+)?'

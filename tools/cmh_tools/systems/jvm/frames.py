@@ -9,7 +9,7 @@ from typing import Callable, Dict, List, Optional
 
 from ...sketch import WORK, frame
 from ..base import without_sleep
-from .text import Stack, JvmThread, stack_of
+from .text import JvmThread, Stack, stack_of
 
 JDK = re.compile(r"(?:java|javax|jdk|sun|com\.sun)\.")
 # Frames that nobody has written.

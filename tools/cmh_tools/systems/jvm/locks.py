@@ -7,7 +7,7 @@ from functools import lru_cache
 from typing import DefaultDict, Dict, List, NamedTuple, Optional, Set
 
 from .frames import is_in
-from .text import CLASS_INIT, PARKED, Stack, JvmThread, stack_of
+from .text import CLASS_INIT, PARKED, JvmThread, Stack, stack_of
 
 NO_OBJECT = "no object reference available"
 RELOCK, INITIALISER = "waiting to re-lock in wait()", ".<clinit>"

@@ -9,7 +9,7 @@ from typing import DefaultDict, Dict, List, Set
 
 from ...sketch import quote
 from .frames import CONDITION, JDK, LIBRARY, MACHINERY, OF_QUEUES, caller_of, is_like
-from .text import OWNERS, PARKED, JvmDump, Stack, JvmThread, stack_of
+from .text import OWNERS, PARKED, JvmDump, JvmThread, Stack, stack_of
 
 # The first frame of one that waits, by what its state says besides.
 TOPS = {"parking": re.compile(r"(?:jdk\.internal|sun)\.misc\.Unsafe\.park"),

@@ -20,11 +20,12 @@ from ..base import Break, Parser, break_wait
 from .dumps import read_dumps
 from .frames import (AGAIN, BARRIER, CLEANER, HAS_TIMER, LIMITS_FUTURES, MEETS, NEEDS_ALL, REENTRANT, JvmPlace,
                      has_limit, is_at_rest, is_in, is_of_jvm, place_of)
-from .heap import TIMER, JvmHeap, HeapView, is_between, read_heap
+from .heap import TIMER, HeapView, JvmHeap, is_between, read_heap
 from .locks import Locks
 from .states import check_dumps, doubt_threads, is_coarse, missing_of, names_of
 from .text import JvmDump, JvmThread, stack_of
-from .waits import MAIN, NATIVE, TIMED, Everybody, JvmThreads, has_stood, is_locking, meetings_of, wait_of
+from .threads import MAIN, Everybody, JvmThreads
+from .waits import NATIVE, TIMED, has_stood, is_locking, meetings_of, wait_of
 from .whole import add_inner, count_owned, kernel_thread, owner_of
 
 ELSEWHERE = "the heap shows it at another place, so its wait may have ended between the looks"

@@ -76,13 +76,7 @@ class MariadbParser(Parser):
         self.names = names_in(looks, "thread", name_of)
         doubt_newcomers(looks, "thread", is_newer)
         CONNECTION.doubt_rows(looks, times, seconds_of)
-        owners = {owner: key for *rows, key in TRANSACTION.contradictions(looks, times, seconds_of) for owner in (
-            row["of"] for row in rows)}
-        odd = {row["held"]: key for _, row, key in LOCK.contradictions(looks, times, seconds_of)}
-        owners.update({row["of"]: odd[row["lock"]] for look in looks for row in look.of("transaction")
-                       if row["lock"] in odd})
-        owners.update((owner, "lock") for look in looks for owner in look.odd_owners())
-        owners.update((owner, "transaction") for pair in zip(looks, looks[1:]) for owner in renamed_in(*pair))
+        owners = odd_owners(looks, times)
         for row in (row for look in looks for row in look.of("thread") if row["thread"] in owners):
             row["odd"] = f"transaction.{owners[row['thread']]}"
 
@@ -326,16 +320,7 @@ def metadata_parts(row: Row, kind: str, snapshot: MariadbServer) -> List[Part]:
     """Returns the parts of a wait for a metadata lock: who has it in a way that keeps this statement out, and who waits
     for it in such a way, and came first. Where the statement may speak of several things that are locked, any of these
     may be the one."""
-    words, is_strong = words_in(row["info"] or ""), takes_strong(row)
-    things: Dict[Tuple[Any, Any], Dict[str, str]] = {}
-    for lock in snapshot.look.of("metadata"):
-        is_named = kind != "table metadata lock" or str(lock["name"]).lower() in words
-        is_other = lock["metadata"] != row["thread"] and lock["metadata"] in snapshot.names
-        keeps_out = lock["mode"] != WEAK if is_strong else STRONG.search(lock["mode"]) and lock["mode"] != WEAK
-        if lock["type"].lower() == kind.lower() and is_named:
-            holders = things.setdefault((lock["schema"], lock["name"]), {})
-            if is_other and keeps_out:
-                holders[snapshot.names[lock["metadata"]]] = "owns"
+    things = things_locked(row, kind, snapshot)
     before = [other for other in snapshot.look.of("thread") if is_before(other, row)]
     for (_, name), holders in things.items():
         for other in before:
@@ -347,6 +332,33 @@ def metadata_parts(row: Row, kind: str, snapshot: MariadbServer) -> List[Part]:
     names = list(dict.fromkeys(name for holders in things.values() for name in holders))
     why = "which of several it waits for isn't shown"
     return any_of(wakers("listed", names), unseen("unshown", why)) if names else []
+
+
+def odd_owners(looks: List[MariadbLook], times: List[float]) -> Dict[int, str]:
+    """Returns whose transaction or lock two looks contradict each other in, each with in what."""
+    owners = {owner: key for *rows, key in TRANSACTION.contradictions(looks, times, seconds_of) for owner in (
+        row["of"] for row in rows)}
+    odd = {row["held"]: key for _, row, key in LOCK.contradictions(looks, times, seconds_of)}
+    owners.update({row["of"]: odd[row["lock"]] for look in looks for row in look.of("transaction")
+                   if row["lock"] in odd})
+    owners.update((owner, "lock") for look in looks for owner in look.odd_owners())
+    owners.update((owner, "transaction") for pair in zip(looks, looks[1:]) for owner in renamed_in(*pair))
+    return owners
+
+
+def things_locked(row: Row, kind: str, snapshot: MariadbServer) -> Dict[Tuple[Any, Any], Dict[str, str]]:
+    """Returns what a statement may wait for that is locked, each with who has it in a way that keeps this out."""
+    words, is_strong = words_in(row["info"] or ""), takes_strong(row)
+    things: Dict[Tuple[Any, Any], Dict[str, str]] = {}
+    for lock in snapshot.look.of("metadata"):
+        is_named = kind != "table metadata lock" or str(lock["name"]).lower() in words
+        is_other = lock["metadata"] != row["thread"] and lock["metadata"] in snapshot.names
+        keeps_out = lock["mode"] != WEAK if is_strong else STRONG.search(lock["mode"]) and lock["mode"] != WEAK
+        if lock["type"].lower() == kind.lower() and is_named:
+            holders = things.setdefault((lock["schema"], lock["name"]), {})
+            if is_other and keeps_out:
+                holders[snapshot.names[lock["metadata"]]] = "owns"
+    return things
 
 
 def likely_holders(row: Row, snapshot: MariadbServer) -> List[str]:

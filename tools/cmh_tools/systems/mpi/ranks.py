@@ -341,11 +341,15 @@ def contradiction(pair: Tuple[Row, Row]) -> str:
     if was["state"] == now["state"] == "S" and None not in calls and calls[0] != calls[1] and was.get(
             "switches") == now.get("switches"):
         return "its readings show two calls of the kernel, and no count of its moves has grown"
+    is_in_one = was.get("calls") != now.get("calls") and has_stayed(was, now)
+    return "it has made calls between its readings, and hasn't left the one that it is in" if is_in_one else ""
+
+
+def has_stayed(was: Row, now: Row) -> bool:
+    """Whether a thread has met nobody else since, or hasn't woken."""
     is_one = ALL <= was.get("kind", 0) <= OTHER and was["number"] > 0 and all(
         was[key] == now.get(key) for key in OF_MEETING)
-    is_asleep = was["state"] == now["state"] == "S" and was.get("switches", -1) == now.get("switches")
-    return "it has made calls between its readings, and hasn't left the one that it is in" if (
-        is_one or is_asleep) and was.get("calls") != now.get("calls") else ""
+    return is_one or was["state"] == now["state"] == "S" and was.get("switches", -1) == now.get("switches")
 
 
 def align_calls(one: RankThread, later: RankThread) -> None:

@@ -14,7 +14,7 @@ from itertools import chain
 from typing import Any, Callable, Dict, Iterable, List, Tuple
 
 from ...model import Part, wakers
-from .text import PythonLook, PythonRow
+from .rows import PythonLook, PythonRow
 
 AT_END = "asyncio.taskgroups.TaskGroup.__aexit__"  # where a task waits for its group
 

@@ -7,7 +7,7 @@ import re
 from typing import Dict, List
 
 from .names import PythonNames
-from .text import PythonLook, PythonRow
+from .rows import PythonLook, PythonRow
 
 # What the head of a state says where no signal comes to a handler of the program's, and all threads are Python's.
 NO_HANDLER = {"handlers": {}, "foreign_timer": False, "others": 0, "unseen": []}

@@ -6,7 +6,7 @@ from __future__ import annotations
 from typing import Any, Dict, Iterable, List, Set
 
 from .names import label
-from .text import PythonLook, PythonRow
+from .rows import PythonLook, PythonRow
 
 OTHERS = "its number is another one's in another look"
 OF_LOOP = "the thread of its event loop isn't understood"

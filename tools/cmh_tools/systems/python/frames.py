@@ -10,7 +10,8 @@ from typing import Any, Dict, Iterator, List, Optional, Tuple
 from ...files import Refusal, shown
 from ..base import fits, once_each, row_in
 from .stack import PythonFrame, frame_in_file
-from .text import OF_FRAMES, SPY, PythonLook, PythonRow
+from .rows import PythonLook, PythonRow
+from .text import OF_FRAMES, SPY
 
 VERSION = 1
 HEX = re.compile(r"0x[0-9a-f]{1,16}")

@@ -13,7 +13,8 @@ from typing import Any, Dict, Iterable, List, NamedTuple, Optional, Sequence
 from ...model import Part, Wakers, unseen, wakers
 from ...sketch import premise
 from .names import PythonNames, actor_of, holders_in
-from .text import PythonLook, PythonRow, callers_of
+from .rows import PythonLook, PythonRow
+from .text import callers_of
 
 CHILD, FUTURE, BLOCK, DEAD, CANCEL = map(premise, ("child-process", "future", "block", "dead", "cancel"))
 INSIDE = premise("runtime")  # that only its own process ends a wait at an object of the runtime

@@ -9,7 +9,7 @@ from typing import TYPE_CHECKING, Any, Dict, List, Optional, Tuple
 
 from ...sketch import REST
 from .stack import KEPT, PythonFrame, PythonStack, stack_of
-from .text import PythonLook, PythonRow, is_number, last_word
+from .rows import PythonLook, PythonRow, is_number, last_word
 
 if TYPE_CHECKING:
     from .job import PythonJob

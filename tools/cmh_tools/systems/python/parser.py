@@ -29,7 +29,8 @@ from .job import PythonJob, machine_of
 from .names import NEED_ALL, PythonNames, Standing, lasting_objects, main_task, public_name
 from .stack import KEPT, PythonFrame, PythonStack, stack_of
 from .tasks import TaskWaits
-from .text import PythonLook, PythonRow, is_number, looks_of
+from .rows import PythonLook, PythonRow, is_number
+from .text import looks_of
 from .waits import PythonWait, unsure
 
 PLACES, HANDED = ("thread", "task"), ("asked", "caller")  # kinds of subjects: that stand somewhere, or are to begin

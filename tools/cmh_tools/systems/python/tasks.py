@@ -17,7 +17,8 @@ from .futures import all_waits, any_waits, by_future, by_futures, wait_of_frame
 from .job import CANCEL, PythonJob
 from .names import Standing, main_task
 from .stack import KEPT, PythonFrame
-from .text import Caller, PythonRow, callers_of
+from .rows import Caller, PythonRow
+from .text import callers_of
 from .waits import (PythonWait, blocked, by_block, by_child, by_end, by_join, by_limit, by_lock, by_object,
                     by_semaphore, by_sleep, by_step, by_takers, by_work, goes, idle_wait, is_outside, limited,
                     outside_wait, resting, unsure)

@@ -10,8 +10,8 @@ from ...model import Part, Sign, Wakers, all_of, any_of, unseen, wakers
 from ...sketch import GOING, LIMIT, SYSTEM, WORK, premise
 from .job import BLOCK, CHILD, DEAD, PythonJob
 from .names import Standing
+from .rows import is_number, last_word
 from .stack import KEPT, PythonFrame, PythonStack
-from .text import is_number, last_word
 
 SHARED = re.compile(r"multiprocessing\.queues\.(?:Joinable)?Queue\.(put|get|join)$")
 FEED = "multiprocessing.queues.Queue._feed"
@@ -112,9 +112,9 @@ def limit_of(call: Dict[str, Any]) -> Any:
 
 def by_limit(standing: Standing) -> Optional[PythonWait]:
     """A limit of the innermost wait. That of an outer call doesn't count: it may be over, or not begun."""
-    top = standing.frames[0] if standing.frames else None
-    if top is None:
+    if not standing.frames:
         return None
+    top = standing.frames[0]
     limit = limit_of(standing.call) if standing.word == "acquire" else None
     if is_number(limit) and limit >= 0:
         return limited("it waits with a limit")

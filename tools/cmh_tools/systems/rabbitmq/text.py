@@ -126,6 +126,12 @@ def faults_of(raw: Raw) -> Iterator[str]:
     early = next((row for row in raw["list_channels"] if is_older(row["pid"], row["connection"])), None)
     if early is not None:
         yield f"list_channels: channel {shown(early['pid'])} is older than its connection, or of another broker"
+    yield from faults_of_policies(raw)
+    yield from faults_of_keys(raw)
+
+
+def faults_of_policies(raw: Raw) -> Iterator[str]:
+    """Yields which queues have a policy that isn't listed, or lack one that is for them."""
     policies = ["", *(row["name"] for row in raw["list_policies"])]
     for row in raw["list_queues"]:
         if row.get("policy", None if raw["list_policies"] else "") not in policies:
@@ -133,6 +139,10 @@ def faults_of(raw: Raw) -> Iterator[str]:
         missed = next((it for it in raw["list_policies"] if row.get("policy") == "" and is_for(it, row["name"])), None)
         if missed is not None:
             yield f"list_queues: queue {shown(row['name'])} lacks policy {shown(missed['name'])}, which is for its name"
+
+
+def faults_of_keys(raw: Raw) -> Iterator[str]:
+    """Yields bindings of the default exchange that it can't have, and queues with a key for nowhere."""
     for row in raw["list_bindings"]:
         name = str(row["destination_name"])
         if row["source_name"] == "" and (row["routing_key"] != name or row.get("destination_kind", "queue") != "queue"):
