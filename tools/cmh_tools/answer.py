@@ -89,9 +89,9 @@ def counts_of(found: Findings) -> Dict[str, int]:
 def cut_of(found: Findings) -> Tree:
     """Returns what became of those that the dump hasn't as they are."""
     dump = found.dump
-    return {"left_out": len(dump.left_out), "twins": dump.cut.twins, "alike": len(dump.folded) - dump.cut.twins,
-            "lists": sum(at >= found.waits.number for at in dump.kept), "dumps": len(dump.parts),
-            "says": dump.cut_lines()}
+    return {"left_out": len(dump.left_out), "twins": len(dump.folded), "alike": 0,
+            "lists": sum(at >= found.waits.number for at in dump.kept), "dumps": 0 if dump.is_too_large else 1,
+            "says": dump.cut_lines(), "unconfirmed": dump.unconfirmed() or found.original.unconfirmed()}
 
 
 # Roots

@@ -1,17 +1,17 @@
 """Makes the two dumps of a sketch: low, with unknown ones active, and high, with unknown ones idle for good.
 
 Names that the program refuses are made acceptable and stay apart. A sketch above the program's limits is made to fit
-them (`reduction`). If one dump can't have it, it has several parts, each with its two dumps.
+them (`reduction`), as far as that goes.
 """
 from __future__ import annotations
 
 import json
 import re
 from functools import cached_property
-from typing import Any, Dict, List, NamedTuple, Optional, Sequence, Set, Tuple
+from typing import Any, Dict, List, NamedTuple, Optional, Sequence, Set
 
 from .doubts import Doubt, Likely
-from .limits import ENTRIES, LONGEST
+from .limits import DEPENDENTS, ENTRIES, LONGEST
 from .reduction import Reduction
 from .roots import Knots
 from .sketch import Sketch
@@ -21,7 +21,9 @@ from .stuck import Answer, Waits
 NAME = re.compile(rf"[A-Za-z0-9][A-Za-z0-9_.:/-]{{0,{LONGEST - 1}}}")
 NO_SITE = "no-site"
 MARK = "made-by-cmh-dump"  # a site of each dump that these tools make, mostly one without processes
-HUB, STUCK, RUNNING = "list", "stuck-elsewhere", "runs-elsewhere"
+HUB = "list"
+TOO_LARGE = "not confirmed by cmh: too large, as {:,} processes with {:,} names are left, and it takes " \
+    f"{ENTRIES:,} with {DEPENDENTS:,}"
 
 
 def program_names(names: List[str]) -> Dict[str, str]:
@@ -75,16 +77,16 @@ class LikelyAnswer(NamedTuple):
 
 
 class Dump:
-    """The dumps of a sketch. `parts` have the indices of those in each, the first of which is the dump that is written;
-    `left_out` and `folded` say what became of others: a list, and who stands for each. `named` has the names in the
-    dump, also of hubs, and `known` the keys of doubts in the order of their numbers."""
+    """The dumps of a sketch. `kept` are the indices of those in them; `left_out` and `folded` say what became of others:
+    a list, and who stands for each. `named` has the names in the dump, also of hubs, and `known` the keys of doubts in
+    the order of their numbers."""
 
     def __init__(self, sketch: Sketch, known: Sequence[str] = (), certain: Optional[Dump] = None,
                  waits: Optional[Waits] = None) -> None:
         self.sketch, self.known = sketch, known
         self.waits = waits or Waits(sketch)
         self.kept_likely: Optional[LikelyAnswer] = None
-        self.texts: Dict[Tuple[bool, int], str] = {}  # by whether they are of the high answer, and the number of a part
+        self.texts: Dict[bool, str] = {}  # by whether they are of the high answer
         sites = dict.fromkeys(process.site for process in sketch.processes if process.site is not None)
         self.names: Dict[str, str] = certain.names if certain else program_names(
             [process.name for process in sketch.processes])
@@ -99,9 +101,8 @@ class Dump:
         self.low = self.waits.low()
         self.high = self.waits.high(self.low)
         self.cut = Reduction(self.waits)
-        self.kept, self.left_out = self.cut.kept, self.cut.left_out
-        self.folded = {index: self.cut.stands_for(index) for index in self.cut.over if index < self.waits.number}
-        self.parts = self.cut.parts([self.low, self.high])
+        self.kept, self.left_out, self.folded = self.cut.kept, self.cut.left_out, self.cut.folded
+        self.is_too_large = self.cut.is_too_large
 
     # The likely answer
 
@@ -147,77 +148,57 @@ class Dump:
         site = self.waits.processes[index].site
         return self.no_site if site is None else self.sites[site]
 
-    def tree(self, answer: Answer, part: int = 0) -> Dict[str, Any]:
-        """Returns the dump of a part with the picks of an answer, which is `low` or `high`, as a tree of JSON."""
-        rows, pairs = self.rows(answer, part), self.pairs(answer, part)
+    def tree(self, answer: Answer) -> Dict[str, Any]:
+        """Returns the dump with the picks of an answer, which is `low` or `high`, as a tree of JSON."""
+        rows, pairs = [self.row(index, answer) for index in self.kept], self.pairs(answer)
         return {"version": 2 if pairs else 1, "sites": mark_sites(rows), "processes": rows,
                 **({"in_transit": pairs} if pairs else {})}
 
-    def text(self, answer: Answer, part: int = 0) -> str:
+    def text(self, answer: Answer) -> str:
         """Returns the text of this tree, with a line for each process, made once."""
-        key = answer is self.high, part
+        key = answer is self.high
         if key not in self.texts:
-            tree = self.tree(answer, part)
+            tree = self.tree(answer)
             lines, sites = text_of_rows(tree["processes"]), json.dumps(tree["sites"])
             more = f',\n"in_transit":{json.dumps(tree["in_transit"])}' if "in_transit" in tree else ""
             self.texts[key] = \
                 f'{{"version":{tree["version"]},"sites":{sites},"processes":[\n  {lines}]{more}}}\n'
         return self.texts[key]
 
-    def rows(self, answer: Answer, part: int) -> List[Dict[str, Any]]:
-        """Returns the rows of a part, with those that stand for other parts at the end."""
-        kept = self.parts[part]
-        there = set(kept)
-        rows = [self.row(index, answer, there) for index in kept]
-        known = {name for row in rows for name in row.get("dependents", ())}
-        added = {"site": self.site(kept[0])} if kept else {}
-        stuck, running = self.new_name(STUCK), self.new_name(RUNNING)
-        rows += [{"name": stuck, **added, "state": "idle", "dependents": []}] if stuck in known else []
-        return rows + ([{"name": running, **added, "state": "active"}] if running in known else [])
-
-    def row(self, index: int, answer: Answer, there: Set[int]) -> Dict[str, Any]:
-        """Returns the row of a process. One row stands for those of its list that are in other parts."""
+    def row(self, index: int, answer: Answer) -> Dict[str, Any]:
+        """Returns the row of a process."""
         row: Dict[str, Any] = {"name": self.named[index], "site": self.site(index)}
         others = self.cut.dependents(index, answer)
         if others is None:
             return {**row, "state": "active"}
-        names = [self.named[other] for other in others if other in there]
-        elsewhere = [other for other in others if other not in there] if len(names) < len(others) else []
-        if elsewhere:
-            runs = not all(answer.inside[other] for other in elsewhere) or not there.issuperset(self.senders(index))
-            names.append(self.new_name(RUNNING if runs else STUCK))
-        return {**row, "state": "idle", "dependents": names}
+        return {**row, "state": "idle", "dependents": [self.named[other] for other in others]}
 
-    def senders(self, index: int) -> Set[int]:
-        """Returns who stands for those whose message unblocks one."""
-        return {self.cut.stands_for(sender) for sender in self.waits.senders[index]}
-
-    def pairs(self, answer: Answer, part: int) -> List[List[str]]:
+    def pairs(self, answer: Answer) -> List[List[str]]:
         """Returns the messages that unblock their receiver: all, or if that is too many one for each receiver."""
-        rows, there = [], set(self.parts[part])
-        for index in filter(self.waits.senders.__getitem__, self.parts[part]):
-            senders = self.senders(index) & there & set(self.cut.dependents(index, answer) or ())
-            rows.append([[self.named[sender], self.named[index]] for sender in sorted(senders)])
+        rows = []
+        for index in filter(self.waits.senders.__getitem__, self.kept):
+            senders = set(map(self.cut.stands_for, self.waits.senders[index]))
+            there = senders.intersection(self.cut.dependents(index, answer) or ())
+            rows.append([[self.named[sender], self.named[index]] for sender in sorted(there)])
         pairs = [pair for row in rows for pair in row]
         return pairs if len(pairs) <= ENTRIES else [row[0] for row in rows if row]
 
-    def stuck_names(self, answer: Answer, part: int) -> Set[str]:
-        """Returns whom the program has to call deadlocked in the dump of a part."""
-        names = {self.named[index] for index in self.parts[part] if answer.is_stuck(index)}
-        is_cut = len(self.parts) > 1
-        return names | ({self.new_name(STUCK)} & {row["name"] for row in self.rows(answer, part)} if is_cut else set())
+    def stuck_names(self, answer: Answer) -> Set[str]:
+        """Returns whom the program has to call deadlocked in the dump."""
+        return {self.named[index] for index in self.kept if answer.is_stuck(index)}
 
     def cut_lines(self) -> List[str]:
         """Returns in words what became of those that the dump hasn't as they are."""
-        alike, hubs = len(self.folded) - self.cut.twins, sum(index >= self.waits.number for index in self.kept)
         rows = [(len(self.left_out), "process", "processes", "that nobody waits for {} not in it"),
-                (self.cut.twins, "process", "processes", "{} folded into a twin"),
-                (alike, "process", "processes", "{} folded into one that is stuck just if it is"),
-                (hubs, "list", "lists", "that several share {} a process of the dump")]
-        words = [f"{number:,} {one if number == 1 else many} {text.format('is' if number == 1 else 'are')}"
-                 for number, one, many, text in rows if number]
-        parts = len(self.parts)
-        return words + ([f"the rest is cut into {parts:,} dumps, where cmh confirms each"] if parts > 1 else [])
+                (len(self.folded), "process", "processes", "{} folded into a twin"),
+                (sum(index >= self.waits.number for index in self.kept), "list", "lists",
+                 "that several share {} a process of the dump")]
+        return [f"{number:,} {one if number == 1 else many} {text.format('is' if number == 1 else 'are')}"
+                for number, one, many, text in rows if number]
+
+    def unconfirmed(self) -> str:
+        """Returns in words that the program doesn't confirm it, if it is too large for that."""
+        return TOO_LARGE.format(len(self.kept), self.cut.names) if self.is_too_large else ""
 
     def notes(self, **about: object) -> str:
         """Returns the text of the notes: the sketch, what became of its names and processes, and what `about` says."""

@@ -80,11 +80,10 @@ def summary(dump: Dump, path: str, asked: List[Proposal]) -> Iterator[str]:
     kinds = Counter(kind_of)
     words = [f"{kinds[kind]:,} {kind.replace('_', ' ')}" for kind in KINDS if kinds[kind]]
     total = len(dump.sketch.processes)
-    yield f"{shown(path)}: {len(dump.parts[0]):,} processes of {total:,} ({', '.join(words) or 'none'})"
+    yield f"{shown(path)}: {len(dump.kept):,} processes of {total:,} ({', '.join(words) or 'none'})"
     for line in dump.cut_lines():
         yield f"made smaller: {line}"
-    if dump.parts[1:]:
-        yield f"this is the first of {len(dump.parts)} dumps, which cmh-explain makes of the notes: it says all"
+    yield from filter(None, [dump.unconfirmed()])
     unknown = [process for process, kind in zip(dump.sketch.processes, kind_of) if kind == UNKNOWN]
     for process in unknown[:SHOWN]:
         yield f"unknown: {short_name(process.name)}: {shown(process.why_unknown())}"

@@ -9,7 +9,7 @@ import re
 from dataclasses import replace
 from typing import Any, Dict, Iterator, List, Sequence, Tuple
 
-from .dump import MARK, NO_SITE, RUNNING, STUCK, Dump
+from .dump import MARK, NO_SITE, Dump
 from .making import known_premises
 from .model import HOWS, Anybody, Sign, Strength, Wakers, Who, once
 from .sketch import BARE, BY_HAND, DONE, FACT, NEEDED, OLDER, PREMISE, REST, SYSTEM, WORK, FactRow, Process, Sketch
@@ -39,7 +39,7 @@ RUNS = (WORK, "a dead message will come to it", "a fact says so", "a message is 
         "waits for a timer", "waits for data", "waits for its time", "waits on a connection", "waits with a limit",
         "what it waited for is done", "who is on another machine may send", "yields")
 TIMED = "timed "
-WORDS = {"", HIDDEN, BARE, BY_HAND, DONE, NEEDED, OLDER, REST, SYSTEM, MARK, NO_SITE, STUCK, RUNNING, "idle", "active",
+WORDS = {"", HIDDEN, BARE, BY_HAND, DONE, NEEDED, OLDER, REST, SYSTEM, MARK, NO_SITE, "idle", "active",
          *HOWS, *(sign.value for sign in Sign), *(strength.value for strength in Strength), *RUNS,
          ENDED, "chan send", "chan receive", "IO wait", "MPI_Sendrecv sends",
          "MPI_Sendrecv receives", "traced by", "no call",

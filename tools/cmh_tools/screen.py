@@ -530,8 +530,12 @@ class Screen:
     # What to do, and where there is more
 
     def last(self) -> List[str]:
-        rows = [("Do", self.to_do()), ("Sure?", self.to_be_sure()), ("More", self.to_see_more())]
+        rows = [("Do", self.to_do()), ("Sure?", self.to_be_sure() + self.unconfirmed()), ("More", self.to_see_more())]
         return [self.row(word, texts) for word, texts in rows if texts]
+
+    def unconfirmed(self) -> List[str]:
+        words = self.this.dump.unconfirmed() or self.this.original.unconfirmed()
+        return [f"{words}."] if words else []
 
     def row(self, word: str, texts: List[str]) -> str:
         """Returns the lines behind a word. A command isn't broken, so that it can be copied."""

@@ -60,7 +60,7 @@ class Whole(View):
             yield self.undecided_lines()
         if counts[NOT_STUCK]:
             yield self.other_lines()
-        yield from filter(None, [self.cut_lines(), self.warnings()])
+        yield from filter(None, [self.cut_lines(), self.unconfirmed(), self.warnings()])
 
     def counts_line(self) -> Painted:
         """Returns the headline with all counts."""
@@ -241,6 +241,10 @@ class Whole(View):
         words = ", and ".join(self.tree["cut"]["says"])
         return [f"The dump is made smaller: {words}. All are counted here, and what is said of those "
                 "that it hasn't follows from the others."] if words else []
+
+    def unconfirmed(self) -> List[str]:
+        words = self.tree["cut"]["unconfirmed"]
+        return [f"This answer is {words}."] if words else []
 
     def warnings(self) -> List[str]:
         lines = [f"  {shown(line)}" for line in self.tree["warnings"]]
