@@ -4,7 +4,8 @@ from __future__ import annotations
 import re
 from collections import Counter
 from functools import cached_property
-from typing import Dict, Iterable, List, NamedTuple, Sequence, Set, Tuple
+from heapq import heapify, heappop, heappush
+from typing import Dict, Iterable, List, NamedTuple, Sequence, Tuple
 
 from .files import short_name, shown
 from .findings import Findings
@@ -18,7 +19,6 @@ PID = re.compile(r" \(PID (\d+)\)")  # as a unit is called
 BY_NUMBER = re.compile(r"\bpid\W{0,2}\d+", re.I)  # in a site by hand that is no machine, but a process of one
 MOST = 64  # members of a root that are looked at
 WIDE = 72  # characters of a word that has no room in a line
-STEPS = 60_000  # looks at roots in which fewer units are looked for
 SHOWN = 3  # units, or members of a root without any
 PIDS = 12  # of processes that are restarted with another one: who doesn't know them can't see whether they are gone
 NOTICED = ("called", "ends", "owns")  # hows of a wait that ends, perhaps in an error, with the process that is meant
@@ -283,7 +283,7 @@ class Cures:
         return True
 
     def least(self) -> List[Cure]:
-        """Returns the fewest cures that break all roots, as far as that is found in some steps."""
+        """Returns few cures that break all roots."""
         cures = [cure for cure in self.of if cure.is_all]
         alone = [cure for cure in self.of if not cure.is_all]
         left = {cure.roots[0] for cure in alone}
@@ -305,39 +305,24 @@ def pid_of(process: Process) -> str:
 
 
 def fewest(sets: List[List[str]]) -> List[str]:
-    """Returns the fewest words that have one of each set, or nearly the fewest where there are very many."""
+    """Returns few words that have one of each set: each next one is in most of those that are left."""
     places: Dict[str, List[int]] = {}
     for number, words in enumerate(sets):
         for word in words:
             places.setdefault(word, []).append(number)
-    best: List[str] = []
-    had: Set[int] = set()
-    for word in sorted(places, key=lambda word: -len(places[word])):
-        if not had.issuperset(places[word]):
-            best.append(word)
-            had.update(places[word])
-    todo: List[List[str]] = [[]]
-    for _ in range(STEPS // (1 + len(sets))):
-        if not todo:
-            break
-        chosen = todo.pop()
-        left = [words for words in sets if not set(chosen).intersection(words)]
-        if not left and len(chosen) < len(best):
-            best = chosen
-        elif left and len(chosen) + apart(left) < len(best):
-            todo += [[*chosen, word] for word in reversed(min(left, key=len))]
-    return best
-
-
-def apart(sets: List[List[str]]) -> int:
-    """Returns how many sets, at least, have no word in common with each other: each needs a word of its own."""
-    taken: Set[str] = set()
-    number = 0
-    for words in sets:
-        if taken.isdisjoint(words):
-            taken.update(words)
-            number += 1
-    return number
+    chosen: List[str] = []
+    left = set(range(len(sets)))
+    queue = [(-len(numbers), order, word) for order, (word, numbers) in enumerate(places.items())]
+    heapify(queue)
+    while left:
+        known, order, word = heappop(queue)
+        number = -len(left.intersection(places[word]))
+        if number == known:
+            chosen.append(word)
+            left.difference_update(places[word])
+        elif number:
+            heappush(queue, (number, order, word))
+    return chosen
 
 
 def unit_words(this: Cures, unit: str) -> str:

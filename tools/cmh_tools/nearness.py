@@ -8,7 +8,7 @@ the end of others of a list frees none of them.
 from __future__ import annotations
 
 from functools import cached_property
-from typing import TYPE_CHECKING, Dict, Iterable, List, Sequence, Set, Tuple
+from typing import TYPE_CHECKING, Dict, Iterable, List, Sequence, Set
 
 from .model import Part, Strength
 from .sketch import ALL, ANY, has_how
@@ -49,15 +49,6 @@ class Nearness:
         return wanting
 
     @cached_property
-    def at_same(self) -> Dict[Tuple[str, ...], List[int]]:
-        """Those who wait at one object by one operation, and have no lock that anybody waits for."""
-        rows: Dict[Tuple[str, ...], List[int]] = {}
-        for index, process in enumerate(self.waits.processes):
-            if process.objects and index not in self.wanting:
-                rows.setdefault((process.operation, *process.objects), []).append(index)
-        return rows
-
-    @cached_property
     def behind(self) -> Dict[int, List[int]]:
         """Those who wait for each one alone, as for a lock that it has, or since it stands inside of that."""
         behind: Dict[int, List[int]] = {}
@@ -82,15 +73,14 @@ class Nearness:
 
     def of_holder(self, index: int, nodes: List[int]) -> List[int]:
         """Returns the nodes of a list of one that has what others wait for, and that anybody of its process may free:
-        those who are behind it alone, and first of these who is there for something else than it. Where there are none,
-        those that don't wait for the same as it, as for a connection of a pool: they lack it too, and have nothing."""
+        those who are behind it alone, and first of these who is there for something else than it."""
         process, parts = self.waits.processes[index], self.waits.subjects[index].parts
         hows = [wakers.how for wakers in parts[0] if wakers.strength in (Strength.NAMED, Strength.ABLE)]
         if hows != [PROCESS] or index not in self.behind and index not in self.wanting:
             return nodes
         near = [other for other in self.all_behind(index) if self.is_among(other, nodes)]
         first = [other for other in near if self.waits.processes[other].entry != process.entry]
-        return first or near or self.without_rivals(index, nodes)
+        return first or near or nodes
 
     def all_behind(self, index: int) -> List[int]:
         """Returns those that wait for one alone, or for one of these, in their order."""
@@ -109,13 +99,6 @@ class Nearness:
         if hub not in self.lists:
             self.lists[hub] = set(self.waits.left[hub])
         return self.lists[hub]
-
-    def without_rivals(self, index: int, nodes: List[int]) -> List[int]:
-        """Returns the nodes of a list of one with a lock without those who wait for the same as it, and have none."""
-        process = self.waits.processes[index]
-        rivals = set(self.at_same.get((process.operation, *process.objects), ()) if index in self.wanting else ())
-        others = [other for other in self.waits.without_hubs(nodes) if other not in rivals] if rivals else []
-        return others or nodes
 
     def without_joiners(self, index: int, nodes: List[int]) -> List[int]:
         """Returns the nodes of a list without those that only wait for the end of others of it, or of the waiter: they
