@@ -13,6 +13,7 @@ from __future__ import annotations
 
 from collections import Counter
 from copy import copy
+from dataclasses import replace
 from itertools import chain
 from typing import AbstractSet, Callable, Dict, FrozenSet, Iterable, List, Optional, Sequence, Set, Tuple
 
@@ -134,7 +135,8 @@ class Waits:
         """Returns the waits of the same sketch where some have only those wakers left by whom they are likely to be
         stuck. All else is as it was, but for long lists, of which equal ones become one."""
         if self.total > LONG:
-            made = Waits(sketch)
+            # To share lists changes the processes, and the sketch with doubts has those that hang on none.
+            made = Waits(replace(sketch, processes=[process.copy() for process in sketch.processes]))
         else:
             made = copy(self)
             made.processes, made.subjects, made.kinds = sketch.processes, list(self.subjects), self.kinds[:self.number]
