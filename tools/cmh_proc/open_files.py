@@ -6,7 +6,7 @@ the kernel words it, or by what its descriptors are told from those of other fil
 from __future__ import annotations
 
 import re
-from typing import Any, Callable, Dict, Iterable, List, NamedTuple, Optional, Sequence, Tuple
+from typing import Any, Callable, Iterable, List, NamedTuple, Optional, Sequence, Tuple
 
 PIPE, SOCKET, ANONYMOUS = "pipe:[", "socket:[", "anon_inode:["  # how links begin that lead to no path
 EPOLL, EVENTFD = "anon_inode:[eventpoll]", "anon_inode:[eventfd]"
@@ -83,17 +83,13 @@ class OpenFile:
 
     def words(self) -> List[str]:
         """Returns it as a state has it."""
-        return [self.target, self.mode, *(text for name in self.known() for text in self.texts(name))]
+        return [self.target, self.mode, *(text for name in self.known() for text in (
+            [self.key(name)] if name != "locks" else [f"lock: {line}" for line in self.locks]))]
 
     def known(self) -> List[str]:
         """Returns the names of what is known of it besides, in the order in which that is written."""
         own = vars(self)
         return [name for name in FACTS if name in own] if len(own) > 2 else []
-
-    def texts(self, name: str) -> List[str]:
-        """Returns what is known of it by a name, as a state has it."""
-        fact, value = FACTS[name], getattr(self, name)
-        return [f"{fact.begin} {fact.write(one)}" for one in (value if name == "locks" else [value])]
 
     def keys(self) -> List[str]:
         """Returns what tells its file from others: the number of its pipe or socket, or what more is known."""
@@ -102,7 +98,7 @@ class OpenFile:
 
     def key(self, name: str) -> str:
         """Returns the one of these keys that has a name."""
-        return self.texts(name)[0]
+        return f"{FACTS[name].begin} {FACTS[name].write(getattr(self, name))}"
 
     @property
     def is_pipe(self) -> bool:
@@ -121,8 +117,3 @@ class OpenFile:
     def is_end(self) -> bool:
         """Whether it may be an end of somebody's wait."""
         return self.target.startswith((PIPE, SOCKET, ANONYMOUS)) or self.known() != []
-
-
-def files_of(rows: Dict[str, List[str]]) -> Dict[str, OpenFile]:
-    """Returns the descriptors of a process as its state has them."""
-    return {fd: OpenFile.of(words) for fd, words in rows.items()}

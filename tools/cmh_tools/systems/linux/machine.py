@@ -8,7 +8,7 @@ from functools import cached_property
 from typing import Any, Callable, Dict, Iterable, List, NamedTuple, Sequence, Set, Tuple
 
 from cmh_proc.calls import ARGUMENTS, MOST_ARGUMENTS, has_limit
-from cmh_proc.open_files import EPOLL, OpenFile, files_of
+from cmh_proc.open_files import EPOLL, OpenFile
 
 from ...files import shown
 
@@ -49,7 +49,7 @@ class Owner:
         self.command = str(self.row.get("comm", ""))
         self.name = f"{self.command} {self.pid}"
         self.why = str(self.row.get("unreadable", ""))
-        self.files = files_of(self.row.get("fds", {}))
+        self.files = {fd: OpenFile.of(words) for fd, words in self.row.get("fds", {}).items()}
         self.threads = [LinuxThread(self, row) for row in self.row.get("threads", [])] if not self.why else []
         self.living = [thread for thread in self.threads if thread.state not in ENDED]
 
