@@ -250,12 +250,7 @@ def misfit(value: Any, shape: Any) -> Optional[str]:
 def check_of(shape: Any) -> Check:
     """Returns what finds the first place in a value that hasn't a shape."""
     if isinstance(shape, dict):
-        form: Any = next(iter(shape), "")
-        if form is str or isinstance(form, re.Pattern):
-            return check_of_rows(form, check_of(shape[form]))
-        shapes = {key: wanted for key, wanted in shape.items() if key is not ...}
-        return check_of_object([(key, key.rstrip("?"), wanted, check_of(wanted)) for key, wanted in shapes.items()],
-                               ... in shape)
+        return check_of_keys(shape)
     if isinstance(shape, list):
         return check_of_list([check_of(part) for part in shape if part is not ...], ... in shape)
     if isinstance(shape, tuple):
@@ -265,6 +260,16 @@ def check_of(shape: Any) -> Check:
     if isinstance(shape, re.Pattern):
         return lambda value: None if isinstance(value, str) and shape.fullmatch(value) else ""
     return lambda value: None if type(value) is shape or shape is object else ""
+
+
+def check_of_keys(shape: Dict[Any, Any]) -> Check:
+    """Returns the check of an object by its shape: one for all keys that have a form, or one for each."""
+    form: Any = next(iter(shape), "")
+    if form is str or isinstance(form, re.Pattern):
+        return check_of_rows(form, check_of(shape[form]))
+    shapes = {key: wanted for key, wanted in shape.items() if key is not ...}
+    return check_of_object([(key, key.rstrip("?"), wanted, check_of(wanted)) for key, wanted in shapes.items()],
+                           ... in shape)
 
 
 def check_of_any(types: Set[Any], checks: List[Check]) -> Check:

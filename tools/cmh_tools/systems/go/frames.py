@@ -281,20 +281,17 @@ class GoPlace:
         steps = [frames[number] for number in numbers]
         first = next((index for index, step in enumerate(steps) if is_own(step)), None)
         self.idle = idle_label(steps[:first], state, first is not None)
-        self.is_at_connection = first is not None and any(label_of(step.function) == CONNECTION
-                                                          for step in steps[:first])
+        self.is_at_connection = first is not None and CONNECTION in (label_of(step.function) for step in steps[:first])
         start = first_outside(steps) if first is None else first
         own = [step for step in steps[start:] if is_jobs(step)]
         self.function = own[0].function if own else ""
         if not own and creator.function and is_jobs(creator):
             own, start = [creator], len(steps)
         self.frames = [frame(step.function, step.file, step.line) for step in own or steps[start:]]
-        inner = steps[:start]
-        if len(inner) > 1 and inner[-1].function == CONDITION and inner[-2].function != WAITS_AT_IT:
-            inner.pop()  # (it was signalled, and locks again what it has given back)
+        inner = those_called(steps[:start])
         self.called = inner[-1].function if inner else ""
         self.operation = operation_of(state, self.called)
-        self.receives = self.operation in RECEIVES or state in RECEIVES and is_loop(self.operation)
+        self.receives = receives_at(self.operation, state)
         self.shown = [number for number, step in zip(numbers, inner) if SHOWS.fullmatch(step.function)]
         self.locked = self.methods_locked(frames)
         self.run = self.methods_past_lock(frames)
@@ -311,6 +308,17 @@ class GoPlace:
         own = [number for number, step in enumerate(frames) if step.function not in OUTERMOST and is_jobs(step)]
         is_writer = self.operation == WRITER and all(MUTEX not in step.function for step in frames)
         return methods_in(frames, own[1:] if self.operation in TAKES_LOCK and not is_writer else own)
+
+
+def receives_at(operation: str, state: str) -> bool:
+    return operation in RECEIVES or state in RECEIVES and is_loop(operation)
+
+
+def those_called(inner: List[GoFrame]) -> List[GoFrame]:
+    """Returns frames within a function of the job's own, without the condition that one has left that was signalled:
+    it locks again what it has given back."""
+    is_signalled = len(inner) > 1 and inner[-1].function == CONDITION and inner[-2].function != WAITS_AT_IT
+    return inner[:-1] if is_signalled else inner
 
 
 def first_outside(steps: List[GoFrame]) -> int:

@@ -100,9 +100,7 @@ def misfit_of_park(stack: Stack, parked_class: str) -> str:
 def misfit_of_callers(methods: List[str]) -> str:
     """Returns which of the methods of a thread that is parked doesn't call such a thing, or nothing."""
     caller = methods[1] if methods[1:] else ""
-    is_odd = SUPPORT.match(caller) and not PARK.match(caller)  # (as of another package, which has no such class)
-    if is_odd or caller == RUN or QUEUES.fullmatch(caller) or caller and not (
-            JDK.match(caller) or LIBRARY.match(caller)):
+    if never_parks(caller):
         return f"it is parked, and {caller} calls no such thing"
     nameless = next((method for method in methods if JDK.match(method) and not OF_CLASS.search(method)), "")
     if nameless:
@@ -113,6 +111,13 @@ def misfit_of_callers(methods: List[str]) -> str:
     waiting = next((method for method in methods if not is_like(MACHINERY, method)), "")
     is_other = waiting.startswith(OF_QUEUES) and not WAITS.fullmatch(waiting)
     return f"it is parked, and {waiting} calls no such thing" if is_other else ""
+
+
+def never_parks(caller: str) -> bool:
+    """Whether a method never parks a thread itself."""
+    is_odd = SUPPORT.match(caller) and not PARK.match(caller)  # (as of another package, which has no such class)
+    is_foreign = caller and not (JDK.match(caller) or LIBRARY.match(caller))
+    return bool(is_odd or caller == RUN or QUEUES.fullmatch(caller) or is_foreign)
 
 
 def misfit_of_private(methods: List[str]) -> str:

@@ -157,11 +157,12 @@ def wait_for_some(thread: JvmThread, place: JvmPlace, name: str, snapshot: JvmTh
     near = tuple(group for group in snapshot.runners(place) if group.names() != [name]) if reached is None else ()
     part = (*near, *snapshot.able(thread), *snapshot.owners(thread), *snapshot.breaking(place))
     because = [premise(INNER if reached is None else REACHES)]
-    is_receiver = is_receive(place) and is_own_loop(stack_of(thread))
+    is_in_loop = is_own_loop(stack_of(thread))
+    is_receiver = is_receive(place) and is_in_loop
     is_meant = reached is not None and reached.is_alone and not awaits_task(thread) and not NEVER_MEANT.fullmatch(
         place.call)
-    is_at_end = thread.name == MAIN and (is_meant or awaits_close(thread) or reached is None and is_for_the_end(
-        place) and is_own_loop(stack_of(thread)))
+    is_at_end = thread.name == MAIN and (
+        is_meant or awaits_close(thread) or reached is None and is_for_the_end(place) and is_in_loop)
     if is_meant or is_at_end or reached is None and is_receiver:
         part = (*part, unseen("outside"))
     if not has_jobs(stack_of(thread)):

@@ -257,9 +257,13 @@ def need_of_window(thread: RankThread, job: MpiJob, comm: Row, row: Row) -> Need
     if row["name"] in GROUPED:
         return open_to("the record doesn't say which ranks its group has",
                        wakers("reaches", names_of(rank for rank in others if not rank.inside(comm, ALL, SOME))))
-    holders = [rank for rank in others if rank.may_have(comm, target)]
-    owners = [rank for rank in holders if rank.bars(comm, target, row["tag"])]
     keepers = [rank for rank in keepers_of(members, target) if rank is not thread.rank]
+    return need_of_lock(comm, row, [rank for rank in others if rank.may_have(comm, target)], keepers)
+
+
+def need_of_lock(comm: Row, row: Row, holders: List[RankOfRecords], keepers: List[RankOfRecords]) -> Need:
+    """Returns what a call needs that waits for the lock of a window, which some may have and some keep."""
+    owners = [rank for rank in holders if rank.bars(comm, row["partner"], row["tag"])]
     if row["name"] not in TAKES or not owners:
         likely = [rank for rank in holders if not rank.inside(comm, LOCK)]
         return open_to("by the records no other rank has a lock that it waits for",

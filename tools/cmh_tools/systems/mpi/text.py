@@ -113,6 +113,11 @@ def odd_of(row: Row) -> Optional[str]:
     lost = next((key for kind, part in rows for key in lost_keys(part, TOGETHER[kind])), None)
     if lost is not None:
         return lost
+    return odd_of_threads(threads, comms)
+
+
+def odd_of_threads(threads: List[Row], comms: List[Row]) -> Optional[str]:
+    """Returns what of the threads and communicators of a process can't be together, or None."""
     if not all(map(is_whole, threads)):
         return "threads"
     if [comm["id"] for comm in comms[:1]] != [WORLD]:
