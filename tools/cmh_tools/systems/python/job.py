@@ -5,6 +5,7 @@ as long as they are few, for a wait that it alone might end is one that nobody i
 """
 from __future__ import annotations
 
+import functools
 import re
 from collections import defaultdict
 from itertools import chain
@@ -119,9 +120,16 @@ class PythonJob:
         """Those who may end a task, a future or a child: who has it in a variable, and whose code may cancel any. Of
         one that isn't told from others, whoever has any."""
         holders = holders_in(self.look)
-        keys = [holders.get(key, []), holders[None]] if isinstance(key, str) else holders.values()
-        lists: List[Sequence[str]] = [self.names_of(chain.from_iterable(keys)), self.cancelling if is_work else []]
+        own = holders.get(key, []) if isinstance(key, str) else chain.from_iterable(holders.values())
+        is_shared = isinstance(key, str) and len(holders[None]) > FEW  # (then all that are held so share a list)
+        names = [self.names_of(own), self.holding_any] if is_shared else [self.names_of(chain(own, holders[None]))]
+        lists: List[Sequence[str]] = [*names, self.cancelling if is_work else []]
         return tuple([wakers("cancels" if is_work else "kills", names) for names in lists if names])
+
+    @functools.cached_property
+    def holding_any(self) -> List[str]:
+        """Those who may have any task or child in a variable."""
+        return self.names_of(holders_in(self.look)[None])
 
     def loop_of(self, row: PythonRow) -> Optional[Dict[str, Any]]:
         return self.look.loops.get(row.more.get("loop"))
