@@ -4,14 +4,14 @@ from __future__ import annotations
 
 from typing import Any, Optional, Sequence, Tuple
 
-from .answer import Tree, answer
+from .answer import answer
 from .command import CommandParser, notes_path, run
 from .dump import Dump
-from .explain import Explanation
 from .files import Failure, hindrance, say, shown, write_out
 from .loading import load
+from .say.screen import More, screen
+from .say.view import Tree
 from .say.whole import summary, whole, why
-from .screen import More, screen
 from .sketch import BARE, near_name, quote
 from .terminal import show, style_of_output
 
@@ -96,7 +96,8 @@ def answer_on_files(asked: Any) -> int:
         from .forms import check_form
         check_form(asked)
     dump, noted, old = load_all(asked)
-    tree = write_answer(asked, dump, noted, old)
+    tree = answer(dump, noted, None if asked.why is None else index_of(dump, asked.why))
+    write_answer(asked, tree, None if old is None else answer(old))
     is_screen = not (is_form(asked) or asked.summary or asked.quiet or asked.all)
     if is_screen and tree["system"] in ("", BARE) and tree["warnings"]:
         say("\n".join(tree["warnings"]))
@@ -104,21 +105,19 @@ def answer_on_files(asked: Any) -> int:
     return status
 
 
-def write_answer(asked: Any, dump: Dump, noted: Optional[str], old: Optional[Dump] = None, more: More = More()) -> Tree:
-    """Prints the answer on a dump in the form that is asked for, and returns its tree. `more` has the commands that its
-    first screen names."""
+def write_answer(asked: Any, tree: Tree, old: Optional[Tree] = None, more: More = More()) -> None:
+    """Prints an answer in the form that is asked for, in a page maybe beside an older one. `more` has the commands that
+    its first screen names."""
     style = style_of_output(asked.color)
-    index = None if asked.why is None else index_of(dump, asked.why)
-    tree = answer(dump, noted, index)
     if is_form(asked):
         from .forms import write_form
-        write_form(asked, tree, None if old is None else answer(old), style)
+        write_form(asked, tree, old, style)
     elif asked.summary:
         write_out(summary(tree, style))
     elif not asked.quiet:
-        text = whole(tree, style) if asked.all else screen(Explanation(dump, asked.all, style), more)
-        show(text if index is None else why(tree, asked.all, style), asked.pager)
-    return tree
+        text = why(tree, asked.all, style) if tree["why"] is not None else \
+            whole(tree, style) if asked.all else screen(tree, more, style)
+        show(text, asked.pager)
 
 
 def main(words: Sequence[str]) -> int:

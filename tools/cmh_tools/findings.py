@@ -11,7 +11,7 @@ from .reasons import Reason, Rests, counts_of
 from .doubts import Doubt
 from .rule import Decision
 from .roots import Knots, Roots, count_waiters, edges_among, ends, without_hubs
-from .sketch import ALL, ANY, ENDED, LIMIT, RUNS, UNKNOWN, Process, premise
+from .sketch import ALL, ANY, ENDED, RUNS, UNKNOWN, Process
 from .steps import way
 from .stuck import Answer, Waits
 from .words import first_words, with_address
@@ -81,16 +81,6 @@ class Findings(Verdicts):
         """Returns those that aren't stuck and wait for nobody, idle ones too."""
         return [at for at in self.well if self.waits.kinds[at] == RUNS or at in self.quiet]
 
-    def is_hidden_by_sleepers(self) -> bool:
-        """Whether some would be likely to be stuck if those who sleep were seen to come back to their loops, as a look
-        of a minute would show."""
-        times = self.dump.sketch.times
-        if times and times[-1][0] - times[0][1] >= MINUTE:
-            return False
-        subjects = [subject._replace(sign=Sign.TICKS) if subject.sign is Sign.SLEEPS else subject
-                    for subject in self.original.waits.subjects]
-        return self.headline is Headline.NOT_KNOWN and bool(Decision(subjects).likely)
-
     # Doubts
 
     def is_certain(self, number: int) -> bool:
@@ -106,14 +96,6 @@ class Findings(Verdicts):
             self.known_doubts[key] = [doubt for doubt, waits in zip(self.original.doubts, self.doubted)
                                       if not waits.isdisjoint(names)]
         return self.known_doubts[key]
-
-    def reason_of_doubt(self, doubt: Doubt) -> str:
-        """Returns why all of those rest of whom a doubt is, or in which function they poll, or nothing."""
-        index = self.waits.index
-        there = [self.waits.processes[index[name]] for name in doubt.who if name in index]
-        reasons = {process.reason if doubt.sign is not Sign.POLLS else "".join(process.frames[:1]).partition(" (")[0]
-                   for process in there}
-        return reasons.pop() if len(reasons) == 1 else ""
 
     # One process
 
@@ -206,18 +188,19 @@ class Findings(Verdicts):
         found = ends(self.high)
         return {at: end for at, end in found.items() if at != end}
 
-    def runners_by_premise(self, with_limits: bool = False) -> Dict[str, List[int]]:
-        """Returns the premises on which some run, with these; also that a limit of their wait ends, if it is asked."""
-        runners: Dict[str, List[int]] = {}
-        for at in self.runners():
-            for reason in self.waits.processes[at].because if self.waits.kinds[at] == RUNS else ():
-                name = reason.partition("premise ")[2]
-                if name and (with_limits or reason != premise(LIMIT)):
-                    runners.setdefault(name, []).append(at)
-        return runners
-
     def lines_on_limits(self) -> List[Line]:
         """Returns the lines of facts that would decide those that stood with a limit at the same place in all states,
         with these."""
         some = [it for it in self.processes(self.runners()) if is_limited_still(it)]
         return lines_of(some, Words(self.waits.processes)) if some else []
+
+
+def is_hidden_by_sleepers(dump: Dump) -> bool:
+    """Whether some would be likely to be stuck if those who sleep were seen to come back to their loops, as a look of a
+    minute would show."""
+    times = dump.sketch.times
+    if dump.waits.decision.headline is not Headline.NOT_KNOWN or times and times[-1][0] - times[0][1] >= MINUTE:
+        return False
+    subjects = [subject._replace(sign=Sign.TICKS) if subject.sign is Sign.SLEEPS else subject
+                for subject in dump.waits.subjects]
+    return bool(Decision(subjects).likely)

@@ -30,7 +30,9 @@ def load(path: str, has_no_notes: bool, more: Sequence[str] = ()) -> Loaded:
     tree = tree_of(data, path)
     sketch = sketch_in(tree, data, [path, *more])
     if sketch is not None:
-        return confirm_both(Dump(sketch)), None
+        dump = Dump(sketch)
+        confirm(dump)
+        return dump, None
     if more:
         raise Failure(f"several files are states of one system; {shown(path)} has none", 2)
     if has_no_notes or path == "-" or not os.path.exists(notes):
@@ -81,15 +83,8 @@ def load_noted(data: bytes, path: str, notes: str, read: Read = read_text) -> Lo
     """Returns a dump with its notes."""
     dump, noted = dump_of_notes(text_of_bytes(data, path), path, notes, read)
     named = compare_programs(noted.get("program"))
-    return confirm_both(dump), named
-
-
-def confirm_both(dump: Dump) -> Dump:
-    """Returns a dump, once the program has confirmed its answer and the likely one."""
     confirm(dump)
-    if dump.likely is not dump:
-        confirm(dump.likely)
-    return dump
+    return dump, named
 
 
 def compare_programs(noted: Any) -> Optional[str]:

@@ -15,7 +15,7 @@ from .files import MOST_OF_LINE, escaped, shown
 from .page_data import WORDS, Data, end_words, said_of, text_of_data
 from .page_look import FILTER, PAGE, PANEL, VIEW, script, style
 from .say.view import Tree, View
-from .say.whole import Whole
+from .say.whole import WholeText
 from .sketch import ALL, ANY, UNKNOWN
 from .steps import ways_of
 from .wait_graph import WaitGraph
@@ -163,7 +163,7 @@ class Page:
             yield from (f"<p>{text(line)}</p>" for line in self.advice() if not line.startswith(" "))
 
     def advice(self) -> List[str]:
-        return Whole(self.tree, self.view.everything).advice()
+        return WholeText(self.tree, self.view.everything).advice()
 
     def root(self, row: Tree) -> str:
         number, members = row["root"], row["members"]

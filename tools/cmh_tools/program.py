@@ -145,14 +145,17 @@ def mismatch(what: str) -> Failure:
 
 
 def confirm(dump: Dump) -> None:
-    """Has the program confirm both answers of a dump that it can take, once if they have the same dump. Raises Failure
-    if it calls others deadlocked than the search found."""
-    if dump.is_too_large:
-        return
-    low, high = (dump.text(answer).encode() for answer in (dump.low, dump.high))
-    names = deadlocked_names(low)
-    compare(dump, dump.low, names, "low")
-    compare(dump, dump.high, names if high == low else deadlocked_names(high), "high")
+    """Has the program confirm as much of an answer as it can take: who is stuck for certain, and by the likely one,
+    which has these too, who is likely to be, and of whom it isn't known. It gets each text once. Raises Failure if it
+    calls others deadlocked than the search found."""
+    likely = dump.likely
+    rows = dict.fromkeys([(dump, dump.low, "low"), (likely, likely.low, "low"), (likely, likely.high, "high")])
+    known: Dict[str, Set[str]] = {}
+    for made, answer, which in (row for row in rows if not row[0].is_too_large):
+        text = made.text(answer)
+        if text not in known:
+            known[text] = deadlocked_names(text.encode())
+        compare(made, answer, known[text], which)
 
 
 def compare(dump: Dump, answer: Answer, names: Set[str], which: str) -> None:

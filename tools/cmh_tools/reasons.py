@@ -1,14 +1,11 @@
-"""What an answer rests on: facts, premises, what the system keeps; as data, and in words for its reader."""
+"""What an answer rests on: facts, premises, what the system keeps."""
 from __future__ import annotations
 
 from typing import Collection, Dict, Iterable, List, NamedTuple
 
-from .facts import is_variable
-from .files import MOST_OF_LINE, short_name, shown
 from .model import Sign
-from .sketch import BARE, BY_HAND, FACT, OLDER, PREMISE, SYSTEM, Process, Sketch, lists_of_wakers, reason_of
+from .sketch import BY_HAND, FACT, OLDER, PREMISE, SYSTEM, Process, Sketch, lists_of_wakers, reason_of
 
-SHOWN = 5
 WORDS = {SYSTEM: "what the system itself keeps", BY_HAND: "what stands in the sketch",
          OLDER: "an older version of cmh-dump, whose notes don't say on what"}
 
@@ -28,7 +25,6 @@ class Rests:
 
     def __init__(self, sketch: Sketch) -> None:
         self.sketch = sketch
-        self.took = {reason_of(row): row["took"] for row in sketch.facts}
         self.facts = {reason_of(row): row["text"] for row in sketch.facts}
         self.ended = {it.name: it for it in sketch.processes if it.sign is Sign.ENDED and it.because != [SYSTEM]}
 
@@ -56,10 +52,6 @@ class Rests:
             return Reason(PREMISE, name, self.sketch.premises.get(name, name), number)
         return Reason(text, "", WORDS[text], number)
 
-    def took_by(self, reason: Reason) -> Dict[str, List[str]]:
-        """Returns the names that each word of a line took, if the reason is one."""
-        return self.took.get(f"{reason.kind} {reason.name}", {})
-
 
 def counts_of(processes: Iterable[Process]) -> Dict[str, int]:
     """Returns how many of some processes rest on each reason; what the system keeps counts where it is all."""
@@ -69,47 +61,3 @@ def counts_of(processes: Iterable[Process]) -> Dict[str, int]:
             if reason != SYSTEM or process.because == [SYSTEM]:
                 counts[reason] = counts.get(reason, 0) + 1
     return counts
-
-
-# In words
-
-
-def rests_lines(rests: Rests, found: List[Reason], everything: bool) -> List[str]:
-    """Returns the paragraph on what is said of some processes: each fact, and each premise with the number of
-    processes that rest on it."""
-    if [it.kind for it in found] == [BY_HAND]:
-        return [f"Rests on {'what stands in the dump' if rests.sketch.system == BARE else WORDS[BY_HAND]}."]
-    number = rests.sketch.readings
-    states = "one state" if number == 1 else f"{'two' if number == 2 else number} states"
-    return [f"Rests on: {states}, and on", *rows(rests, found, everything)] if found else []
-
-
-def more_lines(rests: Rests, found: List[Reason], everything: bool) -> List[str]:
-    """Returns the same of processes behind others, without what these rest on."""
-    return ["These rest on that, and on", *rows(rests, found, everything)] if found else []
-
-
-def rows(rests: Rests, found: List[Reason], everything: bool) -> List[str]:
-    lines = []
-    for reason in found:
-        lines += [f"  {words(reason)} ({reason.number:,})", *took_lines(rests, reason, everything)]
-    return lines
-
-
-def took_lines(rests: Rests, reason: Reason, everything: bool) -> List[str]:
-    """Returns a line for each pattern of a fact, with the processes that it took. Where it takes others for each that
-    waits, these stand in the line of that one."""
-    took = rests.took_by(reason)
-    return [f"      {short_name(word)}: {some([*map(short_name, names)], everything)}" for word, names in took.items()
-            if names != [word] and not is_variable(word)]
-
-
-def some(names: List[str], everything: bool) -> str:
-    most = len(names) if everything else SHOWN
-    return ", ".join(names[:most]) + (f" and {len(names) - most:,} more" if names[most:] else "")
-
-
-def words(reason: Reason) -> str:
-    if reason.kind == FACT:
-        return f"{shown(reason.name)}: {shown(reason.text, MOST_OF_LINE)}"
-    return f"the premise that {shown(reason.text)}" if reason.kind == PREMISE else reason.text

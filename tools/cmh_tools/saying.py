@@ -6,13 +6,14 @@ import re
 import time
 from typing import Callable, Dict, List
 
+from .answer import doubt_rows
 from .doubts import Doubt
 from .dump import Dump
-from .explain import Explanation
 from .facts import Facts, read_facts
 from .files import Failure, Refusal, decode, shown
 from .folder import Folder, name_of_user
 from .model import HOWS
+from .say.view import Tree
 
 NUMBERS = re.compile(r"[1-9][0-9]{0,8}(?:,[1-9][0-9]{0,8})*")
 
@@ -37,20 +38,19 @@ def say_true(folder: Folder, path: str, numbers: List[int], dump: Dump, anew: Ca
         known = ", ".join(map(str, sorted(doubts))) or "none"
         raise Failure(f"--true: the answer in {shown(folder.path)} has no doubt {' and '.join(unknown)}; it has "
                       f"{known}", 2)
-    explanation = Explanation(dump)
+    rows = {row["number"]: row for row in doubt_rows(dump)}
     before = decode(folder.read_bytes(path), path) if folder.has(path) else ""
     text = before + ("" if before.endswith("\n") or not before else "\n")
-    text += "".join(lines_of(explanation, doubts[number]) for number in numbers)
+    text += "".join(lines_of(rows[number]) for number in numbers)
     check_gone([doubts[number] for number in numbers], anew(read_facts(text, path)))
     folder.write([(path, text)])
 
 
-def lines_of(explanation: Explanation, doubt: Doubt) -> str:
+def lines_of(doubt: Tree) -> str:
     """Returns the lines of facts that a doubt is none, below who said so and when."""
-    waits = [explanation.waits.index[name] for name in doubt.waits]
-    said = f"# {time.strftime('%Y-%m-%d %H:%M:%S')}, {name_of_user(os.getuid())} by --true: no doubt {doubt.number}, " \
-        f"that {explanation.doubt_words(doubt, waits)}"
-    return "".join(f"{line}\n" for line in [shown(said), *doubt.lines])
+    said = f"# {time.strftime('%Y-%m-%d %H:%M:%S')}, {name_of_user(os.getuid())} by --true: no doubt " \
+        f"{doubt['number']}, that {doubt['says']}"
+    return "".join(f"{line}\n" for line in [shown(said), *doubt["facts"]])
 
 
 def check_gone(doubts: List[Doubt], dump: Dump) -> None:

@@ -15,23 +15,26 @@ from typing import Any, Dict, Iterator, List, NamedTuple, Optional, Sequence, Tu
 
 from cmh_proc.budget import BUDGET, size_in_words
 
+from .answer import answer
 from .captures import captures_for, labels_of, take
 from .command import CommandParser, is_notes, notes_path, put_away, run
 from .dump import Dump
 from .dump_command import NO_GUESSES
-from .explain import Explanation
-from .explain_command import add_answer_options, answer_on_files, write_answer
+from .explain_command import add_answer_options, answer_on_files, index_of, write_answer
 from .files import Failure, Refusal, say, shown, write_out
+from .findings import is_hidden_by_sleepers
 from .folder import Folder, NewFolder
 from .further import OPEN, more_ways, next_step, sight_of
 from .loading import load_noted
 from .memory import bound_memory
+from .program import confirm, identity
 from .recorded import (RECORD, facts_of, facts_path, keep_dump, look_of, new_dump, numbers_in, part_row, parts_of,
                        say_in, sketch_of_part, sketch_of_parts, write_facts)
 from .redact import redacted_texts
 from .running import proposals as what_runs
 from .saying import numbers_of
-from .screen import More, screen
+from .say.screen import More, screen
+from .say.view import Tree
 from .sketch import read_json
 from .sketch_json import sketch_of
 from .start import SIGNALS
@@ -228,7 +231,7 @@ def look_on(folder: Folder, parts: List[Capture], asked: argparse.Namespace) -> 
     """Looks anew as often as that may decide what is open, and costs little. Returns the dump of what was seen last."""
     made, seconds = new_dump(folder), SECONDS
     for _ in range(LOOKS):
-        further = next_look(Explanation(made), parts, seconds, asked.most_seconds or math.inf)
+        further = next_look(made, parts, seconds, asked.most_seconds or math.inf)
         if further is None or not has_more(folder, further, asked):
             break
         number = made.waits.number
@@ -247,17 +250,17 @@ def give_budget(parts: List[Capture], seconds: float, asked: argparse.Namespace)
     return f"{most:g} s and {size_in_words(size)}"
 
 
-def next_look(explanation: Explanation, parts: List[Capture], seconds: float, most: float) -> Optional[FurtherLook]:
+def next_look(made: Dump, parts: List[Capture], seconds: float, most: float) -> Optional[FurtherLook]:
     """Returns how to look anew, if that may decide what is open, for so many seconds at most: at the other ends of
     connections, or for longer."""
     if not all(part.is_light() for part in parts):
         return None
-    pids = taker_of(parts[0].system).ends(parts[0].targets, sight_of(explanation, [parts[0].system])) \
-        if not parts[1:] and explanation.headline in OPEN else []
+    pids = taker_of(parts[0].system).ends(parts[0].targets, sight_of(made, [parts[0].system])) \
+        if not parts[1:] and made.waits.decision.headline in OPEN else []
     if pids:
         more = Capture(KERNEL, pids, label=KERNEL)
         return FurtherLook([*parts, more], seconds, "some wait at connections: looking at these too")
-    if explanation.is_hidden_by_sleepers() and seconds < LONGER < most:
+    if is_hidden_by_sleepers(made) and seconds < LONGER < most:
         return FurtherLook(parts, LONGER, f"who sleeps may only come back to its loop: looking for {LONGER:g} s")
     return None
 
@@ -347,36 +350,31 @@ def explain(folder: Folder, asked: argparse.Namespace, made: Optional[Dump] = No
     proposals = keep_dump(folder, made, folder.at("dump.json"))
     if is_one:
         write_facts(folder, facts_path(folder), made.sketch, proposals)
-    number = made.waits.number
-    del made, proposals
-    put_away(number)
-    explanation = answer(folder, asked, look_of(parts) if asked.timeout is None else "")  # (or nobody is left)
+    confirm(made)
+    tree = answer(made, identity()["sha256"], None if asked.why is None else index_of(made, asked.why))
+    show_answer(folder, tree, asked, look_of(parts) if asked.timeout is None else "")  # (or nobody is left)
     say_unkept(folder)
     if asked.guesses:
         say(NO_GUESSES)
-    ways = more_ways(parts, explanation, folder) if asked.timeout is None else ()  # (of --timeout nobody is left)
-    steps = [*ways, *next_step(folder, parts, explanation)]
+    ways = more_ways(parts, made, folder) if asked.timeout is None else ()  # (of --timeout nobody is left)
+    steps = [*ways, *next_step(folder, parts, tree)]
     if steps:
         say("\n".join(steps))
-    return explanation.status()
+    status: int = tree["status"]
+    return status
 
 
-def answer(folder: Folder, asked: Optional[argparse.Namespace] = None, look: str = "") -> Explanation:
-    """Keeps the first screen of the answer to the dump of a folder there, and prints that, or what is asked of it, with
-    colours on a terminal. `look` takes it anew. A copy, of which nothing is asked, has no name of its folder."""
-    path = folder.at("dump.json")
-    dump, noted = load_noted(folder.read_bytes(path), path, notes_path(path), folder.read_text)
-    explanation = Explanation(dump, False)
+def show_answer(folder: Folder, tree: Tree, asked: Optional[argparse.Namespace] = None, look: str = "") -> None:
+    """Keeps the first screen of an answer in a folder, and prints that, or what is asked of it, with colours on a
+    terminal. `look` takes it anew. A copy, of which nothing is asked, has no name of its folder."""
     is_kept = folder.has_file(folder.at(RECORD))
     more = More(f"cmh-stall {shlex.quote(folder.path)}", True, look) if is_kept else More(look, False, look)
     more = more if asked else More("cmh-explain dump.json")
-    folder.keep([(folder.at("answer"), screen(explanation, more))])
+    folder.keep([(folder.at("answer"), screen(tree, more))])
     if asked is None:
-        explanation.style = style_of_output()
-        write_out(screen(explanation, more))
+        write_out(screen(tree, more, style_of_output()))
     else:
-        write_answer(asked, dump, noted, more=more)
-    return explanation
+        write_answer(asked, tree, more=more)
 
 
 def redact_folder(folder: Folder) -> int:
@@ -387,11 +385,15 @@ def redact_folder(folder: Folder) -> int:
         raise Refusal(f"{shown(path)}: it has no 'sketch', so these are no notes of cmh-dump")
     sketch = sketch_of(notes["sketch"], path)
     with folder.folder("redacted") as new:
-        new.write([(new.at(name), text) for name, text in redacted_texts(sketch)])
-        status = answer(new).status()
+        texts = dict(redacted_texts(sketch))
+        new.write([(new.at(name), text) for name, text in texts.items()])
+        dump, noted = load_noted(texts["dump.json"].encode(), "dump.json", "dump.notes.json", texts.__getitem__)
+        tree = answer(dump, noted)
+        show_answer(new, tree)
         if new.fault is not None:
             raise new.fault
     say(f"The copy is in {shown(new.path)}")
+    status: int = tree["status"]
     return status
 
 

@@ -23,7 +23,7 @@ from harness import PROGRAM, SECONDS, Case, Ran, check_faults, read, run, write 
 
 os.environ["CMH"] = PROGRAM
 from cmh_tools import dump_command, explain_command  # noqa: E402
-from cmh_tools.explain import Explanation  # noqa: E402
+from cmh_tools.findings import Findings  # noqa: E402
 from cmh_tools.proposals import propose  # noqa: E402
 from cmh_tools.sketch_json import sketch_of  # noqa: E402
 from cmh_tools.stuck import Waits  # noqa: E402
@@ -198,7 +198,7 @@ class RootsCase(Case):
     def try_roots(self, name, sketch, dump, stuck):
         """The certain roots of a dump, and who is behind them, are those of the sketch, of which some are stuck."""
         names = [row["name"] for row in sketch["processes"]]
-        this = Explanation(dump)
+        this = Findings(dump)
         found, numbers = this.roots, [at for at in range(len(this.roots.roots)) if this.is_certain(at)]
         roots, behind = plain_roots(plain_edges(sketch, stuck))
         self.same(f"the roots of {name}", {frozenset(names[at] for at in found.roots[it]) for it in numbers}, roots)

@@ -177,6 +177,15 @@ class View:
         """Whether one is stuck, or frees nobody as it has ended."""
         return self.rows[index]["verdict"] in (STUCK, LIKELY, ENDED)
 
+    def along_paths(self) -> List[int]:
+        """Returns those whom somebody may unblock, each followed by the others on its path."""
+        seen: Dict[int, None] = {}
+        for index in range(len(self.rows)):
+            while self.rows[index]["unblocked_by"] is not None and index not in seen:
+                seen[index] = None
+                index = self.index[self.rows[index]["freed_by"]]
+        return [*seen]
+
     # Doubts
 
     def doubt_words(self, doubt: Tree, members: Sequence[int]) -> str:

@@ -16,7 +16,7 @@ from .view import GOES_ON, LIKELY, LINES, NOT_STUCK, RUNNING, STUCK, UNDECIDED, 
 UNSAID = "it isn't said why"
 
 
-class Whole(View):
+class WholeText(View):
     """All that is said of an answer."""
 
     def lines(self, index: int, more: Sequence[int] = ()) -> List[str]:
@@ -209,15 +209,6 @@ class Whole(View):
         return lines + self.first([f"  {self.name(index)}: {self.goes_on_words(index)}" for index in alone],
                                   ("process", "processes"))
 
-    def along_paths(self) -> List[int]:
-        """Returns those whom somebody may unblock, each followed by the others on its path."""
-        seen: Dict[int, None] = {}
-        for index in range(len(self.rows)):
-            while self.rows[index]["unblocked_by"] is not None and index not in seen:
-                seen[index] = None
-                index = self.index[self.rows[index]["freed_by"]]
-        return [*seen]
-
     def supposed_lines(self) -> List[str]:
         """Those that run on a premise alone, but for a limit of their wait."""
         sentences = {row["name"]: row["text"] for row in self.tree["premises"]}
@@ -275,16 +266,16 @@ class Whole(View):
 
 def whole(tree: Tree, style: Style = PLAIN) -> str:
     """Returns all of an answer in words."""
-    return fill(Whole(tree, True, style).paragraphs(), style)
+    return fill(WholeText(tree, True, style).paragraphs(), style)
 
 
 def why(tree: Tree, everything: bool = False, style: Style = PLAIN) -> str:
     """Returns the chain of the one that is asked for."""
-    return fill(Whole(tree, everything, style).why(), style)
+    return fill(WholeText(tree, everything, style).why(), style)
 
 
 def summary(tree: Tree, style: Style = PLAIN) -> str:
     """Returns the first line, or that of the chain of the one that is asked for."""
-    view = Whole(tree, False, style)
+    view = WholeText(tree, False, style)
     line = view.counts_line() if tree["why"] is None else view.why_head()
     return lay_out(line, style._replace(width=len(line) + 1)) + "\n"
