@@ -78,8 +78,8 @@ class LikelyAnswer(NamedTuple):
 
 class Dump:
     """The dumps of a sketch. `kept` are the indices of those in them, `left_out` of those that aren't, and `folded` has
-    who stands for each of the others. `named` has the names in the dump, also of hubs, and `known` the keys of doubts in
-    the order of their numbers."""
+    who stands for each of the others. `named` has the names in the dump, also of hubs, and `known` the keys of doubts
+    in the order of their numbers."""
 
     def __init__(self, sketch: Sketch, known: Sequence[str] = (), certain: Optional[Dump] = None,
                  waits: Optional[Waits] = None) -> None:
