@@ -72,11 +72,12 @@ class Likely:
         """Returns the doubts: those on members of roots first, and of these those that most often hold."""
         families: Dict[str, List[Aside]] = {}
         groups: Dict[str, List[Aside]] = {}
-        for aside in self.decision.doubts_of_likely:
+        all_asides = self.decision.doubts(sorted(self.decision.likely))
+        for aside in all_asides:
             families.setdefault(self.key_of(aside), []).append(aside)
         for key, asides in families.items():
             groups.setdefault(self.kind_of(key, asides), []).extend(asides)
-        lists = {id(aside.waits): aside.waits for aside in self.decision.doubts_of_likely}
+        lists = {id(aside.waits): aside.waits for aside in all_asides}
         of_members = {key for key, waits in lists.items() if not members.isdisjoint(waits)}
         on_roots = {key for key, asides in groups.items() if any(id(aside.waits) in of_members for aside in asides)}
         order = sorted(groups, key=lambda key: (key not in on_roots, *self.place(groups[key][0])))

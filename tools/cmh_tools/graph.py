@@ -4,7 +4,7 @@ from __future__ import annotations
 
 from typing import AbstractSet, Dict, Iterable, List, Mapping, Optional, Sequence, Tuple, Union
 
-from .model import Anybody, Part, Sign, Strength, Subject, Who
+from .model import Anybody, Part, Sign, Strength, Subject, Who, once
 
 FEW = 4  # wakers of a list that stand for themselves
 Way = Union[Strength, str]  # in which wakers count
@@ -79,3 +79,16 @@ class Graph:
                         reached[other] = cause
                         todo.append(other)
         return reached
+
+
+def shared_waits(subjects: Sequence[Subject], numbers: Iterable[int]) -> Iterable[List[int]]:
+    """Returns those of some who share each wait. Who may end one of several parts by reach has its own, as it isn't
+    left there for itself."""
+    able = once(lambda parts: {name for part in parts for wakers in part if wakers.strength is Strength.ABLE
+                               for name in wakers.names()})
+    waits: Dict[object, List[int]] = {}
+    for number in numbers:
+        name, sign, parts = subjects[number]
+        is_own = len(parts) == 1 or name in able(parts)
+        waits.setdefault(number if is_own else (id(parts), sign), []).append(number)
+    return waits.values()

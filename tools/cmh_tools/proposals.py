@@ -112,7 +112,7 @@ def is_by_reach(process: Process) -> bool:
 def freeing_lines(waits: Waits) -> List[Proposal]:
     """Returns a line for those who may end the wait of some, likely end none, and alone keep these from being stuck."""
     groups: Dict[int, List[Aside]] = {}  # by the ids of those that wait
-    for doubt in waits.decision.doubts_of_likely:
+    for doubt in waits.decision.doubts(sorted(waits.decision.likely)):
         groups.setdefault(id(doubt.waits), []).append(doubt)
     lists: Dict[Tuple[str, ...], Dict[str, None]] = {}
     for doubts in groups.values():

@@ -16,8 +16,8 @@ from functools import cached_property
 from itertools import chain
 from typing import AbstractSet, Collection, Dict, Iterable, Iterator, List, Optional, Sequence, Set, Tuple
 
-from .graph import Counts, Graph, Reached, Way
-from .model import Anybody, Aside, Headline, Part, Sign, Strength, Subject, Wakers, Who, once
+from .graph import Counts, Graph, Reached, Way, shared_waits
+from .model import Anybody, Aside, Headline, Part, Sign, Strength, Subject, Wakers, Who
 
 NAMED, ABLE, BESIDE, AT_REST = Strength.NAMED, Strength.ABLE, "beside a named one", "of one at rest"  # ways
 PRESENT, IDLE = frozenset(Sign), frozenset((Sign.RESTS, Sign.TICKS, Sign.POLLS))
@@ -43,7 +43,7 @@ class Decision:
         self.index, self.signs, self.nobody = self.graph.index, self.graph.signs, self.graph.nobody
         self.kept: Dict[Tuple[int, Way], Sequence[str]] = {}
         self.waits: Dict[int, List[Tuple[Part, int]]] = {}  # the parts of each with their nodes, one list for all of it
-        for owners in self.shared_waits():
+        for owners in shared_waits(self.subjects, sorted(self.blocked | self.resting)):
             self.waits.update(dict.fromkeys(owners, self.add_wait(owners)))
         if any(sign in IDLE for sign in self.signs):
             self.rest_behind_idle()
@@ -57,18 +57,6 @@ class Decision:
         self.unlikely = self.outside(self.blocked, self.certain, LEFT, over)
         self.likely = (self.blocked | self.certain).difference(self.unlikely)
         self.freed = self.freed_of(self.blocked - self.certain, FREE)
-
-    def shared_waits(self) -> Iterable[List[int]]:
-        """Returns those who share each wait. Who may end one of several parts by reach has its own, as it isn't left
-        there for itself."""
-        able = once(lambda parts: {name for part in parts for wakers in part if wakers.strength is ABLE
-                                   for name in wakers.names()})
-        waits: Dict[object, List[int]] = {}
-        for number in sorted(self.blocked | self.resting):
-            name, sign, parts = self.subjects[number]
-            is_own = len(parts) == 1 or name in able(parts)
-            waits.setdefault(number if is_own else (id(parts), sign), []).append(number)
-        return waits.values()
 
     def add_wait(self, owners: Sequence[int]) -> List[Tuple[Part, int]]:
         _, sign, parts = self.subjects[owners[0]]
@@ -85,8 +73,7 @@ class Decision:
 
     def outside(self, waiting: AbstractSet[int], sure: AbstractSet[int] = frozenset(), counts: Counts = EVERYBODY,
                 over: Iterable[int] = ()) -> Reached:
-        """Returns who is outside of the greatest set of those that wait and of sure ones, with the parts that are over.
-        """
+        """Returns who isn't in the greatest set of those that wait and of sure ones, whose parts aren't over."""
         others = [number for number, subject in enumerate(self.subjects) if number not in waiting
                   and number not in sure and subject.sign is not Sign.ENDED]
         return self.graph.reach([self.nobody, *over, *others], waiting - sure, counts)
@@ -112,14 +99,9 @@ class Decision:
         named = {number for number in self.resting if any(map(self.has_named, self.subjects[number].parts))}
         return named and named - self.freed_of(self.blocked | self.resting, FEED).keys()
 
-    # Who is left, and who is set aside
-
     def has_named(self, part: Part) -> bool:
         """Whether a named one of a part is there."""
-        for wakers in part:  # (a loop takes half as long as `any`)
-            if wakers.strength is NAMED and not self.index.keys().isdisjoint(wakers.names()):
-                return True
-        return False
+        return any(wakers.strength is NAMED and not self.index.keys().isdisjoint(wakers.names()) for wakers in part)
 
     def ways_of(self, part: Part) -> Sequence[Way]:
         """Returns in which way each wakers of a part count."""
@@ -144,10 +126,6 @@ class Decision:
         """Returns the parts by which one is likely to be stuck, and not for certain."""
         return [part for part, node in self.waits[number] if node not in self.unlikely]
 
-    @cached_property
-    def doubts_of_likely(self) -> List[Aside]:
-        return self.doubts(sorted(self.likely))
-
     def doubts(self, root: Collection[int]) -> List[Aside]:
         """Returns on whom it hangs that the members of a likely root are stuck."""
         members = set(root)
@@ -160,14 +138,12 @@ class Decision:
         return [Aside(*key, names_in(lists)) for key, lists in found.items()]
 
     def may_free(self, name: Optional[str], members: Set[int]) -> bool:
-        """Whether one who was set aside may free a member of a root. Nobody does who has ended or is stuck for certain,
-        and no member does so as the first."""
+        """Whether one who was set aside may free a member: not who has ended, is stuck for certain, or is one itself."""
         number = self.nobody if name is None else self.index.get(name, self.nobody)
         return not (number in members or number in self.certain or self.signs[number] is Sign.ENDED)
 
     def holding_wakers(self, root: Iterable[int]) -> Iterator[Tuple[Wakers, Sequence[str], Sequence[str]]]:
-        """Yields the wakers of those parts by which members are likely to be stuck, each list with those of it who are
-        left and the names of all members that share it."""
+        """Yields the wakers of parts by which members are likely to be stuck, with who is left, and these members."""
         owners: Dict[int, Tuple[int, List[str]]] = {}
         for number in root:
             if number not in self.certain:
@@ -184,10 +160,8 @@ class Decision:
 def is_left(owner: str, part: Part, left: Sequence[Sequence[str]]) -> bool:
     """Whether somebody is left in a part beside the waiter: it may stand in the list that all of its process share, and
     it wakes nobody while it waits."""
-    for wakers, names in zip(part, left):
-        if len(names) > 1 or names and (names[0] != owner or wakers.strength is NAMED):
-            return True
-    return False
+    return any(len(names) > 1 or names and (names[0] != owner or wakers.strength is NAMED)
+               for wakers, names in zip(part, left))
 
 
 def names_in(lists: Dict[int, Sequence[str]]) -> Sequence[str]:
