@@ -138,7 +138,7 @@ class Decision:
         return [Aside(*key, names_in(lists)) for key, lists in found.items()]
 
     def may_free(self, name: Optional[str], members: Set[int]) -> bool:
-        """Whether one who was set aside may free a member: not who has ended, is stuck for certain, or is one itself."""
+        """Whether one who was set aside may free a member: not who has ended, is certainly stuck, or is one itself."""
         number = self.nobody if name is None else self.index.get(name, self.nobody)
         return not (number in members or number in self.certain or self.signs[number] is Sign.ENDED)
 
