@@ -12,10 +12,10 @@ from cmh_proc.process import MOST_WORDS, bytes_of, name_of, pids, stat_of, threa
 from .files import shown
 from .folder import name_of_user
 from .systems import NAMES, taker_of
+from .times import in_words
 
 WIDTH = 120  # of a command line
-UNITS = (86400, "days"), (3600, "hours"), (60, "minutes")
-AT_LEAST = 2  # of a unit, or a smaller one is named
+UNITS = {"d": "days", "h": "hours", "min": "minutes"}
 
 
 class Row(NamedTuple):
@@ -42,21 +42,16 @@ def proposals() -> List[str]:
 
 def details(row: Row, waited: Optional[float]) -> str:
     """Returns who runs a process, for how long it has been there and stood still, what sees it, and its words."""
-    still = "" if waited is None else ", it runs" if waited < 1 else f", no thread of it ran for {in_words(waited)}"
+    still = "" if waited is None else ", it runs" if waited < 1 else \
+        f", no thread of it ran for {in_words(waited, 2, UNITS)}"
     line = shown(" ".join(words_of(row.pid)).strip())
     line = line if len(line) <= WIDTH else f"{line[:WIDTH]} .."
-    return f"{user(row.pid)}, begun {in_words(age_of(row.pid))} ago{still}; {row.inside}: {line}"
+    return f"{user(row.pid)}, begun {in_words(age_of(row.pid), 2, UNITS)} ago{still}; {row.inside}: {line}"
 
 
 def user(pid: int) -> str:
     number = user_of(pid)
     return "?" if number is None else shown(name_of_user(number))
-
-
-def in_words(seconds: float) -> str:
-    """Returns a time in its largest unit of which there are several."""
-    size, unit = next(((size, unit) for size, unit in UNITS if seconds >= AT_LEAST * size), (1, "s"))
-    return f"{seconds / size:.0f} {unit}"
 
 
 def age_of(pid: int) -> float:

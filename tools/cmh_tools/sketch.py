@@ -331,18 +331,25 @@ def near_name(name: str, names: Iterable[str]) -> str:
     return f"; is {quote(near[0])} meant?" if near else ""
 
 
+class RepeatedKey(ValueError):
+    """An object of JSON has a key twice: which of its values holds isn't known."""
+
+
+def once_each(pairs: List[Tuple[str, Any]]) -> Dict[str, Any]:
+    """Returns an object of JSON. Raises RepeatedKey if it has a key twice."""
+    row = dict(pairs)
+    if len(row) < len(pairs):
+        (key, _), = Counter(key for key, _ in pairs).most_common(1)
+        raise RepeatedKey(f"an object has the key {quote(key)} twice")
+    return row
+
+
 def read_json(text: str, where: str) -> Any:
     """Returns the tree of a JSON text. Raises Refusal if it is none, or writes a key of an object twice."""
-
-    def pairs(rows: List[Tuple[str, Any]]) -> Dict[str, Any]:
-        tree = dict(rows)
-        if len(tree) != len(rows):
-            (key, _), = Counter(key for key, _ in rows).most_common(1)
-            raise Refusal(f"{shown(where)}: an object has the key {quote(key)} twice")
-        return tree
-
     try:
-        return json.loads(text, object_pairs_hook=pairs)
+        return json.loads(text, object_pairs_hook=once_each)
+    except RepeatedKey as error:
+        raise Refusal(f"{shown(where)}: {error}") from None
     except RecursionError as error:
         raise Refusal(f"{shown(where)}: it is nested too deep") from error
     except json.JSONDecodeError as error:

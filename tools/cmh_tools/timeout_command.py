@@ -21,6 +21,7 @@ from cmh_proc.process import environment_of
 from .descendants import Descendant, adopt_orphans, descendants, row_of
 from .files import cause_of, say, shown
 from .start import shortage
+from .times import SECONDS, seconds_in
 
 NOT_LOOKED_AT = "its processes couldn't be looked at"
 TIMED_OUT, FAULT, CANNOT_RUN, NOT_FOUND = 124, 125, 126, 127  # statuses, as timeout(1) has them
@@ -29,8 +30,7 @@ PASSED_ON = {signal.SIGHUP, signal.SIGINT, signal.SIGQUIT, signal.SIGTERM, signa
 WATCHED = PASSED_ON | {signal.SIGCHLD, signal.SIGTTIN, signal.SIGTTOU}
 HURRIES = (signal.SIGHUP, signal.SIGINT, signal.SIGQUIT, signal.SIGTERM)  # end the look, and then the patience
 OF_KERNEL = 0x80  # the si_code of a signal that a terminal sends to its whole group
-NUMBER = re.compile(r"((?:\d+\.?\d*|\.\d+)(?:[eE][+-]?\d+)?)([smhd]?)")
-UNITS = {"": 1, "s": 1, "m": 60, "h": 3600, "d": 86400}
+UNITS = {"": 1.0, "s": 1.0, "m": SECONDS["min"], "h": SECONDS["h"], "d": SECONDS["d"]}
 LONGEST = 1e6  # seconds that the kernel is asked to wait at once
 LOOK = 120  # seconds that a look may take, besides those between its readings: half of them until all is read
 LEAST, MOST = 64, 1 << 20  # megabytes that a look may read
@@ -50,10 +50,10 @@ class TimeoutWords(argparse.ArgumentParser):
 
 def duration(text: str) -> float:
     """Returns a time in seconds, written as for timeout(1). Raises ValueError if it is none."""
-    number = NUMBER.fullmatch(text)
-    if not number:
+    seconds = seconds_in(text, UNITS)
+    if seconds is None:
         raise ValueError
-    return float(number[1]) * UNITS[number[2]]
+    return seconds
 
 
 def seconds_of(text: str) -> float:

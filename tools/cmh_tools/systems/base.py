@@ -17,14 +17,12 @@ from typing import Any, Callable, Dict, Iterable, Iterator, List, NamedTuple, Op
 from ..assumptions import sentence_of
 from ..files import Refusal, shown
 from ..model import Part, Wakers, once, unseen, wakers
-from ..sketch import Process, Sketch, quote
+from ..sketch import Process, Sketch, once_each, quote
 from ..snapshots import APART, CUT, OVERLAP, PARTS, WHOLE, Moments, Reading, compare, doubt_waits, left_out, \
     overlap, snapshots_of
 from . import State
 
-DAY = 86400.0
 FAR = 3600.0  # seconds: a limit that ends later helps nobody who looks on
-UNITS = ((2 * DAY, DAY, "days"), (7200.0, 3600.0, "h"), (120.0, 60.0, "min"), (0.0, 1.0, "s"))
 LOOPS = re.compile(r"(?i).*\.(?:\w*loop|(?:run|serve|monitor)\w*)")
 KEPT = 65536  # lists of reasons whose assumptions are kept
 COUNT = range(1 << 63)  # the shape of a number that counts something
@@ -203,15 +201,6 @@ def assumptions_in(because: Tuple[str, ...]) -> List[str]:
     return list(dict.fromkeys(reason.split(" ", 1)[1] for reason in because if reason.startswith("premise ")))
 
 
-def once_each(pairs: List[Tuple[str, Any]]) -> Dict[str, Any]:
-    """Returns an object of JSON. Raises ValueError if it has a key twice: which of its values holds isn't known."""
-    row = dict(pairs)
-    if len(row) < len(pairs):
-        (key, _), = Counter(key for key, _ in pairs).most_common(1)
-        raise ValueError(f"an object has the key {quote(key)} twice")
-    return row
-
-
 ROW = json.JSONDecoder(object_pairs_hook=once_each)  # (to make one for each line takes long)
 
 
@@ -357,9 +346,3 @@ def is_loop(function: str) -> bool:
 def one_line(text: str, width: int = 200) -> str:
     """Returns the beginning of a text on one line."""
     return re.sub(r"\s+", " ", text.strip())[:width]
-
-
-def duration(seconds: float) -> str:
-    """Returns a time as people say it: '27 h'."""
-    least, unit, name = next(row for row in UNITS if seconds >= row[0] or not row[0])
-    return f"{seconds / unit:.3g} {name}" if seconds < 1000 * unit else f"{seconds / unit:,.0f} {name}"

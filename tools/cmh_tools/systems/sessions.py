@@ -8,19 +8,13 @@ from typing import Any, Callable, Dict, Iterable, Iterator, List, NamedTuple, Op
 from ..files import Refusal, shown
 from ..model import Part, Sign, wakers
 from ..sketch import LIMIT, OF_SERVER, Sketch, goes_on, premise
+from ..times import in_words
 from .base import misfits, row_in
 
 Row = Dict[str, Any]
 SLACK = 2.0  # seconds by which a wait may outlast its limit, until that is carried out
 APART = 10.0  # seconds by which two clocks may differ in what passes between looks, as one of a busy machine
 OWN_LIMITS = "session-limits"  # stands for limits that sessions have set for themselves
-UNITS = ((86400, "d"), (3600, "h"), (60, "min"), (1, "s"))
-
-
-def words_for(seconds: float) -> str:
-    """Returns a time in words: '27 min'."""
-    size, unit = next(((size, unit) for size, unit in UNITS if seconds >= size), (1, "s"))
-    return f"{seconds / size:,.0f} {unit}"
 
 
 @dataclass(eq=False)
@@ -184,7 +178,7 @@ class SessionLimits:
 
     def name(self, what: str, session: int, left: float) -> str:
         """Returns the name of a limit that comes in some seconds, for a session."""
-        return self.names.setdefault((what, session), f"{what} in {words_for(max(left, 0))}")
+        return self.names.setdefault((what, session), f"{what} in {in_words(max(left, 0))}")
 
     def add_to(self, sketch: Sketch) -> None:
         """Adds those limits that stand among the wakers of somebody."""

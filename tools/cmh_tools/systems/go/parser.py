@@ -22,7 +22,8 @@ from ...model import COMES, Part, Sign, Wakers, all_of, any_of, unseen, wakers
 from ...sketch import GOING, LIMIT, SYSTEM, Process, Sketch, blocked, garbled, goes_on, premise, rests, unknown
 from ...snapshots import APART, CUT, GONE, ONCE, Reading
 from .. import State
-from ..base import FAR, Parser, Reachable, Snapshot, duration, without_sleep
+from ...times import duration
+from ..base import FAR, Parser, Reachable, Snapshot, without_sleep
 from .frames import (CONNECTION, NEEDS_ALL, WATCHER, WRITER, Caller, GoPlace, Receiver, accepts_for_library, callers_in,
                      cut_short, entry_of, functions_of, is_at_connection, is_of_runtime, lacks_wait, misplaced,
                      objects_of, own_calls, place_of, receivers_at, serves_request, takes_state, types_of,

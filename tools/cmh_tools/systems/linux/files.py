@@ -11,7 +11,8 @@ from ...model import Part, Sign, Wakers, any_of, unseen, wakers
 from ...sketch import LIMIT
 from .children import FOR_SIGNAL, wait_for_end, wait_for_signals
 from .frames import is_of_system
-from ..base import FAR, duration
+from ...times import duration
+from ..base import FAR
 from .limits import far_limit
 from .machine import MASTER, NOWHERE, TERMINAL, Host, LinuxThread, Owner, Row
 from .waits import (COMES, FILES, UNTIMED, Ease, LinuxWait, against, names_of_epoll, not_shown, not_understood,

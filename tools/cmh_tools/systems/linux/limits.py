@@ -8,7 +8,8 @@ from typing import Optional, Tuple
 from cmh_proc.calls import SLEEPS
 
 from ...model import Part, wakers
-from ..base import FAR, duration
+from ...times import duration
+from ..base import FAR
 from .machine import Host, LinuxThread
 
 LEAST = 10.0  # so far off may the clocks of processors be by which it is known when a thread ran last

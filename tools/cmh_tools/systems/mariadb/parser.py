@@ -20,7 +20,8 @@ from .. import State
 from ..base import Parser, Snapshot, one_line
 from .text import LINES, MariadbLook, seconds_of, words_in
 from ..sessions import SLACK, Lasting, SessionLimits, Row, check_server, check_times, client_words, connections_of, \
-    doubt_newcomers, end_of_socket, names_in, with_limits, words_for
+    doubt_newcomers, end_of_socket, names_in, with_limits
+from ...times import in_words
 
 LIMITS, TABLES = "session-limits", "named-tables"  # assumptions
 ENDLESS = 100_000_000  # innodb_lock_wait_timeout that stands for no limit
@@ -257,12 +258,12 @@ def more_of(row: Row, trx: Optional[Row], look: MariadbLook) -> Dict[str, Any]:
 
 def lasting(seconds: Optional[int]) -> str:
     """Returns in words for how long something lasts, or nothing where that isn't known."""
-    return "" if seconds is None else f" for {words_for(seconds)}"
+    return "" if seconds is None else f" for {in_words(seconds)}"
 
 
 def begun(trx: Row) -> str:
     """Returns in words when a transaction has begun, or nothing where that isn't known."""
-    return "" if trx["age"] is None else f", begun {words_for(trx['age'])} ago"
+    return "" if trx["age"] is None else f", begun {in_words(trx['age'])} ago"
 
 
 def renamed_in(before: MariadbLook, look: MariadbLook) -> Iterator[int]:

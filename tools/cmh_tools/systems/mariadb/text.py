@@ -3,11 +3,11 @@ is refused: its last line counts the others."""
 from __future__ import annotations
 
 import re
-from datetime import datetime, timezone
 from functools import cached_property
 from typing import Any, Dict, List, Optional, Set, Tuple
 
 from ...files import Refusal, shown
+from ...times import moment
 from ..sessions import Lines, Row, ServerLook
 
 NONE = type(None)
@@ -35,10 +35,10 @@ KEYS: Dict[str, Tuple[str, ...]] = {"thread": ("thread",), "transaction": ("of",
 
 def seconds_of(text: str) -> float:
     """Returns a time of the server's in seconds. Raises Refusal if a text is none."""
-    try:
-        return datetime.fromisoformat(text).replace(tzinfo=timezone.utc).timestamp()
-    except (ValueError, OverflowError) as error:
-        raise Refusal(f"{shown(text)} is no time") from error
+    seconds = moment(text)
+    if seconds is None:
+        raise Refusal(f"{shown(text)} is no time")
+    return seconds
 
 
 class MariadbLook(ServerLook):

@@ -17,9 +17,10 @@ from ...model import COMES, Part, Sign, all_of, any_of, unseen, wakers
 from ...sketch import LIMIT, SYSTEM, Process, Sketch, blocked, garbled, goes_on, premise, rests, unknown
 from ...snapshots import APART, Reading
 from .. import State
+from ...times import in_words
 from ..base import Parser, Snapshot
 from ..sessions import (SLACK, Lasting, Row, SessionLimits, check_server, check_times, client_words, connections_of,
-                        doubt_newcomers, names_in, with_limits, words_for)
+                        doubt_newcomers, names_in, with_limits)
 from .pgbouncer import end_of, seconds_for
 from .pgbouncer import Row as Client
 from .rows import (ACTIVE, CLIENT, IDLE, IN_TRANSACTION, WORKER, apart_in, count_of, end_of_client, first_clients,
@@ -162,7 +163,7 @@ class PostgresParser(Parser):
         what = told(lock, row["backend"], snapshot.look)
         more["operation"] = f"Lock:{lock['lock']}"
         start, age = lock.get("waitstart"), self.lasted.get((row["backend"], count_of(row)), 0.0)
-        lasted = since(start, snapshot.look) or f" for {words_for(age)} or longer"
+        lasted = since(start, snapshot.look) or f" for {in_words(age)} or longer"
         more["note"] = f"{what}{lasted}: {query_of(row)}"
         parts = [self.part_of(pid, lock, snapshot) for pid in blockers if pid]
         parts += prepared_parts(lock, snapshot.look, row["blocked_by"].count(0)) if 0 in blockers else []
@@ -301,7 +302,7 @@ class PostgresParser(Parser):
         return blocked(name, parts, [SYSTEM, premise(LIMITS)], operation="pool", count=stamp if is_same else None,
                        objects=[stamp, *(["another"] if is_another else [])],
                        site=f"client {name.rpartition(' ')[2]}", frames=[client.get("application_name") or "client"],
-                       note=f"a session of the pool {client['database']} for {words_for(lasted)}")
+                       note=f"a session of the pool {client['database']} for {in_words(lasted)}")
 
     def finish(self, sketch: Sketch, snapshots: List[PostgresServer]) -> None:
         """Adds the limits, and who serves which connection. Warns of what the role couldn't see."""

@@ -5,8 +5,9 @@ from typing import Any, Dict, List, Optional, Set, Tuple
 
 from ...model import Part, all_of, any_of, unseen, wakers
 from ...sketch import SYSTEM, Process, blocked
+from ...times import in_words
 from ..base import one_line
-from ..sessions import Row, end_of_socket, words_for
+from ..sessions import Row, end_of_socket
 from .pgbouncer import end_of
 from .pgbouncer import Row as Client
 from .text import PostgresLook, seconds_of
@@ -118,7 +119,7 @@ def note_of(row: Row, look: PostgresLook) -> str:
 
 def since(start: Optional[str], look: PostgresLook) -> str:
     """Returns for how long something has lasted, in words."""
-    return f" for {words_for(max(look.time - seconds_of(start), 0))}" if start else ""
+    return f" for {in_words(max(look.time - seconds_of(start), 0))}" if start else ""
 
 
 def key_of(lock: Row) -> Tuple[object, ...]:

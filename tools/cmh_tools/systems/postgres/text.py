@@ -5,11 +5,11 @@ from __future__ import annotations
 import re
 from collections import Counter
 from dataclasses import dataclass, field
-from datetime import datetime
 from functools import cached_property
 from typing import Dict, List, Optional, Tuple
 
 from ...files import Refusal, shown
+from ...times import SECONDS, moment, seconds_in
 from .pgbouncer import LIMITS as OF_POOLER
 from .pgbouncer import MARK, Pooler, pooler_of
 from ..sessions import Lines, Row, ServerLook
@@ -17,6 +17,8 @@ from ..sessions import Lines, Row, ServerLook
 NONE = type(None)
 TIME = re.compile(r"(\d{4}-\d\d-\d\dT\d\d:\d\d:\d\d)(\.\d{1,6})?([+-]\d\d:\d\d)")
 NUMBER = re.compile(r"\d{1,12}")
+LIMIT = re.compile(r" *\d{1,12} *[a-z]* *")
+OF_LIMITS = {**SECONDS, "": SECONDS["ms"]}  # the units that a setting may have, or none
 OF_TEXT, OF_TIME, OF_OID = (str, NONE), (TIME, NONE), (NUMBER, NONE)
 LOOK = {"look": TIME, "version": NUMBER, "port": (int, NONE), "role": OF_OID, "database": OF_OID, "standby": bool}
 # Columns of pg_stat_activity of which nothing is read.
@@ -44,11 +46,10 @@ LINES = Lines("cmh-postgres ", "lines of take-postgres are expected", SHAPES, "b
 def seconds_of(text: str, where: str = "") -> float:
     """Returns a time in seconds. Raises Refusal if a text is none."""
     match = TIME.fullmatch(text)
-    try:
-        assert match is not None
-        return datetime.fromisoformat(match[1] + match[3]).timestamp() + float(match[2] or 0)
-    except (AssertionError, ValueError, OverflowError) as error:
-        raise Refusal(f"{where}: {shown(text)} is no time") from error
+    seconds = moment(match[1] + match[3]) if match else None  # (of a part of a second Python 3.8 takes few lengths)
+    if match is None or seconds is None:
+        raise Refusal(f"{where}: {shown(text)} is no time")
+    return seconds + float(match[2] or 0)
 
 
 @dataclass(eq=False)
@@ -111,7 +112,7 @@ class PostgresLook(ServerLook):
         own = self.set_for(name, self.head["role"], self.head["database"])
         if value is None and own is None:  # (else the value of all is hidden by that of the role that looks)
             value = next((str(row["value"]) for row in self.of("setting") if row["setting"] == name), None)
-        return seconds_in(value) if value is not None else None
+        return seconds_in(value.replace(" ", ""), OF_LIMITS) if value is not None and LIMIT.fullmatch(value) else None
 
     def has_setting(self, name: str) -> bool:
         """Whether this version of the server has a limit of that name."""
@@ -121,12 +122,3 @@ class PostgresLook(ServerLook):
         rows = {(row["role"], row["database"]): str(row["value"]) for row in self.of("set") if row["set"] == name}
         keys = ((role, database), (role, "0"), ("0", database), ("0", "0"))
         return next((rows[key] for key in keys if key in rows), None)
-
-
-UNITS = {"": 0.001, "ms": 0.001, "s": 1.0, "min": 60.0, "h": 3600.0, "d": 86400.0, "us": 0.000001}
-
-
-def seconds_in(text: str) -> Optional[float]:
-    """Returns a limit in seconds, as a setting has it: in milliseconds where it has no unit."""
-    match = re.fullmatch(r"\s*(\d{1,12})\s*(us|ms|s|min|h|d|)\s*", text)
-    return int(match[1]) * UNITS[match[2]] if match else None

@@ -8,7 +8,8 @@ import re
 from typing import Any, Dict, Iterator, List, Optional, Tuple
 
 from ...files import Refusal, shown
-from ..base import fits, once_each, row_in
+from ...sketch import once_each
+from ..base import fits, row_in
 from .stack import PythonFrame, frame_in_file
 from .rows import PythonLook, PythonRow
 from .text import OF_FRAMES, SPY

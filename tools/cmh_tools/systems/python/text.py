@@ -11,7 +11,8 @@ from typing import Any, Dict, List, Optional, Sequence, Tuple
 
 from ...files import Refusal, shown
 from .. import State
-from ..base import COUNT, fits, misfits, once_each
+from ...sketch import once_each
+from ..base import COUNT, fits, misfits
 from .rows import Caller, PythonLook, PythonRow, is_number, last_word
 from .stack import PythonFrame, frame_in_file, kind_of
 
