@@ -93,7 +93,7 @@ def answer_on_files(asked: Any) -> int:
     """Prints what is asked of the answer on some files. Returns its status."""
     check_page(asked)
     if is_form(asked):  # (what makes them takes as long to load as all the rest)
-        from .forms import check_form
+        from .say.forms import check_form
         check_form(asked)
     dump, noted, old = load_all(asked)
     tree = answer(dump, noted, None if asked.why is None else index_of(dump, asked.why))
@@ -110,7 +110,7 @@ def write_answer(asked: Any, tree: Tree, old: Optional[Tree] = None, more: More 
     its first screen names."""
     style = style_of_output(asked.color)
     if is_form(asked):
-        from .forms import write_form
+        from .say.forms import write_form
         write_form(asked, tree, old, style)
     elif asked.summary:
         write_out(summary(tree, style))

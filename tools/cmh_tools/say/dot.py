@@ -5,12 +5,12 @@ from __future__ import annotations
 import re
 from typing import Dict, Iterable, Iterator, List, NamedTuple, Tuple
 
+from ..files import MOST_OF_LINE, shown
+from ..sketch import ALL, ANY
+from ..words import number_of
 from .arrow_words import lines_of_words
-from .words import number_of
-from .files import MOST_OF_LINE, shown
 from .folding import BEHIND, FREE, MORE, OPEN, OVER, ROOT, RUNNING, SHARED, UNDECIDED
 from .picture import MESSAGE, Arrow, Box, Picture
-from .sketch import ALL, ANY
 
 WIDTH, LINES = 36, 3  # of a text in a box
 CAPTION, HEAD = 90, 66  # columns above the picture, and above a root

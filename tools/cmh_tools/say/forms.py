@@ -7,18 +7,18 @@ import stat
 import sys
 from typing import Any, Iterator, Optional
 
+from ..files import Failure, Refusal, read_text, write_out, write_texts
+from ..terminal import Style
+from .as_json import text_of_answer
 from .comparison import Comparison
 from .dot import dot
 from .drawing import drawings
-from .files import Failure, Refusal, read_text, write_out, write_texts
 from .page import Older, Page
 from .picture import Picture
-from .say.as_json import text_of_answer
-from .say.view import Tree
-from .say.whole import summary
 from .svg import check_graphviz, svg
-from .terminal import Style
+from .view import Tree
 from .wait_graph import WaitGraph
+from .whole import summary
 
 MOST_OF_STATES = 2_000_000  # characters, in a page
 

@@ -7,19 +7,19 @@ import hashlib
 import html
 from typing import Collection, Dict, Iterable, Iterator, List, NamedTuple, Optional, Sequence, Tuple
 
-from . import VERSION
+from .. import VERSION
+from ..files import MOST_OF_LINE, escaped, shown
+from ..sketch import ALL, ANY, UNKNOWN
+from ..steps import ways_of
+from ..words import number_of
 from .captions import headline, restarts
 from .comparison import CHANGES, Comparison, RootChange
 from .drawing import Drawing
-from .files import MOST_OF_LINE, escaped, shown
 from .page_data import WORDS, Data, end_words, said_of, text_of_data
 from .page_look import FILTER, PAGE, PANEL, VIEW, script, style
-from .say.view import Tree, View
-from .say.whole import WholeText
-from .sketch import ALL, ANY, UNKNOWN
-from .steps import ways_of
+from .view import Tree, View
 from .wait_graph import WaitGraph
-from .words import number_of
+from .whole import WholeText
 
 ROWS, ROOTS, NAMES, STEPS, LINES = 100_000, 50, 5, 3, 100  # as many are shown, unless all are asked for
 PAPER = 100  # rows of the table that needs no script, and is printed

@@ -7,11 +7,11 @@ import subprocess
 import xml.etree.ElementTree as ElementTree
 from typing import Dict, Iterator, List, Tuple
 
+from ..files import Failure, cause_of, shown, signal_words
+from ..start import SIGNALS
 from .dot import Plan, dot, in_svg
-from .files import Failure, cause_of, shown, signal_words
 from .folding import MOST
 from .picture import Picture
-from .start import SIGNALS
 from .titles import FIT, SPACE, crossed_groups, free_titles, tag_of
 
 # The layouts that are tried, one after the other.

@@ -3,9 +3,9 @@ from __future__ import annotations
 
 from typing import Dict, FrozenSet, List
 
-from .files import shown
-from .say.view import LIKELY, STUCK, UNDECIDED, Tree, View
-from .words import number_of
+from ..files import shown
+from ..words import number_of
+from .view import LIKELY, STUCK, UNDECIDED, Tree, View
 
 TOGETHER = "what is restarted for root "
 

@@ -7,14 +7,14 @@ from collections import Counter
 from functools import cached_property
 from typing import Collection, Dict, Iterator, List, NamedTuple, Optional, Set, Tuple
 
+from ..files import short_name, shown
+from ..sketch import ALL, ANY
+from ..words import number_of
 from .arrow_words import by_first, coverage_of, far_words, words_of
 from .captions import cure, headline, restarts
-from .files import short_name, shown
 from .folding import (BEHIND, FREE, MORE, MOST, OPEN, OVER, ROOT, RUNNING, SHARED, SMALL, SORTS, UNDECIDED, Folding,
                       Row, PicturePart, stand_for_others)
-from .sketch import ALL, ANY
 from .wait_graph import WaitGraph
-from .words import number_of
 
 NAMES, ARROWS, WAYS = 3, 6, 2  # of a box: names, arrows, and those of several behind a root
 PART = 4  # one of so many at a place is a good part of a box

@@ -5,9 +5,9 @@ from __future__ import annotations
 from functools import cached_property
 from typing import AbstractSet, Dict, Iterable, List, Optional, Sequence
 
-from .say.view import LIKELY, RUNNING, STUCK, Tree, View
-from .sketch import ALL, ANY, RUNS, UNKNOWN
-from .steps import START, Edges, steps_to, way
+from ..sketch import ALL, ANY, RUNS, UNKNOWN
+from ..steps import START, Edges, steps_to, way
+from .view import LIKELY, RUNNING, STUCK, Tree, View
 
 
 class WaitGraph(View):

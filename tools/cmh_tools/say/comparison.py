@@ -4,9 +4,9 @@ from __future__ import annotations
 
 from typing import Dict, List, NamedTuple, Set
 
-from .files import Failure, shown
-from .say.view import LIKELY, STUCK, UNDECIDED, View
-from .sketch import ENDED
+from ..files import Failure, shown
+from ..sketch import ENDED
+from .view import LIKELY, STUCK, UNDECIDED, View
 
 GONE_ON, AWAY, OPEN, NEW, AGAIN, STILL = (
     "has gone on", "is there no more", "is undecided now", "is new among the stuck", "is stuck again, at another place",

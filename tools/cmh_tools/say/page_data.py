@@ -4,10 +4,10 @@ from __future__ import annotations
 import json
 from typing import Any, Dict, Iterable, Iterator, List, Sequence, Tuple, Union
 
-from .files import MOST_OF_LINE, shown
+from ..files import MOST_OF_LINE, shown
+from ..sketch import ALL, ANY, ENDED, RUNS, UNKNOWN
 from .picture import Picture
-from .say.view import LIKELY, NOT_STUCK, STUCK, UNDECIDED, Tree, View
-from .sketch import ALL, ANY, ENDED, RUNS, UNKNOWN
+from .view import LIKELY, NOT_STUCK, STUCK, UNDECIDED, Tree, View
 
 VERDICTS = [STUCK, LIKELY, UNDECIDED, NOT_STUCK, ENDED]
 KINDS = {ANY: 1, ALL: 2}

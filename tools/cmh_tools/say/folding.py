@@ -10,10 +10,10 @@ from __future__ import annotations
 from collections import Counter
 from typing import Collection, Dict, Iterable, List, NamedTuple, Optional, Set, Tuple
 
-from .files import shown
-from .model import Strength
-from .say.view import Tree
-from .sketch import ENDED, RUNS, UNKNOWN
+from ..files import shown
+from ..model import Strength
+from ..sketch import ENDED, RUNS, UNKNOWN
+from .view import Tree
 from .wait_graph import WaitGraph
 
 ALIKE, LINE_OF_SITE, LINE, LARGEST, ONE = range(5)  # the steps
