@@ -13,7 +13,7 @@ from typing import Any, Dict, FrozenSet, List, NamedTuple, Sequence, TypeVar
 from common import TOOLS, tables_of
 from harness import read
 
-from cmh_tools.model import HOWS, Part, Sign, Strength, Subject, Wakers, unseen, wakers
+from cmh_stall.core.model import HOWS, Part, Sign, Strength, Subject, Wakers, unseen, wakers
 
 Subjects = List[Subject]
 Item = TypeVar("Item")

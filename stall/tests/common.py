@@ -22,11 +22,12 @@ sys.path[:0] = [f"{os.path.dirname(TOOLS)}/tests", TOOLS]
 from harness import PROGRAM, SECONDS, Case, Ran, check_faults, read, run, write  # noqa: E402
 
 os.environ["CMH"] = PROGRAM
-from cmh_tools import dump_command, explain_command  # noqa: E402
-from cmh_tools.findings import Findings  # noqa: E402
-from cmh_tools.proposals import propose  # noqa: E402
-from cmh_tools.sketch_json import sketch_of  # noqa: E402
-from cmh_tools.stuck import Waits  # noqa: E402
+from cmh_stall.commands import dump_command
+from cmh_stall.commands import explain_command  # noqa: E402
+from cmh_stall.core.findings import Findings  # noqa: E402
+from cmh_stall.core.proposals import propose  # noqa: E402
+from cmh_stall.core.sketch_json import sketch_of  # noqa: E402
+from cmh_stall.core.stuck import Waits  # noqa: E402
 from plain import plain_edges, plain_roots  # noqa: E402
 
 DUMP, EXPLAIN, STALL = ([sys.executable, f"{TOOLS}/cmh-{name}"] for name in ("dump", "explain", "stall"))
@@ -125,13 +126,14 @@ def call(command: Callable[[Sequence[str]], int], words: Sequence[str]) -> Ran:
     """Calls a tool's command, and returns what it says. The limit on memory is for a process of its own."""
     out, err = (io.TextIOWrapper(io.BytesIO(), encoding="utf-8", write_through=True) for _ in range(2))
     with contextlib.redirect_stdout(out), contextlib.redirect_stderr(err), \
-            mock.patch("cmh_tools.command.bound_memory"), mock.patch("cmh_tools.stall_command.bound_memory"):
+            mock.patch("cmh_stall.core.command.bound_memory"), \
+            mock.patch("cmh_stall.commands.stall_command.bound_memory"):
         try:
             status: Any = command(words)
         except SystemExit as ended:  # (argparse ends so where the words are refused)
             status = ended.code
     said = [it.buffer.getvalue().decode() for it in (out, err) if isinstance(it.buffer, io.BytesIO)]
-    check_faults(["cmh_tools", *words], *said)
+    check_faults(["cmh_stall", *words], *said)
     return Ran(status, *said)
 
 

@@ -8,7 +8,7 @@ from typing import Dict, FrozenSet, List, NamedTuple, Optional, Sequence, Set, T
 
 from plain import plain_roots
 
-from cmh_tools.model import (ANYBODY, COMES, HOWS, Anybody, Headline, Part, Sign, Strength, Subject, Wakers,
+from cmh_stall.core.model import (ANYBODY, COMES, HOWS, Anybody, Headline, Part, Sign, Strength, Subject, Wakers,
                              wakers)
 
 GOES_ON, TICKS, SLEEPS, POLLS, RESTS, BLOCKED, UNKNOWN, ENDED = list(Sign)

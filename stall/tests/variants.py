@@ -16,12 +16,12 @@ from common import TOOLS
 from harness import pythons, read, write
 
 from cmh_linux.command import collect
-from cmh_tools.facts import Facts
-from cmh_tools.making import record, with_facts
-from cmh_tools.model import Headline
-from cmh_tools.systems import State, parser_of
-from cmh_tools.rule import Decision
-from cmh_tools.stuck import Waits
+from cmh_stall.core.facts import Facts
+from cmh_stall.core.making import record, with_facts
+from cmh_stall.core.model import Headline
+from cmh_stall.systems import State, parser_of
+from cmh_stall.core.rule import Decision
+from cmh_stall.core.stuck import Waits
 
 STALL = "shop"
 LOCKS = r"""

@@ -15,10 +15,10 @@ from typing import Callable, Collection, Dict, Iterator, List, Optional, Sequenc
 from cmh_proc.budget import BUDGET, size_in_words
 from cmh_proc.held import let_go, standstill
 
-from .files import MOST, PIECE, Failure, cause_of, say, shown, signal_words
-from .memory import unbound_memory
-from .systems import KERNEL, described, taker_of
-from .systems.taking import Capture
+from ..core.files import MOST, PIECE, Failure, cause_of, say, shown, signal_words
+from ..core.memory import unbound_memory
+from ..systems import KERNEL, described, taker_of
+from ..systems.taking import Capture
 
 PATIENCE = 10  # seconds in which a command that is ended puts away what it has begun
 OURS = ("take-", "cmh_")  # how lines begin that our own scripts say, and no program that they run

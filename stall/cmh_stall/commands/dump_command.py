@@ -6,16 +6,16 @@ from collections import Counter
 from itertools import chain
 from typing import Any, Dict, Iterator, List, Sequence, Tuple
 
-from .command import CommandParser, likely_path, notes_path, run
-from .dump import Dump
-from .facts import FREES, HOLDS, Facts, kind_of_line, read_facts
-from .files import (MOST_OF_LINE, Failure, Refusal, decode, hindrance, read_bytes, read_text, say, short_name, shown,
-                    write_out, write_texts)
-from .making import sketch_for
-from .program import identity, judge
-from .proposals import Proposal, legend, propose
-from .sketch import KINDS, UNKNOWN, FactRow, Sketch, reason_of
-from .systems import KERNEL, NAMES, described
+from ..core.command import CommandParser, likely_path, notes_path, run
+from ..core.dump import Dump
+from ..core.facts import FREES, HOLDS, Facts, kind_of_line, read_facts
+from ..core.files import (MOST_OF_LINE, Failure, Refusal, decode, hindrance, read_bytes, read_text, say, short_name,
+                          shown, write_out, write_texts)
+from ..core.making import sketch_for
+from ..core.program import identity, judge
+from ..core.proposals import Proposal, legend, propose
+from ..core.sketch import KINDS, UNKNOWN, FactRow, Sketch, reason_of
+from ..systems import KERNEL, NAMES, described
 
 DID = {HOLDS: "is held by", FREES: "is freed by"}  # what names have to do with a word of a fact, by its kind
 SHOWN, FEW = 8, 5  # as many unknown ones and lines of facts are shown, and names in one; the notes have all
@@ -193,7 +193,7 @@ def check(path: str) -> int:
     try:
         judge(data)
     except Refusal as fault:
-        from .check import describe_fault
+        from ..core.check import describe_fault
         raise Refusal(describe_fault(path, str(fault), data)) from None
     write_out(f"{shown(path)}: accepted\n")
     return 0

@@ -4,16 +4,16 @@ from __future__ import annotations
 
 from typing import Any, Optional, Sequence, Tuple
 
-from .answer import answer
-from .command import CommandParser, notes_path, run
-from .dump import Dump
-from .files import Failure, hindrance, say, shown, write_out
+from ..core.answer import answer
+from ..core.command import CommandParser, notes_path, run
+from ..core.dump import Dump
+from ..core.files import Failure, hindrance, say, shown, write_out
 from .loading import load
-from .say.screen import More, screen
-from .say.view import Tree
-from .say.whole import summary, whole, why
-from .sketch import BARE, near_name, quote
-from .terminal import show, style_of_output
+from ..say.screen import More, screen
+from ..say.view import Tree
+from ..say.whole import summary, whole, why
+from ..core.sketch import BARE, near_name, quote
+from ..say.terminal import show, style_of_output
 
 ABOUT = """Says in words what is known of a dump, from the notes that cmh-dump wrote beside it, of a sketch, or of
 states. The program cmh has to confirm it on two dumps, with all unknown ones active and with all idle, and what is
@@ -93,7 +93,7 @@ def answer_on_files(asked: Any) -> int:
     """Prints what is asked of the answer on some files. Returns its status."""
     check_page(asked)
     if is_form(asked):  # (what makes them takes as long to load as all the rest)
-        from .say.forms import check_form
+        from ..say.forms import check_form
         check_form(asked)
     dump, noted, old = load_all(asked)
     tree = answer(dump, noted, None if asked.why is None else index_of(dump, asked.why))
@@ -110,7 +110,7 @@ def write_answer(asked: Any, tree: Tree, old: Optional[Tree] = None, more: More 
     its first screen names."""
     style = style_of_output(asked.color)
     if is_form(asked):
-        from .say.forms import write_form
+        from ..say.forms import write_form
         write_form(asked, tree, old, style)
     elif asked.summary:
         write_out(summary(tree, style))

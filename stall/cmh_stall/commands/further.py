@@ -3,14 +3,14 @@ from __future__ import annotations
 
 from typing import Callable, Dict, Iterator, List
 
-from .dump import Dump
-from .files import shown
-from .folder import Folder
-from .model import STATUSES, Headline
+from ..core.dump import Dump
+from ..core.files import shown
+from ..core.folder import Folder
+from ..core.model import STATUSES, Headline
 from .recorded import facts_path
-from .say.view import Tree
-from .systems import taker_of
-from .systems.taking import Part, Sight, command_words
+from ..say.view import Tree
+from ..systems import taker_of
+from ..systems.taking import Part, Sight, command_words
 
 OPEN = (Headline.NOT_KNOWN, Headline.IDLE)
 

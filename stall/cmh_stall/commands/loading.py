@@ -6,15 +6,15 @@ import os
 import re
 from typing import Any, List, Optional, Sequence, Tuple
 
-from .command import Read, dump_of_notes, is_dump, is_notes, notes_path, sketch_of_dump
-from .dump import Dump, is_marked
-from .facts import Facts
-from .files import Failure, Refusal, read_bytes, read_text, say, shown, text_of_bytes
-from .making import sketch_for, with_facts
-from .program import compare, confirm, deadlocked_names, identity
-from .sketch import OLDER, Sketch, read_json
-from .sketch_json import sketch_of
-from .systems import NAMES
+from ..core.command import Read, dump_of_notes, is_dump, is_notes, notes_path, sketch_of_dump
+from ..core.dump import Dump, is_marked
+from ..core.facts import Facts
+from ..core.files import Failure, Refusal, read_bytes, read_text, say, shown, text_of_bytes
+from ..core.making import sketch_for, with_facts
+from ..core.program import compare, confirm, deadlocked_names, identity
+from ..core.sketch import OLDER, Sketch, read_json
+from ..core.sketch_json import sketch_of
+from ..systems import NAMES
 
 ASK_NOTES = "cmh-dump made this dump, and its notes are gone: its active processes may be unknown ones. Put " \
     "NAME.notes.json beside NAME.json, or say --without-notes if all of them run"
@@ -104,7 +104,7 @@ def load_bare(data: bytes, tree: Any, path: str, is_said: bool) -> Dump:
     try:
         deadlocked = deadlocked_names(data)
     except Refusal as fault:
-        from .check import describe_fault
+        from ..core.check import describe_fault
         raise Refusal(describe_fault(path, str(fault), data)) from None
     is_by_hand = is_said or not is_marked(tree)
     dump = Dump(sketch_of_dump(tree, path, is_by_hand))

@@ -5,18 +5,18 @@ import contextlib
 from typing import Dict, List, Sequence
 
 from .captures import labels_of
-from .command import dump_of_notes, known_doubts, notes_path
-from .dump import Dump
+from ..core.command import dump_of_notes, known_doubts, notes_path
+from ..core.dump import Dump
 from .dump_command import texts_of
-from .facts import Facts, read_facts
-from .files import MOST_TOGETHER, Failure, Refusal, decode, say, shown
-from .folder import Folder
-from .making import sketch_for
-from .proposals import Proposal, propose
+from ..core.facts import Facts, read_facts
+from ..core.files import MOST_TOGETHER, Failure, Refusal, decode, say, shown
+from ..core.folder import Folder
+from ..core.making import sketch_for
+from ..core.proposals import Proposal, propose
 from .saying import say_true
-from .sketch import Sketch, quote, read_json
-from .systems import NAMES
-from .systems.taking import Capture, Part, command_words
+from ..core.sketch import Sketch, quote, read_json
+from ..systems import NAMES
+from ..systems.taking import Capture, Part, command_words
 
 RECORD = "stall.json"  # what a folder has, by which it is explained again
 MOST_NAMES = 200  # names that stand in a file of facts, for people to choose from

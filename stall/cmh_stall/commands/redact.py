@@ -9,13 +9,14 @@ import re
 from dataclasses import replace
 from typing import Any, Dict, Iterator, List, Sequence, Tuple
 
-from .dump import MARK, NO_SITE, Dump
-from .making import known_premises
-from .model import HOWS, Anybody, Sign, Strength, Wakers, Who, once
-from .sketch import BARE, BY_HAND, DONE, FACT, NEEDED, OLDER, PREMISE, REST, SYSTEM, WORK, FactRow, Process, Sketch
-from .sketch_json import sketch_of, text_of_sketch, tree_of
-from .snapshots import AS_OF
-from .systems import NAMES, described
+from ..core.dump import MARK, NO_SITE, Dump
+from ..core.making import known_premises
+from ..core.model import HOWS, Anybody, Sign, Strength, Wakers, Who, once
+from ..core.sketch import (BARE, BY_HAND, DONE, FACT, NEEDED, OLDER, PREMISE, REST, SYSTEM, WORK, FactRow, Process,
+                           Sketch)
+from ..core.sketch_json import sketch_of, text_of_sketch, tree_of
+from ..core.snapshots import AS_OF
+from ..systems import NAMES, described
 
 HIDDEN = "not shown"
 KEYS = {

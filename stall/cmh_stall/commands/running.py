@@ -9,10 +9,10 @@ from typing import Dict, Iterator, List, NamedTuple, Optional, Tuple
 from cmh_linux.limits import Clocks
 from cmh_proc.process import MOST_WORDS, bytes_of, name_of, pids, stat_of, threads_of, user_of
 
-from .files import shown
-from .folder import name_of_user
-from .systems import NAMES, taker_of
-from .times import in_words
+from ..core.files import shown
+from ..core.folder import name_of_user
+from ..systems import NAMES, taker_of
+from ..core.times import in_words
 
 WIDTH = 120  # of a command line
 UNITS = {"d": "days", "h": "hours", "min": "minutes"}

@@ -6,14 +6,14 @@ import re
 import time
 from typing import Callable, Dict, List
 
-from .answer import doubt_rows
-from .doubts import Doubt
-from .dump import Dump
-from .facts import Facts, read_facts
-from .files import Failure, Refusal, decode, shown
-from .folder import Folder, name_of_user
-from .model import HOWS
-from .say.view import Tree
+from ..core.answer import doubt_rows
+from ..core.doubts import Doubt
+from ..core.dump import Dump
+from ..core.facts import Facts, read_facts
+from ..core.files import Failure, Refusal, decode, shown
+from ..core.folder import Folder, name_of_user
+from ..core.model import HOWS
+from ..say.view import Tree
 
 NUMBERS = re.compile(r"[1-9][0-9]{0,8}(?:,[1-9][0-9]{0,8})*")
 

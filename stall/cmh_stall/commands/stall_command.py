@@ -15,33 +15,33 @@ from typing import Any, Dict, Iterator, List, NamedTuple, Optional, Sequence, Tu
 
 from cmh_proc.budget import BUDGET, size_in_words
 
-from .answer import answer
+from ..core.answer import answer
 from .captures import captures_for, labels_of, take
-from .command import CommandParser, is_notes, notes_path, put_away, run
-from .dump import Dump
+from ..core.command import CommandParser, is_notes, notes_path, put_away, run
+from ..core.dump import Dump
 from .dump_command import NO_GUESSES
 from .explain_command import add_answer_options, answer_on_files, index_of, write_answer
-from .files import Failure, Refusal, say, shown, write_out
-from .findings import is_hidden_by_sleepers
-from .folder import Folder, NewFolder
+from ..core.files import Failure, Refusal, say, shown, write_out
+from ..core.findings import is_hidden_by_sleepers
+from ..core.folder import Folder, NewFolder
 from .further import OPEN, more_ways, next_step, sight_of
 from .loading import load_noted
-from .memory import bound_memory
-from .program import confirm, identity
+from ..core.memory import bound_memory
+from ..core.program import confirm, identity
 from .recorded import (RECORD, facts_of, facts_path, keep_dump, look_of, new_dump, numbers_in, part_row, parts_of,
                        say_in, sketch_of_part, sketch_of_parts, write_facts)
 from .redact import redacted_texts
 from .running import proposals as what_runs
 from .saying import numbers_of
-from .say.screen import More, screen
-from .say.view import Tree
-from .sketch import read_json
-from .sketch_json import sketch_of
-from .start import SIGNALS
-from .systems import KERNEL, NAMES, described, taker_of
-from .systems.descriptor import Option
-from .systems.taking import Capture
-from .terminal import style_of_output
+from ..say.screen import More, screen
+from ..say.view import Tree
+from ..core.sketch import read_json
+from ..core.sketch_json import sketch_of
+from ..core.start import SIGNALS
+from ..systems import KERNEL, NAMES, described, taker_of
+from ..systems.descriptor import Option
+from ..systems.taking import Capture
+from ..say.terminal import style_of_output
 from .timeout_command import add_options, seconds_of
 from .watch import KEPT, Check, watch
 

@@ -18,10 +18,10 @@ from typing import Dict, List, Mapping, NoReturn, Optional, Sequence, Set
 from cmh_proc.budget import BUDGET, MOST_SECONDS
 from cmh_proc.process import environment_of
 
-from .descendants import Descendant, adopt_orphans, descendants, row_of
-from .files import cause_of, say, shown
-from .start import shortage
-from .times import SECONDS, seconds_in
+from ..core.descendants import Descendant, adopt_orphans, descendants, row_of
+from ..core.files import cause_of, say, shown
+from ..core.start import shortage
+from ..core.times import SECONDS, seconds_in
 
 NOT_LOOKED_AT = "its processes couldn't be looked at"
 TIMED_OUT, FAULT, CANNOT_RUN, NOT_FOUND = 124, 125, 126, 127  # statuses, as timeout(1) has them
@@ -278,7 +278,7 @@ def what_failed(error: Exception) -> str:
 def ways_to_look() -> List[List[str]]:
     """Returns the words by which cmh-stall takes the processes below this one: with all that sees inside of some, and
     as the kernel sees them."""
-    from .systems import KERNEL, NAMES, taker_of
+    from ..systems import KERNEL, NAMES, taker_of
     pids = [process.pid for process in descendants(os.getpid())]
     kernel = [KERNEL, *(str(pid) for pid in pids if row_of(pid)[0] == os.getpid())]
     insides = {name: taker_of(name).those_to_ask(pids) for name in NAMES}

@@ -10,8 +10,8 @@ import subprocess
 import time
 from typing import Callable, Dict, List, Tuple
 
-from .files import Failure, Refusal, cause_of, failure_of, say, shown, signal_words
-from .model import Headline
+from ..core.files import Failure, Refusal, cause_of, failure_of, say, shown, signal_words
+from ..core.model import Headline
 
 TRIES = 5  # looks at a service that is started anew during each
 PAUSE = 2.0  # seconds in which a service that is about to run gets its process

@@ -6,7 +6,7 @@ from __future__ import annotations
 
 from typing import Dict, Iterable, List, Optional, Tuple
 
-from . import VERSION
+from .. import VERSION
 from .cures import Cure, Cures, unit_words, words_of
 from .doubt_words import clause_of, sentence
 from .doubts import Doubt

@@ -5,8 +5,8 @@ from __future__ import annotations
 from functools import lru_cache
 from typing import Dict
 
-from .systems import all_described
-from .systems.descriptor import Assumption, Descriptor
+from ..systems import all_described
+from ..systems.descriptor import Assumption, Descriptor
 
 # Those that any system may have, and those that several share, as these say.
 COMMON: Dict[str, Assumption] = {

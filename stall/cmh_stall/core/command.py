@@ -9,7 +9,7 @@ import re
 import traceback
 from typing import Any, Callable, Dict, List, NoReturn, Optional, Sequence, Tuple
 
-from . import VERSION
+from .. import VERSION
 from .dump import Dump, is_marked, without_mark
 from .files import FULL, Failure, Refusal, read_text, say, shown, write_out
 from .memory import bound_memory

@@ -11,7 +11,7 @@ from .files import short_name, shown
 from .findings import Findings
 from .model import Headline, Sign, Strength
 from .sketch import BARE, ENDED, Process
-from .systems import described
+from ..systems import described
 
 WITH_NUMBER = re.compile(r"(?P<name>.+)-(?P<pid>\d+)")
 JVM = re.compile(r"JVM (?P<pid>\d+)")

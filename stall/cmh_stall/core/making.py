@@ -14,7 +14,7 @@ from .nearness import owners_of
 from .sketch import Process, Sketch, has_how
 from .sketch_json import read_sketch
 from .snapshots import both
-from .systems import State, all_described, parser_of
+from ..systems import State, all_described, parser_of
 
 
 def sketch_for(system: str, paths: Sequence[str], facts: Facts, read: Read = read_text) -> Sketch:

@@ -12,7 +12,7 @@ from typing import TYPE_CHECKING, Dict, Iterable, List, Sequence, Set
 
 from .model import Part, Strength
 from .sketch import ALL, ANY, has_how
-from .systems import all_described
+from ..systems import all_described
 
 if TYPE_CHECKING:
     from .stuck import Waits

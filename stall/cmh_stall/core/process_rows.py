@@ -10,7 +10,7 @@ from .findings import COME, LIKELY, MESSAGE, NOT_STUCK, RUNNING, STUCK, UNDECIDE
 from .model import Anybody, Part, Sign, Strength, Wakers
 from .nearness import MAY_HAVE
 from .sketch import ALL, ANY, ENDED, UNKNOWN, Process
-from .systems import all_described, described
+from ..systems import all_described, described
 from .words import first_words
 
 LONG = 20  # names in a list; one that is longer stands once, if several waits have it

@@ -63,7 +63,7 @@ def start(name: str, module: str) -> NoReturn:
         end(f"{name}: Python 3.8 or later is needed")
     SIGNALS.install()
     try:
-        status: int = importlib.import_module(f"{PACKAGE}.{module}").command(sys.argv[1:])
+        status: int = importlib.import_module(f"{PACKAGE}.commands.{module}").command(sys.argv[1:])
     except ModuleNotFoundError as error:
         end(f"{name}: {lack(error.name)}")
     except Exception as error:  # (before the command can say so itself)

@@ -7,14 +7,14 @@ from functools import cached_property
 from itertools import islice
 from typing import Dict, Iterable, List, Optional, Sequence, Set, Tuple, Union
 
-from ..doubt_words import EXPIRES, short_subject
-from ..doubt_words import NAMES as TOLD
-from ..files import shown
-from ..model import Sign
-from ..sketch import ALL, ANY, ENDED, OF_SERVER, UNREADABLE
+from ..core.doubt_words import EXPIRES, short_subject
+from ..core.doubt_words import NAMES as TOLD
+from ..core.files import shown
+from ..core.model import Sign
+from ..core.sketch import ALL, ANY, ENDED, OF_SERVER, UNREADABLE
 from ..systems import KERNEL
-from ..terminal import PLAIN, Style
-from ..words import few, number_of, runs_of
+from .terminal import PLAIN, Style
+from ..core.words import few, number_of, runs_of
 from .cutting import cut_name, prefix_of
 from .view import Tree, View
 

@@ -3,8 +3,8 @@ from __future__ import annotations
 
 from typing import Dict, FrozenSet, List
 
-from ..files import shown
-from ..words import number_of
+from ..core.files import shown
+from ..core.words import number_of
 from .view import LIKELY, STUCK, UNDECIDED, Tree, View
 
 TOGETHER = "what is restarted for root "

@@ -4,8 +4,8 @@ from __future__ import annotations
 
 from typing import Dict, List, NamedTuple, Set
 
-from ..files import Failure, shown
-from ..sketch import ENDED
+from ..core.files import Failure, shown
+from ..core.sketch import ENDED
 from .view import LIKELY, STUCK, UNDECIDED, View
 
 GONE_ON, AWAY, OPEN, NEW, AGAIN, STILL = (

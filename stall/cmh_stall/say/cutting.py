@@ -6,7 +6,7 @@ import re
 import shlex
 from typing import List
 
-from ..files import short_name
+from ..core.files import short_name
 
 ADDRESS = re.compile(r"\(?0x[0-9a-f]+\)?")
 

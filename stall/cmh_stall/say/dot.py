@@ -5,9 +5,9 @@ from __future__ import annotations
 import re
 from typing import Dict, Iterable, Iterator, List, NamedTuple, Tuple
 
-from ..files import MOST_OF_LINE, shown
-from ..sketch import ALL, ANY
-from ..words import number_of
+from ..core.files import MOST_OF_LINE, shown
+from ..core.sketch import ALL, ANY
+from ..core.words import number_of
 from .arrow_words import lines_of_words
 from .folding import BEHIND, FREE, MORE, OPEN, OVER, ROOT, RUNNING, SHARED, UNDECIDED
 from .picture import MESSAGE, Arrow, Box, Picture

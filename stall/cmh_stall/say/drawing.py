@@ -5,7 +5,7 @@ import re
 from typing import Callable, List, NamedTuple, Sequence
 from xml.etree.ElementTree import Element
 
-from ..files import Failure, say
+from ..core.files import Failure, say
 from .folding import MOST
 from .layers_svg import layered_tree
 from .picture import Picture

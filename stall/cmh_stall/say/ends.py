@@ -5,9 +5,9 @@ from collections import Counter
 from functools import cached_property
 from typing import Dict, Iterator, List, Sequence, Set, Tuple
 
-from ..doubt_words import STAND_INS
-from ..files import shown
-from ..sketch import OF_SERVER, REST
+from ..core.doubt_words import STAND_INS
+from ..core.files import shown
+from ..core.sketch import OF_SERVER, REST
 from .brief import GOES_ON, NAMES, POLLS, SLEEPS, TICKS, many
 from .members import MEMBERS, Members
 from .view import BLOCKED, RESTS, Tree

@@ -10,9 +10,9 @@ from __future__ import annotations
 from collections import Counter
 from typing import Collection, Dict, Iterable, List, NamedTuple, Optional, Set, Tuple
 
-from ..files import shown
-from ..model import Strength
-from ..sketch import ENDED, RUNS, UNKNOWN
+from ..core.files import shown
+from ..core.model import Strength
+from ..core.sketch import ENDED, RUNS, UNKNOWN
 from .view import Tree
 from .wait_graph import WaitGraph
 

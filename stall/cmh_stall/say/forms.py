@@ -7,8 +7,8 @@ import stat
 import sys
 from typing import Any, Iterator, Optional
 
-from ..files import Failure, Refusal, read_text, write_out, write_texts
-from ..terminal import Style
+from ..core.files import Failure, Refusal, read_text, write_out, write_texts
+from .terminal import Style
 from .as_json import text_of_answer
 from .comparison import Comparison
 from .dot import dot

@@ -3,7 +3,7 @@ from __future__ import annotations
 
 from typing import Dict, List, Sequence, Tuple, Union
 
-from ..terminal import AsItIs
+from .terminal import AsItIs
 from .brief import OTHERS, Brief
 from .cutting import cut, cut_words
 

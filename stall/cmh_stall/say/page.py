@@ -8,10 +8,10 @@ import html
 from typing import Collection, Dict, Iterable, Iterator, List, NamedTuple, Optional, Sequence, Tuple
 
 from .. import VERSION
-from ..files import MOST_OF_LINE, escaped, shown
-from ..sketch import ALL, ANY, UNKNOWN
-from ..steps import ways_of
-from ..words import number_of
+from ..core.files import MOST_OF_LINE, escaped, shown
+from ..core.sketch import ALL, ANY, UNKNOWN
+from ..core.steps import ways_of
+from ..core.words import number_of
 from .captions import headline, restarts
 from .comparison import CHANGES, Comparison, RootChange
 from .drawing import Drawing

@@ -4,8 +4,8 @@ from __future__ import annotations
 import json
 from typing import Any, Dict, Iterable, Iterator, List, Sequence, Tuple, Union
 
-from ..files import MOST_OF_LINE, shown
-from ..sketch import ALL, ANY, ENDED, RUNS, UNKNOWN
+from ..core.files import MOST_OF_LINE, shown
+from ..core.sketch import ALL, ANY, ENDED, RUNS, UNKNOWN
 from .picture import Picture
 from .view import LIKELY, NOT_STUCK, STUCK, UNDECIDED, Tree, View
 

@@ -70,7 +70,7 @@ FILTER = """<form id="filter" hidden>
 <output id="shown" for="text answer root site place change fold"></output>
 </form>"""
 VIEW = """<figure>
-<div id="tools" hidden>
+<div id="stall" hidden>
 <button type="button" id="closer" aria-label="Closer">+</button>
 <button type="button" id="farther" aria-label="Farther">−</button>
 <button type="button" id="whole">Whole</button>

@@ -7,9 +7,9 @@ from collections import Counter
 from functools import cached_property
 from typing import Collection, Dict, Iterator, List, NamedTuple, Optional, Set, Tuple
 
-from ..files import short_name, shown
-from ..sketch import ALL, ANY
-from ..words import number_of
+from ..core.files import short_name, shown
+from ..core.sketch import ALL, ANY
+from ..core.words import number_of
 from .arrow_words import by_first, coverage_of, far_words, words_of
 from .captions import cure, headline, restarts
 from .folding import (BEHIND, FREE, MORE, MOST, OPEN, OVER, ROOT, RUNNING, SHARED, SMALL, SORTS, UNDECIDED, Folding,

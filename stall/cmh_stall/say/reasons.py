@@ -3,10 +3,10 @@ from __future__ import annotations
 
 from typing import Dict, List
 
-from ..facts import is_variable
-from ..files import MOST_OF_LINE, short_name, shown
-from ..sketch import BARE, BY_HAND, FACT, PREMISE
-from ..words import few
+from ..core.facts import is_variable
+from ..core.files import MOST_OF_LINE, short_name, shown
+from ..core.sketch import BARE, BY_HAND, FACT, PREMISE
+from ..core.words import few
 from .view import Tree
 
 SHOWN = 5  # names that a pattern of a fact took

@@ -6,8 +6,8 @@ import textwrap
 from functools import lru_cache
 from typing import Collection, List, NamedTuple, Sequence, Set, Tuple
 
-from ..terminal import PLAIN, AsItIs, Painted, Style, fill, paint_line
-from ..words import few, number_of
+from .terminal import PLAIN, AsItIs, Painted, Style, fill, paint_line
+from ..core.words import few, number_of
 from .brief import GOES_ON, KINDS, NAMES
 from .cutting import cut, cut_name, quote_for_shell
 from .ends import Ends

@@ -7,8 +7,8 @@ import subprocess
 import xml.etree.ElementTree as ElementTree
 from typing import Dict, Iterator, List, Tuple
 
-from ..files import Failure, cause_of, shown, signal_words
-from ..start import SIGNALS
+from ..core.files import Failure, cause_of, shown, signal_words
+from ..core.start import SIGNALS
 from .dot import Plan, dot, in_svg
 from .folding import MOST
 from .picture import Picture

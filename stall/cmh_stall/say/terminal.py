@@ -11,7 +11,7 @@ import sys
 import textwrap
 from typing import Dict, Iterable, List, NamedTuple, Tuple, Union
 
-from .files import write_out
+from ..core.files import write_out
 
 WIDTH, NARROWEST = 100, 40
 ARROW, PLAIN_ARROW = "→", "->"

@@ -4,12 +4,12 @@ from __future__ import annotations
 from functools import cached_property
 from typing import Any, Dict, Iterable, List, Sequence, Set, Tuple
 
-from ..doubt_words import NAMES, sentence
-from ..files import short_name, shown
-from ..model import COMES, Sign
-from ..sketch import ALL, ANY, DONE, ENDED, PREMISE, RUNS, UNKNOWN
-from ..terminal import PLAIN, Style
-from ..words import few, number_of, with_address
+from ..core.doubt_words import NAMES, sentence
+from ..core.files import short_name, shown
+from ..core.model import COMES, Sign
+from ..core.sketch import ALL, ANY, DONE, ENDED, PREMISE, RUNS, UNKNOWN
+from .terminal import PLAIN, Style
+from ..core.words import few, number_of, with_address
 
 LINES = 8  # as many are shown; the others are counted
 STUCK, LIKELY, UNDECIDED, NOT_STUCK = "stuck", "likely", "undecided", "not_stuck"  # verdicts, beside ENDED

@@ -5,8 +5,8 @@ from __future__ import annotations
 from functools import cached_property
 from typing import AbstractSet, Dict, Iterable, List, Optional, Sequence
 
-from ..sketch import ALL, ANY, RUNS, UNKNOWN
-from ..steps import START, Edges, steps_to, way
+from ..core.sketch import ALL, ANY, RUNS, UNKNOWN
+from ..core.steps import START, Edges, steps_to, way
 from .view import LIKELY, RUNNING, STUCK, Tree, View
 
 

@@ -5,11 +5,11 @@ from __future__ import annotations
 from collections import Counter
 from typing import Callable, Dict, Iterable, Iterator, List, Sequence
 
-from ..doubt_words import NAMES
-from ..files import MOST_OF_LINE, short_name, shown
-from ..sketch import ALL, ANY, LIMIT
-from ..terminal import PLAIN, AsItIs, Painted, Style, fill, lay_out, paint_line
-from ..words import few, number_of
+from ..core.doubt_words import NAMES
+from ..core.files import MOST_OF_LINE, short_name, shown
+from ..core.sketch import ALL, ANY, LIMIT
+from .terminal import PLAIN, AsItIs, Painted, Style, fill, lay_out, paint_line
+from ..core.words import few, number_of
 from .reasons import more_lines, rests_lines
 from .view import GOES_ON, LIKELY, LINES, NOT_STUCK, RUNNING, STUCK, UNDECIDED, Tree, View
 

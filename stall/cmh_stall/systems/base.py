@@ -14,11 +14,11 @@ from collections import Counter
 from functools import lru_cache
 from typing import Any, Callable, Dict, Iterable, Iterator, List, NamedTuple, Optional, Sequence, Set, Tuple, Type
 
-from ..assumptions import sentence_of
-from ..files import Refusal, shown
-from ..model import Part, Wakers, once, unseen, wakers
-from ..sketch import Process, Sketch, once_each, quote
-from ..snapshots import APART, CUT, OVERLAP, PARTS, WHOLE, Moments, Reading, compare, doubt_waits, left_out, \
+from ..core.assumptions import sentence_of
+from ..core.files import Refusal, shown
+from ..core.model import Part, Wakers, once, unseen, wakers
+from ..core.sketch import Process, Sketch, once_each, quote
+from ..core.snapshots import APART, CUT, OVERLAP, PARTS, WHOLE, Moments, Reading, compare, doubt_waits, left_out, \
     overlap, snapshots_of
 from . import State
 

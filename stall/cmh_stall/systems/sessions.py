@@ -5,10 +5,10 @@ from __future__ import annotations
 from dataclasses import dataclass, field
 from typing import Any, Callable, Dict, Iterable, Iterator, List, NamedTuple, Optional, Sequence, Tuple, Type, TypeVar
 
-from ..files import Refusal, shown
-from ..model import Part, Sign, wakers
-from ..sketch import LIMIT, OF_SERVER, Sketch, goes_on, premise
-from ..times import in_words
+from ..core.files import Refusal, shown
+from ..core.model import Part, Sign, wakers
+from ..core.sketch import LIMIT, OF_SERVER, Sketch, goes_on, premise
+from ..core.times import in_words
 from .base import misfits, row_in
 
 Row = Dict[str, Any]

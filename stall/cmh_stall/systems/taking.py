@@ -12,10 +12,12 @@ from typing import Any, Callable, Collection, Dict, Iterator, List, Optional, Se
 from cmh_proc.ports import listeners_at
 from cmh_proc.process import stat_of
 
-from ..files import Failure, say, shown
-from ..model import Sign
-from ..sketch import Process
-from . import KERNEL, described, taker_of
+from ..core.files import Failure, say, shown
+from ..core.model import Sign
+from ..core.sketch import Process
+from . import KERNEL
+from . import described
+from . import taker_of
 from .descriptor import Descriptor
 
 HOME = os.path.dirname(os.path.dirname(os.path.dirname(os.path.realpath(__file__))))

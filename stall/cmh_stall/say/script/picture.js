@@ -293,7 +293,7 @@ function startPicture() {
   const buttons = {closer: () => zoom(step), farther: () => zoom(1 / step), whole: showWhole,
     before: () => showStop(stop - 1), after: () => showStop(stop + 1)};
   Object.keys(buttons).forEach((id) => element(id).addEventListener("click", buttons[id]));
-  element("tools").hidden = false;
+  element("stall").hidden = false;
   let width = window.innerWidth;
   window.addEventListener("resize", () => { if (window.innerWidth !== width) { width = window.innerWidth; fit(); } });
   fit();

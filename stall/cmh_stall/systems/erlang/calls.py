@@ -5,8 +5,8 @@ from __future__ import annotations
 
 from typing import List, Optional, Set, Tuple
 
-from ...model import Part, any_of, unseen
-from ...sketch import SYSTEM, Process, blocked, goes_on, premise
+from ...core.model import Part, any_of, unseen
+from ...core.sketch import SYSTEM, Process, blocked, goes_on, premise
 from .keepers import who_may_answer
 from .nodes import More, Nodes, limited, not_shown
 from .readings import NodeReading

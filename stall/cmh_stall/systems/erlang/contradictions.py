@@ -6,7 +6,7 @@ from __future__ import annotations
 import re
 from typing import Dict, Iterator, List, Sequence, Set, Tuple
 
-from ...snapshots import PARTS, Reading
+from ...core.snapshots import PARTS, Reading
 from .readings import NodeReading
 from .text import PID, ErlangBlock
 

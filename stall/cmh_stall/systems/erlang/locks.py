@@ -7,9 +7,9 @@ import re
 from collections import Counter
 from typing import Dict, List, Optional, Tuple
 
-from ...files import Refusal, shown
-from ...model import all_of, any_of
-from ...sketch import SYSTEM, Process, blocked, premise, quote
+from ...core.files import Refusal, shown
+from ...core.model import all_of, any_of
+from ...core.sketch import SYSTEM, Process, blocked, premise, quote
 from .nodes import More, Nodes, limited, not_shown
 from .readings import NodeReading
 from .text import ErlangBlock, of_elixir

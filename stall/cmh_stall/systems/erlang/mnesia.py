@@ -6,8 +6,8 @@ from __future__ import annotations
 import re
 from typing import Iterable, List, NamedTuple, Optional
 
-from ...model import all_of, any_of, wakers
-from ...sketch import SYSTEM, Process, blocked, premise
+from ...core.model import all_of, any_of, wakers
+from ...core.sketch import SYSTEM, Process, blocked, premise
 from .nodes import More, Nodes, not_shown
 from .readings import NodeReading
 from .text import ErlangBlock, of_elixir

@@ -7,7 +7,7 @@ import re
 from collections import defaultdict
 from typing import DefaultDict, Dict, List, Set
 
-from ...snapshots import Reading
+from ...core.snapshots import Reading
 from .text import ErlangBlock, Key
 
 # A call by a name of `global`, or by one of a module that keeps names, in a registry of it. (Another module of Elixir's

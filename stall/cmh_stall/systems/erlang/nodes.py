@@ -5,9 +5,9 @@ from __future__ import annotations
 from itertools import chain
 from typing import Any, Callable, Dict, Iterable, List, NamedTuple, Optional, Sequence, Set, Tuple
 
-from ...files import escaped
-from ...model import Part, Sign, Wakers, any_of, unseen, wakers
-from ...sketch import LIMIT, REST, Process, blocked, goes_on, premise
+from ...core.files import escaped
+from ...core.model import Part, Sign, Wakers, any_of, unseen, wakers
+from ...core.sketch import LIMIT, REST, Process, blocked, goes_on, premise
 from ..base import Snapshot
 from .text import ErlangBlock, Key, Receives
 

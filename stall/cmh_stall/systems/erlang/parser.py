@@ -10,11 +10,11 @@ from collections import defaultdict
 from operator import attrgetter
 from typing import DefaultDict, Dict, List, Sequence, Set, Tuple
 
-from ...files import Refusal, escaped, shown
-from ...model import Part, Sign, any_of, unseen, wakers
-from ...sketch import (LIMIT, SYSTEM, Process, Sketch, blocked, garbled, goes_on, lists_of_wakers, premise, rests,
+from ...core.files import Refusal, escaped, shown
+from ...core.model import Part, Sign, any_of, unseen, wakers
+from ...core.sketch import (LIMIT, SYSTEM, Process, Sketch, blocked, garbled, goes_on, lists_of_wakers, premise, rests,
                        unknown)
-from ...snapshots import APART, PARTS, Reading
+from ...core.snapshots import APART, PARTS, Reading
 from .. import State
 from ..base import Parser
 from .calls import NO_MAIL, place_elsewhere, wait_of_call

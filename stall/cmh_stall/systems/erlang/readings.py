@@ -6,8 +6,8 @@ import re
 from hashlib import blake2b
 from typing import Callable, Dict, Iterator, List, Set, Tuple
 
-from ...files import Refusal, shown
-from ...snapshots import PARTS, Reading
+from ...core.files import Refusal, shown
+from ...core.snapshots import PARTS, Reading
 from .text import WORD, ErlangBlock, Receives, terms_of
 
 # Of older texts, which said what code may do: these lines tell nothing any more.

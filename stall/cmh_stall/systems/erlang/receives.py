@@ -6,8 +6,8 @@ from __future__ import annotations
 import re
 from typing import List, Optional
 
-from ...model import any_of, unseen
-from ...sketch import SYSTEM, Process, blocked, goes_on, premise, rests, unknown
+from ...core.model import any_of, unseen
+from ...core.sketch import SYSTEM, Process, blocked, goes_on, premise, rests, unknown
 from .calls import ANSWERS, NO_MAIL, holders
 from .nodes import More, Nodes, limited, not_shown
 from .text import PID, ErlangBlock, Receives

@@ -8,7 +8,7 @@ import shutil
 import tempfile
 from typing import Dict, Iterator, List, Sequence, Tuple
 
-from ...files import failure_of
+from ...core.files import failure_of
 from ..taking import Capture, Taker, full_name, recipe
 
 

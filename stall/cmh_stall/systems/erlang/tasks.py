@@ -6,8 +6,8 @@ from __future__ import annotations
 import re
 from typing import List, Optional, Tuple
 
-from ...model import all_of, any_of
-from ...sketch import SYSTEM, Process, blocked, goes_on, premise
+from ...core.model import all_of, any_of
+from ...core.sketch import SYSTEM, Process, blocked, goes_on, premise
 from .calls import NO_MAIL, holders, others_of
 from .nodes import More, Nodes, limited, not_shown
 from .text import ErlangBlock

@@ -6,8 +6,8 @@ from functools import lru_cache
 from sys import intern
 from typing import Dict, Iterable, List, NamedTuple, Optional, Set, Tuple, Union
 
-from ...files import Refusal, shown
-from ...sketch import frame
+from ...core.files import Refusal, shown
+from ...core.sketch import frame
 from ..base import without_sleep
 from .stack import LOCKING, REGISTER, RETRYING, STOPPING, callback_of, is_balanced, lost_of_stack, terms_in
 

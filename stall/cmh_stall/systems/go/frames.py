@@ -6,7 +6,7 @@ import re
 from functools import lru_cache
 from typing import Dict, Iterable, List, Optional, Set, Tuple
 
-from ...sketch import frame
+from ...core.sketch import frame
 from ..base import is_loop
 from .text import TAKER, Frames, GoFrame, Goroutine
 

@@ -17,12 +17,12 @@ import re
 from itertools import chain
 from typing import Any, Dict, List, Set, Tuple
 
-from ...files import Refusal
-from ...model import COMES, Part, Sign, Wakers, all_of, any_of, unseen, wakers
-from ...sketch import GOING, LIMIT, SYSTEM, Process, Sketch, blocked, garbled, goes_on, premise, rests, unknown
-from ...snapshots import APART, CUT, GONE, ONCE, Reading
+from ...core.files import Refusal
+from ...core.model import COMES, Part, Sign, Wakers, all_of, any_of, unseen, wakers
+from ...core.sketch import GOING, LIMIT, SYSTEM, Process, Sketch, blocked, garbled, goes_on, premise, rests, unknown
+from ...core.snapshots import APART, CUT, GONE, ONCE, Reading
 from .. import State
-from ...times import duration
+from ...core.times import duration
 from ..base import FAR, Parser, Reachable, Snapshot, without_sleep
 from .frames import (CONNECTION, NEEDS_ALL, WATCHER, WRITER, Caller, GoPlace, Receiver, accepts_for_library, callers_in,
                      cut_short, entry_of, functions_of, is_at_connection, is_of_runtime, lacks_wait, misplaced,

@@ -4,7 +4,7 @@ from __future__ import annotations
 from functools import lru_cache
 from typing import List, Optional, Tuple
 
-from ...files import Refusal
+from ...core.files import Refusal
 from .frames import KEPT, jobs_of
 from .starters import MAIN
 from .text import GoDump, GoFrame, Goroutine

@@ -5,7 +5,7 @@ from collections import defaultdict
 from functools import lru_cache
 from typing import DefaultDict, Dict, List, Set, Tuple
 
-from ...sketch import Process, unknown
+from ...core.sketch import Process, unknown
 from .frames import ACCEPTOR, CONNECTION, KEPT, OUTERMOST, GoPlace, functions_of, is_jobs, package_of
 from .text import GoFrame, Goroutine
 

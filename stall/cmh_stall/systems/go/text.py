@@ -13,7 +13,7 @@ from itertools import accumulate, compress, count
 from operator import attrgetter, not_
 from typing import Dict, List, NamedTuple, Optional, Tuple
 
-from ...files import Refusal, shown
+from ...core.files import Refusal, shown
 
 HEADER = re.compile(r"goroutine (?P<id>\d+)(?: gp=\S+)?(?: m=\S+)?(?: mp=\S+)? \[(?P<state>.*)\](?: \{.*\})?:\s*")
 # Of a package, and perhaps of a type.

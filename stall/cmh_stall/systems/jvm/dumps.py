@@ -6,8 +6,8 @@ import json
 import re
 from typing import Any, Dict, Iterator, List, Match, Optional, Tuple
 
-from ...files import Refusal, shown
-from ...sketch import once_each
+from ...core.files import Refusal, shown
+from ...core.sketch import once_each
 from .misfits import add_faults
 from .text import BETWEEN, FRAME, PARKED, START, JvmDump, JvmThread, PrintReader, add_line, frame_of
 

@@ -7,7 +7,7 @@ from dataclasses import dataclass, field
 from functools import lru_cache
 from typing import Callable, Dict, List, Optional
 
-from ...sketch import WORK, frame
+from ...core.sketch import WORK, frame
 from ..base import without_sleep
 from .text import JvmThread, Stack, stack_of
 

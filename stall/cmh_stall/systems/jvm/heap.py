@@ -9,7 +9,7 @@ import re
 from dataclasses import dataclass, field
 from typing import Any, Dict, List, NamedTuple, Optional, Set
 
-from ...files import Refusal, shown
+from ...core.files import Refusal, shown
 from ..base import misfits
 from .frames import FINDS_THREADS, is_in, is_of_jvm
 from .locks import Locks

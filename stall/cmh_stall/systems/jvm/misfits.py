@@ -7,7 +7,7 @@ from collections import defaultdict
 from functools import lru_cache
 from typing import DefaultDict, Dict, List, Set
 
-from ...sketch import quote
+from ...core.sketch import quote
 from .frames import CONDITION, JDK, LIBRARY, MACHINERY, OF_QUEUES, caller_of, is_like
 from .text import OWNERS, PARKED, JvmDump, JvmThread, Stack, stack_of
 

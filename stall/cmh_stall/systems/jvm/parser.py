@@ -12,9 +12,9 @@ from __future__ import annotations
 import re
 from typing import Dict, Iterable, List, Optional, Set
 
-from ...model import Sign, wakers
-from ...sketch import WAITING, WORK, Process, Sketch, frame, garbled, premise, quote
-from ...snapshots import APART, ONCE, WHOLE, WOKEN, Reading
+from ...core.model import Sign, wakers
+from ...core.sketch import WAITING, WORK, Process, Sketch, frame, garbled, premise, quote
+from ...core.snapshots import APART, ONCE, WHOLE, WOKEN, Reading
 from .. import State
 from ..base import Break, Parser, break_wait
 from .dumps import read_dumps

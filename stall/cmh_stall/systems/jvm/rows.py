@@ -6,8 +6,8 @@ import re
 from itertools import accumulate
 from typing import Any, Dict, List, Optional, Tuple
 
-from ...files import Refusal, shown
-from ...sketch import once_each
+from ...core.files import Refusal, shown
+from ...core.sketch import once_each
 from .text import JvmThread
 
 BUILT = re.compile(r"\$\$Lambda.*(?=\.)|[+/]0x[0-9a-f]+(?=\.)")  # what jstack and a heap dump write differently

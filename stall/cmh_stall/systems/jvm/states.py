@@ -6,8 +6,8 @@ import re
 from collections import defaultdict
 from typing import Dict, List, Optional, Tuple
 
-from ...files import Refusal
-from ...snapshots import PARTS, Reading
+from ...core.files import Refusal
+from ...core.snapshots import PARTS, Reading
 from .frames import is_of_jvm
 from .locks import monitors_of, objects_of
 from .text import JvmDump, JvmThread, stack_of

@@ -8,9 +8,9 @@ from typing import Collection, Iterator, List, Sequence, Tuple
 
 from cmh_proc.process import name_of, user_of
 
-from ...files import Failure
-from ...folder import name_of_user
-from ...model import Sign
+from ...core.files import Failure
+from ...core.folder import name_of_user
+from ...core.model import Sign
 from ..taking import Capture, Part, Sight, Taker, clients_of_server, command_words
 
 HEAP = ("the JVM collects its garbage, and then stops while it dumps its heap: 10.5 s for 2.4 GB that live then, which "

@@ -12,7 +12,7 @@ import re
 from dataclasses import dataclass, field
 from typing import Any, Dict, Iterator, List, Optional, Tuple
 
-from ...files import Refusal, shown
+from ...core.files import Refusal, shown
 
 START, OWNERS, LIST = "Full thread dump ", "Locked ownable", "_java_thread_list="
 LISTED = re.compile(rf"{LIST}\w+, length=(\d{{1,9}}), elements={{\s*")

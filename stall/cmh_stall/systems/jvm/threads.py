@@ -4,8 +4,8 @@ from __future__ import annotations
 import re
 from typing import Dict, List, Set
 
-from ...model import Part, Wakers, wakers
-from ...sketch import INNER, REST, premise
+from ...core.model import Part, Wakers, wakers
+from ...core.sketch import INNER, REST, premise
 from ..base import Snapshot
 from .frames import (CONDITION, FUTURE, MEETS, OF_QUEUES, POOLS_OWN, RUNS_TASK, SOCKETS, JvmPlace, caller_of, is_in,
                      place_of)

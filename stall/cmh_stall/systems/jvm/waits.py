@@ -9,10 +9,10 @@ from __future__ import annotations
 import re
 from typing import Dict, Iterable, List, Optional
 
-from ...model import Part, Sign, all_of, any_of, unseen, wakers
-from ...sketch import INNER, LIMIT, SYSTEM, TIMER, Process, blocked, garbled, goes_on, premise, rests, unknown
-from ...snapshots import ONCE
-from ...times import duration
+from ...core.model import Part, Sign, all_of, any_of, unseen, wakers
+from ...core.sketch import INNER, LIMIT, SYSTEM, TIMER, Process, blocked, garbled, goes_on, premise, rests, unknown
+from ...core.snapshots import ONCE
+from ...core.times import duration
 from .frames import (AGAIN, BARRIER, CLEANER, COMPUTES, CONDITION, FROM_OUTSIDE, HAS_TASK, HAS_TIMER, INTERRUPTIBLY,
                      LONG, NEVER_MEANT, OF_LOCKS, OUTSIDE, READS, READS_OUTSIDE, READS_PIPE, REENTRANT, SLEEP, YIELDS,
                      JvmPlace, awaits_task, has_jobs, has_limit, is_for_the_end, is_in, is_own_loop, is_receive,

@@ -5,9 +5,9 @@ from __future__ import annotations
 from collections import defaultdict
 from typing import Dict, List, Protocol, Sequence
 
-from ...assumptions import sentence_of
-from ...sketch import INNER, Process, Sketch
-from ...snapshots import ONCE, Moments, moment_of
+from ...core.assumptions import sentence_of
+from ...core.sketch import INNER, Process, Sketch
+from ...core.snapshots import ONCE, Moments, moment_of
 from .frames import is_inside, is_of_jvm
 from .text import JvmDump, JvmThread
 

@@ -8,8 +8,8 @@ from typing import Optional
 from cmh_proc.calls import (ACCEPTS, CHILDREN, EPOLLS, FORKS, IPC, MOVES, OPENS, QUEUES, READ, READS, SETLKW, SETS,
                             SLEEPS, SUSPENDS, WRITE, WRITES, int32)
 
-from ...files import shown
-from ...model import Sign, any_of, unseen, wakers
+from ...core.files import shown
+from ...core.model import Sign, any_of, unseen, wakers
 from .children import (wait_at_ipc, wait_for_any_signal, wait_for_children, wait_for_fork, wait_for_signals,
                        wait_to_connect)
 from .files import wait_at, wait_at_set

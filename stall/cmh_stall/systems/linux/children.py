@@ -5,8 +5,8 @@ from typing import List, Optional, Sequence, Tuple
 
 from cmh_proc.calls import EPOLLS, int32
 
-from ...model import Part, Sign, Strength, any_of, unseen, wakers
-from ...sketch import LIMIT
+from ...core.model import Part, Sign, Strength, any_of, unseen, wakers
+from ...core.sketch import LIMIT
 from .machine import Host, LinuxThread, Owner
 from .waits import AT_FILES, FILES, UNTIMED, Ease, LinuxWait, against, not_shown, not_understood, only_sleeps, \
     users_of, with_end

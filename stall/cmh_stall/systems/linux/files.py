@@ -7,11 +7,11 @@ from typing import List, Sequence
 from cmh_proc.calls import EPOLLS, EVENTS, MOVES, ONESHOT, READS, SETS, WRITES, int32
 from cmh_proc.open_files import ANONYMOUS, EPOLL, OpenFile
 
-from ...model import Part, Sign, Wakers, any_of, unseen, wakers
-from ...sketch import LIMIT
+from ...core.model import Part, Sign, Wakers, any_of, unseen, wakers
+from ...core.sketch import LIMIT
 from .children import FOR_SIGNAL, wait_for_end, wait_for_signals
 from .frames import is_of_system
-from ...times import duration
+from ...core.times import duration
 from ..base import FAR
 from .limits import far_limit
 from .machine import MASTER, NOWHERE, TERMINAL, Host, LinuxThread, Owner, Row

@@ -11,7 +11,7 @@ from typing import Iterable, Iterator, List, Tuple
 
 from cmh_proc.libraries import OF_THE_SYSTEM
 
-from ...sketch import frame
+from ...core.sketch import frame
 from ..base import without_sleep
 from .machine import LinuxThread, LinuxFrame
 

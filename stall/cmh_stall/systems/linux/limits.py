@@ -7,8 +7,8 @@ from typing import Optional, Tuple
 
 from cmh_proc.calls import SLEEPS
 
-from ...model import Part, wakers
-from ...times import duration
+from ...core.model import Part, wakers
+from ...core.times import duration
 from ..base import FAR
 from .machine import Host, LinuxThread
 

@@ -8,7 +8,7 @@ from typing import Dict, Iterator, List, Optional, Tuple
 from cmh_proc.calls import SETLKW, int32
 from cmh_proc.open_files import OpenFile
 
-from ...model import Part, any_of, unseen
+from ...core.model import Part, any_of, unseen
 from .machine import NOWHERE, Host, LinuxThread, Owner, some_names
 from .waits import FILES, LinuxWait, against, not_understood, users_of, with_end, with_sleeper
 

@@ -10,7 +10,7 @@ from typing import Any, Callable, Dict, Iterable, List, NamedTuple, Sequence, Se
 from cmh_proc.calls import ARGUMENTS, MOST_ARGUMENTS, has_limit
 from cmh_proc.open_files import EPOLL, OpenFile
 
-from ...files import shown
+from ...core.files import shown
 
 Row = Dict[str, Any]
 MASTER, TERMINAL = "/dev/ptmx", "/dev/pts/"  # the end of a terminal that a program has, and how others' names begin

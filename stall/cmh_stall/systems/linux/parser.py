@@ -10,11 +10,11 @@ from typing import Any, Dict, Iterable, List, Optional, Set, Tuple, Union
 
 from cmh_proc.calls import EPOLLS, IN_MILLISECONDS, LIMITS, SETS, SLEEPS
 
-from ...files import Refusal, shown
-from ...model import Part, Sign, wakers
-from ...sketch import (DONE, LIMIT, SYSTEM, UNREADABLE, Process, Sketch, blocked, garbled, goes_on, lists_of_wakers,
-                       premise, rests, unknown)
-from ...snapshots import APART, Reading
+from ...core.files import Refusal, shown
+from ...core.model import Part, Sign, wakers
+from ...core.sketch import (DONE, LIMIT, SYSTEM, UNREADABLE, Process, Sketch, blocked, garbled, goes_on,
+                            lists_of_wakers, premise, rests, unknown)
+from ...core.snapshots import APART, Reading
 from .. import State
 from ..base import Break, Parser, Snapshot
 from .calls import wait_of

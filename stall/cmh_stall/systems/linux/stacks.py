@@ -11,7 +11,7 @@ from typing import Dict, Iterable, List, Optional, Tuple
 
 from cmh_proc.calls import FUTEX_LOCKS, FUTEX_WAITS, OPERATION, OWNER, PRIVATE, int32
 
-from ...model import Sign, any_of, unseen, wakers
+from ...core.model import Sign, any_of, unseen, wakers
 from .children import SIGCHLD
 from .frames import KEPT, is_known, library_names, takes_next
 from .machine import CONDITION, ENDED, Host, LinuxThread, Owner, Row

@@ -7,8 +7,9 @@ import sys
 from dataclasses import replace
 from typing import Collection, Iterator, List
 
-from ...files import Failure
-from .. import NAMES, taker_of
+from ...core.files import Failure
+from .. import NAMES
+from .. import taker_of
 from ..taking import HOME, Capture, Part, Sight, Taker, command_words, those_there
 
 STACKS = {

@@ -7,8 +7,8 @@ from typing import AbstractSet, Dict, Iterator, List, Sequence, Set, Tuple
 
 from cmh_proc.open_files import MEMORY, MORE
 
-from ...files import Refusal, shown
-from ...sketch import quote
+from ...core.files import Refusal, shown
+from ...core.sketch import quote
 from ..base import misfits, row_in
 from .machine import ENDED, Row
 

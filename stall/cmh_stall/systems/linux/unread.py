@@ -13,7 +13,7 @@ from typing import Dict, Iterator, List, Optional, Set, Tuple
 from cmh_proc.calls import EPOLLS, IPC, int32
 from cmh_proc.open_files import OpenFile
 
-from ...sketch import UNREADABLE, Process, garbled, unknown
+from ...core.sketch import UNREADABLE, Process, garbled, unknown
 from .children import tops_of
 from .machine import Host, LinuxThread, Owner
 from .text import ODD_THREADS

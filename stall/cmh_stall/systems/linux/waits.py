@@ -8,7 +8,7 @@ from typing import Iterable, List
 
 from cmh_proc.calls import ACCEPTS, CHILDREN, EPOLLS, MOVES, READ, SETS, SLEEPS, SUSPENDS, WRITE, int32
 
-from ...model import Part, Sign, any_of, unseen, wakers
+from ...core.model import Part, Sign, any_of, unseen, wakers
 from .machine import Host, LinuxThread, Owner
 
 FILES, SLEEPER, UNTIMED = "files", "sleeper", "untimed"  # assumptions

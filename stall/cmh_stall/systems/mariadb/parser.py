@@ -13,15 +13,15 @@ from __future__ import annotations
 import re
 from typing import Any, Dict, Iterable, Iterator, List, Optional, Tuple
 
-from ...model import Part, Sign, any_of, unseen, wakers
-from ...sketch import LIMIT, SYSTEM, Process, Sketch, blocked, garbled, goes_on, premise, rests, unknown
-from ...snapshots import APART, Reading
+from ...core.model import Part, Sign, any_of, unseen, wakers
+from ...core.sketch import LIMIT, SYSTEM, Process, Sketch, blocked, garbled, goes_on, premise, rests, unknown
+from ...core.snapshots import APART, Reading
 from .. import State
 from ..base import Parser, Snapshot, one_line
 from .text import LINES, MariadbLook, seconds_of, words_in
 from ..sessions import SLACK, Lasting, SessionLimits, Row, check_server, check_times, client_words, connections_of, \
     doubt_newcomers, end_of_socket, names_in, with_limits
-from ...times import in_words
+from ...core.times import in_words
 
 LIMITS, TABLES = "session-limits", "named-tables"  # assumptions
 ENDLESS = 100_000_000  # innodb_lock_wait_timeout that stands for no limit

@@ -6,8 +6,8 @@ import re
 from functools import cached_property
 from typing import Any, Dict, List, Optional, Set, Tuple
 
-from ...files import Refusal, shown
-from ...times import moment
+from ...core.files import Refusal, shown
+from ...core.times import moment
 from ..sessions import Lines, Row, ServerLook
 
 NONE = type(None)

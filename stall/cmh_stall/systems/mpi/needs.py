@@ -7,8 +7,8 @@ import re
 from dataclasses import dataclass, field
 from typing import Any, Dict, Iterable, List, NamedTuple, Tuple
 
-from ...model import Part, Strength, Wakers, any_of, of_list, unseen, wakers
-from ...sketch import SYSTEM, premise
+from ...core.model import Part, Strength, Wakers, any_of, of_list, unseen, wakers
+from ...core.sketch import SYSTEM, premise
 from .ranks import EVERY, TAKES, MpiJob, RankOfRecords, RankThread, name_of
 from .text import (ALL, ALL_OF, ANY_OF, ANY_SOURCE, BEFORE, FROM_ROOT, LOCK, OTHER, POLL, RECEIVE, SEND, SOME,
                    TO_ROOT, Row, rank_at, ranks_of)

@@ -12,10 +12,10 @@ import re
 from dataclasses import dataclass, field
 from typing import Any, Dict, Iterable, List, Match, NamedTuple, Optional, Tuple
 
-from ...files import Refusal, shown
-from ...model import Part, Sign, Wakers, all_of, any_of, unseen, wakers
-from ...sketch import LIMIT, SYSTEM, Process, Sketch, blocked, garbled, goes_on, premise, unknown
-from ...snapshots import APART, PARTS, Reading
+from ...core.files import Refusal, shown
+from ...core.model import Part, Sign, Wakers, all_of, any_of, unseen, wakers
+from ...core.sketch import LIMIT, SYSTEM, Process, Sketch, blocked, garbled, goes_on, premise, unknown
+from ...core.snapshots import APART, PARTS, Reading
 from .. import State
 from ..base import Break, Parser, Snapshot, without_sleep
 from .ranks import FEW

@@ -7,7 +7,7 @@ import math
 from dataclasses import dataclass
 from typing import Any, Dict, Iterable, Iterator, List, Optional, Set, Tuple
 
-from ...sketch import frame
+from ...core.sketch import frame
 from ..base import Snapshot
 from .text import ALL, LOCK, OTHER, POLL, RECEIVE, SEND, Row, rank_at, request_rows
 

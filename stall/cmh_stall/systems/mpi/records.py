@@ -9,10 +9,10 @@ from __future__ import annotations
 
 from typing import Any, Callable, Dict, Iterable, List, Tuple, Union
 
-from ...files import Refusal, shown
-from ...model import Part, Sign, Wakers, all_of, any_of, unseen, wakers
-from ...sketch import DONE, INNER, LIMIT, SYSTEM, Process, Sketch, blocked, garbled, goes_on, premise, unknown
-from ...snapshots import APART, PARTS, Reading
+from ...core.files import Refusal, shown
+from ...core.model import Part, Sign, Wakers, all_of, any_of, unseen, wakers
+from ...core.sketch import DONE, INNER, LIMIT, SYSTEM, Process, Sketch, blocked, garbled, goes_on, premise, unknown
+from ...core.snapshots import APART, PARTS, Reading
 from .. import State
 from ..base import Parser
 from .needs import Need, need_of, need_of_requests

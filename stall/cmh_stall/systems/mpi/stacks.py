@@ -11,7 +11,7 @@ import re
 from collections import Counter
 from typing import List, Match, NamedTuple, Optional, Sequence, Tuple
 
-from ...sketch import frame
+from ...core.sketch import frame
 
 # Lines are searched for by the letters that they begin with: a `^` before these would be tried at each character.
 # So `(?<!.` says, behind these letters, that none stands before them.

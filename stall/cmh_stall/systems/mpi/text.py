@@ -9,8 +9,8 @@ import re
 from collections import Counter
 from typing import Any, Dict, Iterable, KeysView, List, Optional, Sequence
 
-from ...files import Refusal, shown
-from ...sketch import quote
+from ...core.files import Refusal, shown
+from ...core.sketch import quote
 from ..base import misfit, row_in
 
 Row = Dict[str, Any]

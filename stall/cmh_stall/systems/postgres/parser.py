@@ -12,12 +12,12 @@ from __future__ import annotations
 
 from typing import Any, Dict, Iterable, List, Optional, Set, Tuple
 
-from ...files import Refusal, shown
-from ...model import COMES, Part, Sign, all_of, any_of, unseen, wakers
-from ...sketch import LIMIT, SYSTEM, Process, Sketch, blocked, garbled, goes_on, premise, rests, unknown
-from ...snapshots import APART, Reading
+from ...core.files import Refusal, shown
+from ...core.model import COMES, Part, Sign, all_of, any_of, unseen, wakers
+from ...core.sketch import LIMIT, SYSTEM, Process, Sketch, blocked, garbled, goes_on, premise, rests, unknown
+from ...core.snapshots import APART, Reading
 from .. import State
-from ...times import in_words
+from ...core.times import in_words
 from ..base import Parser, Snapshot
 from ..sessions import (SLACK, Lasting, Row, SessionLimits, check_server, check_times, client_words, connections_of,
                         doubt_newcomers, names_in, with_limits)

@@ -10,9 +10,9 @@ import csv
 import re
 from typing import Any, Dict, Iterable, List, Optional, Tuple
 
-from ...files import Refusal, shown
-from ...model import Part, unseen, wakers
-from ...sketch import LIMIT, premise
+from ...core.files import Refusal, shown
+from ...core.model import Part, unseen, wakers
+from ...core.sketch import LIMIT, premise
 from ..sessions import SLACK, SessionLimits, end_of_socket
 
 Row = Dict[str, str]

@@ -3,9 +3,9 @@ from __future__ import annotations
 
 from typing import Any, Dict, List, Optional, Set, Tuple
 
-from ...model import Part, all_of, any_of, unseen, wakers
-from ...sketch import SYSTEM, Process, blocked
-from ...times import in_words
+from ...core.model import Part, all_of, any_of, unseen, wakers
+from ...core.sketch import SYSTEM, Process, blocked
+from ...core.times import in_words
 from ..base import one_line
 from ..sessions import Row, end_of_socket
 from .pgbouncer import end_of

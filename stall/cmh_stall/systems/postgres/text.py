@@ -8,8 +8,8 @@ from dataclasses import dataclass, field
 from functools import cached_property
 from typing import Dict, List, Optional, Tuple
 
-from ...files import Refusal, shown
-from ...times import SECONDS, moment, seconds_in
+from ...core.files import Refusal, shown
+from ...core.times import SECONDS, moment, seconds_in
 from .pgbouncer import LIMITS as OF_POOLER
 from .pgbouncer import MARK, Pooler, pooler_of
 from ..sessions import Lines, Row, ServerLook

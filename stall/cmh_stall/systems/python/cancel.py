@@ -13,7 +13,7 @@ from collections import defaultdict
 from itertools import chain
 from typing import Any, Callable, Dict, Iterable, List, Tuple
 
-from ...model import Part, wakers
+from ...core.model import Part, wakers
 from .rows import PythonLook, PythonRow
 
 AT_END = "asyncio.taskgroups.TaskGroup.__aexit__"  # where a task waits for its group

@@ -7,8 +7,8 @@ import json
 import re
 from typing import Any, Dict, Iterator, List, Optional, Tuple
 
-from ...files import Refusal, shown
-from ...sketch import once_each
+from ...core.files import Refusal, shown
+from ...core.sketch import once_each
 from ..base import fits, row_in
 from .stack import PythonFrame, frame_in_file
 from .rows import PythonLook, PythonRow

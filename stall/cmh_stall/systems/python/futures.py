@@ -4,7 +4,7 @@ from __future__ import annotations
 import re
 from typing import Any, Dict, Iterable, List, Optional, Tuple
 
-from ...model import Part, Wakers, any_of, unseen, wakers
+from ...core.model import Part, Wakers, any_of, unseen, wakers
 from .job import FUTURE
 from .names import Standing, pools_of
 from .stack import PythonFrame

@@ -11,8 +11,8 @@ from collections import defaultdict
 from itertools import chain
 from typing import Any, Dict, Iterable, List, NamedTuple, Optional, Sequence
 
-from ...model import Part, Wakers, unseen, wakers
-from ...sketch import premise
+from ...core.model import Part, Wakers, unseen, wakers
+from ...core.sketch import premise
 from .names import PythonNames, actor_of, holders_in
 from .rows import PythonLook, PythonRow
 from .text import callers_of

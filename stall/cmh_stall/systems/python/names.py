@@ -7,7 +7,7 @@ from collections import Counter
 from dataclasses import dataclass, field
 from typing import TYPE_CHECKING, Any, Dict, List, Optional, Tuple
 
-from ...sketch import REST
+from ...core.sketch import REST
 from .stack import KEPT, PythonFrame, PythonStack, stack_of
 from .rows import PythonLook, PythonRow, is_number, last_word
 

@@ -17,10 +17,10 @@ from dataclasses import dataclass, field
 from functools import lru_cache
 from typing import Any, Dict, Iterator, List, Optional, Tuple
 
-from ...files import Refusal
-from ...model import Part, Sign, unseen
-from ...sketch import Process, Sketch
-from ...snapshots import APART, GROWN, ONCE, PARTS, WHOLE, Reading
+from ...core.files import Refusal
+from ...core.model import Part, Sign, unseen
+from ...core.sketch import Process, Sketch
+from ...core.snapshots import APART, GROWN, ONCE, PARTS, WHOLE, Reading
 from .. import State
 from ..base import Parser, Snapshot, is_loop, without_sleep
 from .connections import connections_of

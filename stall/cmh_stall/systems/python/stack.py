@@ -10,7 +10,7 @@ from functools import lru_cache
 from itertools import takewhile
 from typing import Any, Dict, List, NamedTuple, Optional, Sequence, Tuple
 
-from ...sketch import frame
+from ...core.sketch import frame
 
 STANDARD = re.compile(r"/lib(?:64)?/python3(?:\.\d+)?/(?!(?:site|dist)-packages/)(.*)$|^<frozen (.*)>$")
 # The modules of the library that are written in Python, of 3.8 to 3.14.

@@ -10,7 +10,7 @@ from typing import Collection, Iterator, List, Sequence, Tuple
 
 from cmh_proc.process import link_of, state_signal
 
-from ...descendants import descendants
+from ...core.descendants import descendants
 from .. import KERNEL
 from ..taking import HOME, Capture, Part, Sight, Taker, clients_of_server, command_words, those_there
 

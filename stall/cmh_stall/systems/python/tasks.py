@@ -11,7 +11,7 @@ from typing import Any, Callable, Dict, List, Optional, Sequence, Tuple
 
 from cmh_proc.calls import LIMITS, PRIVATE, has_limit
 
-from ...model import Part, Sign, any_of, unseen, wakers
+from ...core.model import Part, Sign, any_of, unseen, wakers
 from .cancel import Cancellers
 from .futures import all_waits, any_waits, by_future, by_futures, wait_of_frame
 from .job import CANCEL, PythonJob

@@ -9,9 +9,9 @@ import json
 import re
 from typing import Any, Dict, List, Optional, Sequence, Tuple
 
-from ...files import Refusal, shown
+from ...core.files import Refusal, shown
 from .. import State
-from ...sketch import once_each
+from ...core.sketch import once_each
 from ..base import COUNT, fits, misfits
 from .rows import Caller, PythonLook, PythonRow, is_number, last_word
 from .stack import PythonFrame, frame_in_file, kind_of

@@ -6,8 +6,8 @@ from dataclasses import dataclass, field
 from functools import lru_cache
 from typing import Any, Dict, List, Optional, Pattern, Tuple
 
-from ...model import Part, Sign, Wakers, all_of, any_of, unseen, wakers
-from ...sketch import GOING, LIMIT, SYSTEM, WORK, premise
+from ...core.model import Part, Sign, Wakers, all_of, any_of, unseen, wakers
+from ...core.sketch import GOING, LIMIT, SYSTEM, WORK, premise
 from .job import BLOCK, CHILD, DEAD, PythonJob
 from .names import Standing
 from .rows import is_number, last_word

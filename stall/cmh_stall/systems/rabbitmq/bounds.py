@@ -6,8 +6,8 @@ from __future__ import annotations
 
 from typing import Any, Dict, List, Optional
 
-from ...model import Wakers, wakers
-from ...sketch import premise
+from ...core.model import Wakers, wakers
+from ...core.sketch import premise
 from .routes import EXCHANGE, OF_THE_BROKER, STANDARD, Routes
 
 Row = Dict[str, Any]

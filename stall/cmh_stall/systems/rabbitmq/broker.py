@@ -4,7 +4,7 @@ from __future__ import annotations
 import functools
 from typing import Any, Dict, List, Optional, Set, Tuple
 
-from ...files import shown
+from ...core.files import shown
 from ..base import fits
 from .bounds import BrokerServer
 from .clients import Activity, Row, activities

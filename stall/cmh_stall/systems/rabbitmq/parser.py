@@ -11,10 +11,10 @@ from __future__ import annotations
 
 from typing import Any, Dict, List
 
-from ...files import Refusal, shown
-from ...model import ANYBODY, Sign, Strength, Wakers, any_of, of_list, wakers
-from ...sketch import Process, Sketch, garbled, goes_on, has_how, lists_of_wakers, premise, rests, unknown
-from ...snapshots import APART, Reading
+from ...core.files import Refusal, shown
+from ...core.model import ANYBODY, Sign, Strength, Wakers, any_of, of_list, wakers
+from ...core.sketch import Process, Sketch, garbled, goes_on, has_how, lists_of_wakers, premise, rests, unknown
+from ...core.snapshots import APART, Reading
 from .. import State
 from ..base import Parser, Snapshot
 from .broker import Broker

@@ -5,7 +5,7 @@ import functools
 import re
 from typing import Any, Dict, List, Tuple
 
-from ...files import shown
+from ...core.files import shown
 
 DIRECT, TOPIC = "direct", "topic"
 BY_KEY, STANDARD = (DIRECT, TOPIC), (DIRECT, TOPIC, "fanout", "headers")

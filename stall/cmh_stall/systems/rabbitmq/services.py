@@ -5,7 +5,7 @@ import functools
 from collections import Counter
 from typing import TYPE_CHECKING, Any, Dict, List, Optional, Tuple
 
-from ...model import Wakers, unseen, wakers
+from ...core.model import Wakers, unseen, wakers
 from .clients import OPEN, Activity, looks_on
 
 if TYPE_CHECKING:

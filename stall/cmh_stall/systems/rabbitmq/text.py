@@ -7,8 +7,8 @@ import json
 import re
 from typing import Any, Dict, Iterator, List, Tuple
 
-from ...files import Refusal, shown
-from ...sketch import quote, read_json
+from ...core.files import Refusal, shown
+from ...core.sketch import quote, read_json
 from .. import State
 from ..base import COUNT, misfits
 from .routes import EXCHANGE, KEY, table_of

@@ -3,9 +3,9 @@ from __future__ import annotations
 
 from typing import Any, Dict
 
-from ...files import shown
-from ...model import Sign, any_of, of_list, unseen, wakers
-from ...sketch import LIMIT, SYSTEM, Process, blocked, garbled, goes_on, premise, rests, unknown
+from ...core.files import shown
+from ...core.model import Sign, any_of, of_list, unseen, wakers
+from ...core.sketch import LIMIT, SYSTEM, Process, blocked, garbled, goes_on, premise, rests, unknown
 from .bounds import HANDLES, all_who_may_end
 from .clients import AT, COMPUTES, ELSEWHERE, SLEEPING
 from .services import STAND_INS, TO_COME, Service

@@ -3,7 +3,7 @@ import re
 
 from common import FRAME
 
-from cmh_tools.sketch import SYSTEM
+from cmh_stall.core.sketch import SYSTEM
 
 # Of how many kept stalls the likely answer has all roots, and nobody who isn't stuck; and of how many each root as it
 # is.

@@ -1,4 +1,4 @@
-"""The shop of tools/examples/postgres with tasks of asyncio, each with a connection of asyncpg.
+"""The shop of stall/examples/postgres with tasks of asyncio, each with a connection of asyncpg.
 
 usage: async_clients.py stuck|slow TOOLS
 """
