@@ -1,0 +1,1 @@
+"""The commands `cmh-stall`, `cmh-dump` and `cmh-explain`."""
