@@ -32,16 +32,15 @@ class Graph:
         self.ends.append([(INSIDE, end) for end in ends])
         return len(self.needs) - 1
 
-    def add_wait(self, parts: Sequence[Tuple[Part, Sequence[Way]]], owners: Sequence[int]) -> List[int]:
+    def add_wait(self, parts: Sequence[Part], ways: Sequence[Sequence[Way]], owners: Sequence[int]) -> Sequence[int]:
         """Adds a wait of some who share it, by its parts and the ways of their wakers. Returns the nodes of the parts:
         of one that is alone it is the owner itself."""
-        if len(parts) == 1:
-            nodes = [*owners]
-        else:
+        nodes = owners
+        if len(parts) > 1:
             wait = self.add(len(parts), *owners)
             nodes = [self.add(1, wait) for _ in parts]
-        for node, (part, ways) in zip(nodes, parts):
-            self.add_part(part, ways, node)
+        for part, some, node in zip(parts, ways, nodes):
+            self.add_part(part, some, node)
         return nodes
 
     def add_part(self, part: Part, ways: Sequence[Way], node: int) -> None:
@@ -53,6 +52,8 @@ class Graph:
         """Returns the nodes of a few, or that of a list of many."""
         if isinstance(who, Anybody):
             return [self.nobody]
+        if len(who) == 1:  # (as most have)
+            return (self.index.get(who[0], self.nobody),)
         if len(who) <= FEW:
             return [self.index.get(name, self.nobody) for name in who]
         if (id(who), way) not in self.lists:

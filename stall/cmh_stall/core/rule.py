@@ -44,8 +44,11 @@ class Decision:
         self.kept: Dict[Tuple[int, Way], Sequence[str]] = {}
         self.waits: Dict[int, List[Tuple[Part, int]]] = {}  # the parts of each with their nodes, one list for all of it
         for owners in shared_waits(self.subjects, sorted(self.blocked | self.resting)):
-            self.waits.update(dict.fromkeys(owners, self.add_wait(owners)))
-        if any(sign in IDLE for sign in self.signs):
+            _, sign, parts = self.subjects[owners[0]]
+            ways = [self.ways_of(part) if sign is Sign.BLOCKED else [AT_REST] * len(part) for part in parts]
+            wait = [*zip(parts, self.graph.add_wait(parts, ways, owners))]
+            self.waits.update(dict.fromkeys(owners, wait))
+        if {*self.signs} & IDLE:
             self.rest_behind_idle()
         self.uncertain = self.outside(self.blocked | self.resting)
         self.certain = (self.blocked | self.resting).difference(self.uncertain)
@@ -54,14 +57,9 @@ class Decision:
         self.left = {node: self.left_of(part) for _, part, node in rows}  # who is left, of the parts of uncertain ones
         over = [node for name, part, node in rows if not is_left(name, part, self.left[node])]
         self.is_left = len(over) < len(rows)
-        self.unlikely = self.outside(self.blocked, self.certain, LEFT, over)
+        self.unlikely = self.outside(self.blocked, self.certain, LEFT, over) if rows else {}
         self.likely = (self.blocked | self.certain).difference(self.unlikely)
         self.freed = self.freed_of(self.blocked - self.certain, FREE)
-
-    def add_wait(self, owners: Sequence[int]) -> List[Tuple[Part, int]]:
-        _, sign, parts = self.subjects[owners[0]]
-        ways = [self.ways_of(part) if sign is Sign.BLOCKED else [AT_REST] * len(part) for part in parts]
-        return [*zip(parts, self.graph.add_wait([*zip(parts, ways)], owners))]
 
     def rest_behind_idle(self) -> None:
         """Has those rest who wait in each part for a named one that is idle, and for none who moves."""
@@ -74,9 +72,9 @@ class Decision:
     def outside(self, waiting: AbstractSet[int], sure: AbstractSet[int] = frozenset(), counts: Counts = EVERYBODY,
                 over: Iterable[int] = ()) -> Reached:
         """Returns who isn't in the greatest set of those that wait and of sure ones, whose parts aren't over."""
-        others = [number for number, subject in enumerate(self.subjects) if number not in waiting
-                  and number not in sure and subject.sign is not Sign.ENDED]
-        return self.graph.reach([self.nobody, *over, *others], waiting - sure, counts)
+        others = sorted({*range(self.nobody)}.difference(waiting, sure))
+        there = (number for number in others if self.signs[number] is not Sign.ENDED)
+        return self.graph.reach([self.nobody, *over, *there], waiting - sure, counts)
 
     def freed_of(self, waiting: AbstractSet[int], counts: Counts) -> Reached:
         moving = [number for number, sign in enumerate(self.signs) if sign in (Sign.GOES_ON, Sign.SLEEPS)]
@@ -105,8 +103,9 @@ class Decision:
 
     def ways_of(self, part: Part) -> Sequence[Way]:
         """Returns in which way each wakers of a part count."""
-        is_beside = len(part) > 1 and self.has_named(part)
-        return [BESIDE if is_beside and wakers.strength is ABLE else wakers.strength for wakers in part]
+        if len(part) == 1 or not self.has_named(part):
+            return [part[0].strength] if len(part) == 1 else [wakers.strength for wakers in part]
+        return [BESIDE if wakers.strength is ABLE else wakers.strength for wakers in part]
 
     def left_of(self, part: Part) -> List[Sequence[str]]:
         """Returns those of each wakers of a part who aren't set aside: one list for all parts that share theirs."""
