@@ -65,7 +65,7 @@ def fetch(host: str, port: int, path: str, most: int, seconds: float) -> bytes:
     except (ValueError, http.client.HTTPException) as error:
         raise OSError(f"{host}:{port} isn't an address: {error}") from error
     answer.thread.join(max(0.0, last - time.monotonic()))
-    if answer.thread.is_alive():
+    if answer.thread.is_alive() or isinstance(answer.fault, socket.timeout):  # (whichever clock is the first)
         answer.leave()
         raise Refused(f"it hasn't answered within {seconds:g} s")
     if answer.fault is not None and not isinstance(answer.fault, OSError):
