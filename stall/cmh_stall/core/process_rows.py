@@ -13,6 +13,7 @@ from .sketch import ALL, ANY, ENDED, UNKNOWN, Process
 from ..systems import all_described, described
 from .words import first_words
 
+NOBODY: List[str] = []  # stands in all rows that name nobody, as there may be very many
 LONG = 20  # names in a list; one that is longer stands once, if several waits have it
 UNSHOWN = frozenset(MAY_HAVE)
 SIGNS = {sign: sign.value for sign in Sign}  # (the property takes longer)
@@ -30,9 +31,20 @@ class SharedLists:
         self.lists = {id(wakers.who): wakers.names() for wakers in found
                       if counts[id(wakers.who)] > 1 and len(wakers.names()) > LONG}
         self.called = {key: hubs.get(key) or f"wakers {number}" for number, key in enumerate(self.lists, 1)}
+        self.rows: Dict[object, Any] = {}  # of waits that are alike, as there may be very many, by what they have
 
     def names(self) -> Dict[str, List[str]]:
         return {self.called[key]: list(names) for key, names in self.lists.items()}
+
+    def wait(self, parts: Sequence[Part]) -> List[List[Tree]]:
+        """Returns the rows of a wait, which those share that are alike."""
+        if len(parts) != 1 or len(parts[0]) != 1 or len(parts[0][0].names()) > LONG:
+            return [[*map(self.row, part)] for part in parts]
+        key = (isinstance(parts[0][0].who, Anybody), *parts[0][0].names()), parts[0][0][1:]
+        if key not in self.rows:
+            self.rows[key] = [[self.row(parts[0][0])]]
+        rows: List[List[Tree]] = self.rows[key]
+        return rows
 
     def row(self, wakers: Wakers) -> Tree:
         """Returns the row of some wakers: their names, null for anybody, or the name of their list."""
@@ -79,7 +91,6 @@ class Rows:
         kind = kinds[index] if self.has_own_kinds or process.kind == ALL else process.kind
         root, end, place = roots.root_of.get(index), self.ends.get(index), process.note or process.operation
         waits_for, waits_for_list, one_of, near, besides = self.whom(index, kind)
-        row = self.shared.row
         return {
             "name": process.name,
             "verdict": verdict,
@@ -92,7 +103,7 @@ class Rows:
             "near": near,
             "besides": besides,
             "may_have": may_have(process.parts),
-            "in_transit_from": self.named(sorted(self.waits.senders[index])) if self.waits.senders[index] else [],
+            "in_transit_from": self.named(sorted(self.waits.senders[index])) if self.waits.senders[index] else NOBODY,
             "site": process.site,
             "thread": process.thread,
             "noun": noun_in(self.found.dump.sketch.system, process.site or "",
@@ -111,18 +122,18 @@ class Rows:
             "goes_on": {ANY: MESSAGE, ALL: COME}.get(kinds[index], RUNNING) if self.waits.is_awake(index) else None,
             "freed_by": None if end is None else self.names[self.found.high.cause[index] or 0],
             "unblocked_by": None if end is None else self.names[end],
-            "wakers": [[row(wakers) for wakers in part] for part in self.wakers[index]],
+            "wakers": self.shared.wait(self.wakers[index]),
         }
 
     def whom(self, index: int, kind: str) -> Tuple[List[str], Optional[str], List[str], Optional[List[str]], List[str]]:
         """Returns for whom a wait is, by names and by the names of lists, who of a list is near, and who is besides."""
         left = self.waits.left[index]
         if not left or len(left) == 1 and left[0] < self.number and kind in (ANY, ALL):
-            return self.named(left), None, [], None, []
+            return self.named(left), None, NOBODY, None, NOBODY
         shared, near = self.waits.list_of(index), self.waits.left_of(index) if kind == ANY else left
         if shared is not None or kind not in (ANY, ALL):
             near_names = None if shared is None or near == left else self.named(self.waits.without_hubs(near))
-            return [], None if shared is None else self.list_name(shared), [], near_names, []
+            return NOBODY, None if shared is None else self.list_name(shared), NOBODY, near_names, NOBODY
         if kind == ALL:
             nodes = dict.fromkeys(node for node in left if node < self.number)
             return self.named([*nodes]), None, [self.list_name(node) for node in left if node >= self.number], None, []
